@@ -1,0 +1,45 @@
+//! The words of the product: names, rows of the 15 monitoring tables, and in `specs/` every definition that a
+//! contract of this repository cites.
+//!
+//! Each table is a list of columns there, each rule of decoding a function or a relation over whole lists of rows,
+//! and each printed line a text. Nothing here reads, searches or prints; the crates above are proved against it.
+//! It rests on `histories` for the words on histories of a sequential machine.
+#![tactic(auto)]
+
+mod check;
+mod code;
+mod fault;
+mod key;
+mod kind;
+mod line;
+mod meaning;
+mod name;
+mod number;
+mod octets;
+mod packet;
+mod plan;
+mod reply;
+mod rows;
+mod shape;
+mod steps;
+mod tables;
+
+pub use check::{Change, Class};
+pub use code::{Code, Input, Misuse};
+pub use fault::{MibCode, MibFault};
+pub use key::Key;
+pub use kind::{KINDS, Kind};
+pub use line::Line;
+pub use meaning::{MadeFor, Rows};
+pub use name::{Name, Text};
+pub use number::{Dec, DecFault, Eng, Over};
+pub use packet::{BadWhy, Ended, Found, Header, Value};
+pub use plan::{PlanName, TypeItem};
+pub use reply::Reply;
+pub use rows::{
+    Bound, CafRow, CapRow, CurRow, LgfRow, McfRow, OcfRow, OcpRow, PcfRow, PicRow, PidRow, PlfRow,
+    Row, TpcfRow, TxfRow, TxpRow, VpdRow,
+};
+pub use shape::{Endian, Order, Shape, Sort};
+pub use steps::Steps;
+pub use tables::Tables;

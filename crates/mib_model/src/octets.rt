@@ -1,0 +1,48 @@
+ghost use Rattle.std.specs.Prelude.{◌≡◌, ◌≤◌, length};
+
+use std::marker::Model;
+
+/// At most `N` octets that lie in the value itself. Contracts see the octets.
+#[derive(Clone, Copy)]
+pub struct Octets<const N: usize> {
+    room: [u8; N],
+    used: usize,
+}
+
+impl<const N: usize> Model for Octets<N> {
+    ghost use Rattle.std.specs.Prelude.{List, ℕ, take, length};
+    ghost use Rattle.mib_model.specs.Padding.{padded, IsPadded, length-padded};
+
+    ghost Value = { List ℕ };
+
+    ghost view = { λ o. take o.used o.room };
+
+    ghost invariant = { λ o. IsPadded N o.room o.used };
+
+    ghost inverse = { λ octets. record { room = padded N octets; used = length octets } };
+
+    ghost inverse_ok = { λ o h i. record { room = h.zeros i; used = length-padded N o.room o.used h i } };
+}
+
+impl<const N: usize> Octets<N> {
+    /// A copy of these octets.
+    pub fn from_slice(octets: &[u8]) -> Self
+        requires { length octets.now ≤ N }
+        ensures { result ≡ octets.now }
+    {
+        let mut room = [0; N];
+        room[..octets.len()].copy_from_slice(octets);
+        Octets {
+            room,
+            used: octets.len(),
+        }
+    }
+
+    /// The octets.
+    pub fn bytes(&self) -> &[u8]
+        ensures bytes { result.now ≡ self.now }
+        ensures fits { length result.now ≤ N }
+    {
+        &self.room[..self.used]
+    }
+}
