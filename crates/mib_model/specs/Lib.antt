@@ -2,6 +2,14 @@ pub mod Padding
 pub mod Names
 pub mod Kinds
 pub mod Keys
-pub mod Database
+pub mod Digits
+pub mod Decimals
 pub mod Encodings
+pub mod Database
+pub mod Parameters
+pub mod Bits
+pub mod Headers
+pub mod Packets
+pub mod Match
+pub mod Fixed
 pub mod Codes
