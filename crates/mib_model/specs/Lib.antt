@@ -2,8 +2,11 @@ pub mod Padding
 pub mod Names
 pub mod Kinds
 pub mod Keys
+pub mod Spaces
 pub mod Digits
 pub mod Decimals
+pub mod WholeNumbers
+pub mod Orders
 pub mod Encodings
 pub mod Database
 pub mod Parameters
@@ -12,4 +15,14 @@ pub mod Headers
 pub mod Packets
 pub mod Match
 pub mod Fixed
+pub mod Kept
+pub mod Calibrated
+pub mod Points
+pub mod Polynomials
+pub mod Curves
+pub mod Checks
+pub mod Alarms
+pub mod Tails
+pub mod RawTexts
+pub mod Texts
 pub mod Codes
