@@ -1,13 +1,12 @@
 -- Octets that begin with a header.
-use Rattle.std.proofs.Common.{◌≡◌, ◌≤◌, ◌<◌, ◌+◌, ◌-◌, ℕ, zero, suc, List, [], ◌++◌, length, take, drop, Option, Some, None, arith, refl, sym, ◌∙◌, ap, length-append, length-take, get_or-take, append-nil}
+use Rattle.std.proofs.Common.{◌≡◌, ◌≤◌, ◌<◌, ◌+◌, ℕ, List, ◌++◌, length, take, Option, Some, None, arith, refl, ◌∙◌, ap, length-append, length-take, get_or-take, append-nil}
 use Rattle.std.proofs.lemmas.List.{get_or_append_left, take_at, take_all}
 use Rattle.std.proofs.lemmas.Slice.{take-put_mid}
 use borrow.Rule.Slice.PartMut.{put_mid}
-use Rattle.std.proofs.KnownBytes.{Consumes-trans}
 use Rattle.std.specs.Io.KnownBytes.{Consumes, IsAtEnd}
 use Rattle.mib_model.specs.Headers.{header_of}
 use Rattle.mib_model.specs.Packets.{IsPacket, BeginsNoPacket}
-use Rattle.packet_feed.specs.Feed.{WasRest, TookRest}
+use Rattle.packet_feed.specs.Feed.{WasRest}
 
 -- the length field stands in the first six octets
 length_field-take : (octets : List ℕ) (n : ℕ) → 6 ≤ n → (header_of (take n octets)).length ≡ (header_of octets).length
@@ -21,10 +20,6 @@ length_field-append head body six =
     let four : 4 < length head = omega arith in
     let five : 5 < length head = omega arith in
     rw (get_or_append_left head body 0 4 four, get_or_append_left head body 0 5 five) refl
-
--- fewer octets than a packet has begin none
-pub few-begin_none : (octets : List ℕ) → length octets < 7 → BeginsNoPacket octets
-few-begin_none octets few n fits packet = omega (arith, packet, length-take n octets)
 
 -- a header and the octets that its length field asks for are a packet, and fewer begin none
 pub whole-is_packet : (head body : List ℕ) → length head ≡ 6 → length body ≡ 1 + (header_of head).length → IsPacket (head ++ body)
@@ -48,12 +43,6 @@ was_rest (Some a) None octets count taken end size some none = absurd taken
 was_rest (Some a) (Some b) octets count taken end size some none =
     let same : a ≡ octets = taken ∙ rw end (append-nil octets) in
     rw same (size, some, none)
-
--- the source ended, and no octet was taken
-pub was_empty : (old new : Option (List ℕ)) (octets : List ℕ) → Consumes old new (take 0 octets) → IsAtEnd new → IsAtEnd old
-was_empty None new octets taken end = tt
-was_empty (Some a) None octets taken end = absurd taken
-was_empty (Some a) (Some b) octets taken end = taken ∙ end
 
 -- the packet that stands at the front of the buffer
 pub take-packet : (head rest body : List ℕ) (size k : ℕ) → length head ≡ 6 → length body + 6 ≡ size

@@ -1,5 +1,5 @@
 -- What a feed gives: packets, then its end or a rest. [CCSDS 133.0-B, packet data length, for the packets.]
-use Rattle.std.specs.Prelude.{◌≡◌, ℕ, ◌<◌, ◌≤◌, List, [], length, take, Option, Some, None, ⊤}
+use Rattle.std.specs.Prelude.{◌≡◌, ℕ, ◌<◌, ◌≤◌, List, length, take, Option, Some, None, ⊤}
 use Rattle.std.specs.Io.KnownBytes.{Consumes, IsAtEnd}
 use Rattle.tm_io.specs.Causes.{Rose}
 use Rattle.mib_model.specs.Packets.{IsPacket, BeginsNoPacket}

@@ -12,3 +12,6 @@ mod next;
 pub use feed::{Feed, PACKET_SIZE, cut_is_unique};
 pub use mib_model::Header;
 pub use next::Next;
+
+#[cfg(test)]
+mod tests;

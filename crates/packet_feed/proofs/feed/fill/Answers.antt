@@ -1,4 +1,4 @@
-use Rattle.std.proofs.Common.{◌+◌, ◌-◌, ◌≡◌, ◌≤◌, length, take, drop, arith, ◌∙◌, refl, ap, length-drop, ◌++◌}
+use Rattle.std.proofs.Common.{◌-◌, ◌≡◌, length, arith, ◌∙◌, refl, ap, length-drop}
 use Rattle.std.proofs.lemmas.List.{take_rest}
 use Rattle.std.proofs.KnownBytes.{Consumes-trans}
 use Rattle.packet_feed.proofs.Filling.{take-filled, length-filled}
