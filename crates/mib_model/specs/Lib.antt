@@ -15,6 +15,7 @@ pub mod Headers
 pub mod Packets
 pub mod Match
 pub mod Fixed
+pub mod Walk
 pub mod Kept
 pub mod Calibrated
 pub mod Points
