@@ -9,6 +9,17 @@ pub mod WholeNumbers
 pub mod Orders
 pub mod Encodings
 pub mod Database
+pub mod Attempts
+pub mod Lines
+pub mod Numbers
+pub mod Columns
+pub mod ParameterTables
+pub mod PacketTables
+pub mod CurveTables
+pub mod Writing
+pub mod RowTexts
+pub mod Reading
+pub mod DatabaseTexts
 pub mod Parameters
 pub mod Bits
 pub mod Headers
