@@ -2,7 +2,6 @@ pub mod Padding
 pub mod Names
 pub mod Kinds
 pub mod Keys
-pub mod Spaces
 pub mod Digits
 pub mod Decimals
 pub mod WholeNumbers
@@ -37,4 +36,6 @@ pub mod Alarms
 pub mod Tails
 pub mod RawTexts
 pub mod Texts
+pub mod Register
+pub mod RegisterHistories
 pub mod Codes
