@@ -36,6 +36,12 @@ pub mod Alarms
 pub mod Tails
 pub mod RawTexts
 pub mod Texts
+pub mod Sameness
+pub mod SameRows
+pub mod Carry
+pub mod Finish
+pub mod Interpreter
 pub mod Register
 pub mod RegisterHistories
+pub mod Output
 pub mod Codes
