@@ -45,3 +45,6 @@ pub mod Register
 pub mod RegisterHistories
 pub mod Output
 pub mod Codes
+pub mod Faults
+pub mod Unbuilt
+pub mod Words
