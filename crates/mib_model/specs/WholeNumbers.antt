@@ -5,7 +5,7 @@ use Rattle.std.specs.List.{list_all}
 use Rattle.mib_model.specs.declared.number.Dec.{Dec}
 use Rattle.mib_model.specs.declared.number.DecFault.{DecFault}
 use Rattle.mib_model.specs.Decimals.{dec_of}
-use Rattle.mib_model.specs.Spaces.{trimmed}
+use Rattle.mib_model.specs.Lines.{trimmed}
 
 -- a raw number: from -2^63 to 2^64 - 1
 abbrev pub least_raw : ℤ

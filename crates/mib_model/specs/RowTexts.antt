@@ -1,0 +1,100 @@
+-- The rows of all tables: read from the fields of a line, keyed, and written. [SCOS-2000 Database Import ICD; this profile.]
+use Rattle.std.specs.Prelude.{ℕ, Bool, false, List, [], ◌∷◌, Result, ◌==◌, ◌||◌}
+use Rattle.mib_model.specs.declared.key.Key.{Key}
+use Rattle.mib_model.specs.declared.key.Key.TheVariants as key
+use Rattle.mib_model.specs.declared.kind.Kind.{Kind}
+use Rattle.mib_model.specs.declared.kind.Kind.TheVariants as kind
+use Rattle.mib_model.specs.declared.line_fault.LineFault.{LineFault}
+use Rattle.mib_model.specs.declared.rows.Row.{Row}
+use Rattle.mib_model.specs.declared.rows.Row.TheVariants as row
+use Rattle.mib_model.specs.Columns.{made_by, key_made_by}
+use Rattle.mib_model.specs.PacketTables.{pid, pid_row, pid_values, pid_key, pic, pic_row, pic_values, pic_key, tpcf, tpcf_row, tpcf_values, tpcf_key, plf, plf_row, plf_values, plf_key, vpd, vpd_row, vpd_values, vpd_key}
+use Rattle.mib_model.specs.CurveTables.{cur, cur_row, cur_values, cur_key, caf, caf_row, caf_values, caf_key, cap, cap_row, cap_values, cap_key, txf, txf_row, txf_values, txf_key, txp, txp_row, txp_values, txp_key, mcf, mcf_row, mcf_values, mcf_key, lgf, lgf_row, lgf_values, lgf_key}
+use Rattle.mib_model.specs.ParameterTables.{pcf, pcf_row, pcf_values, pcf_key, ocf, ocf_row, ocf_values, ocf_key, ocp, ocp_row, ocp_values, ocp_key}
+use Rattle.mib_model.specs.Lines.{field_at, trimmed}
+use Rattle.mib_model.specs.Writing.{line_by}
+
+-- whether a letter of OCP_TYPE is that of a check of states
+abbrev pub is_of_states : ℕ → Bool
+is_of_states letter = (letter == 0x43) || (letter == 0x45)
+
+-- the same of the octets of a field
+abbrev pub names_states : List ℕ → Bool
+names_states (letter ∷ []) = is_of_states letter
+names_states other = false
+
+-- whether the bounds of a line are states, by its third field
+abbrev pub has_states : List (List ℕ) → Bool
+has_states fields = names_states (trimmed (field_at fields 3))
+
+-- the row of a table that the fields of a line are, or the first fault
+unfoldable pub row_of : Kind → List (List ℕ) → Result Row LineFault
+row_of kind.Pcf fields = made_by pcf (λ values. row.Pcf (pcf_row values)) fields
+row_of kind.Pid fields = made_by pid (λ values. row.Pid (pid_row values)) fields
+row_of kind.Pic fields = made_by pic (λ values. row.Pic (pic_row values)) fields
+row_of kind.Tpcf fields = made_by tpcf (λ values. row.Tpcf (tpcf_row values)) fields
+row_of kind.Plf fields = made_by plf (λ values. row.Plf (plf_row values)) fields
+row_of kind.Vpd fields = made_by vpd (λ values. row.Vpd (vpd_row values)) fields
+row_of kind.Cur fields = made_by cur (λ values. row.Cur (cur_row values)) fields
+row_of kind.Caf fields = made_by caf (λ values. row.Caf (caf_row values)) fields
+row_of kind.Cap fields = made_by cap (λ values. row.Cap (cap_row values)) fields
+row_of kind.Txf fields = made_by txf (λ values. row.Txf (txf_row values)) fields
+row_of kind.Txp fields = made_by txp (λ values. row.Txp (txp_row values)) fields
+row_of kind.Mcf fields = made_by mcf (λ values. row.Mcf (mcf_row values)) fields
+row_of kind.Lgf fields = made_by lgf (λ values. row.Lgf (lgf_row values)) fields
+row_of kind.Ocf fields = made_by ocf (λ values. row.Ocf (ocf_row values)) fields
+row_of kind.Ocp fields = made_by (ocp (has_states fields)) (λ values. row.Ocp (ocp_row (has_states fields) values)) fields
+
+-- the key of a table that these fields are, in the order of its columns, or the first fault
+unfoldable pub key_of : Kind → List (List ℕ) → Result Key LineFault
+key_of kind.Pcf fields = key_made_by pcf_key (λ (name, end). key.Pcf name) fields
+key_of kind.Pid fields = key_made_by pid_key (λ (spid, end). key.Pid spid) fields
+key_of kind.Pic fields = key_made_by pic_key (λ (service, (subtype, (apid, end))). key.Pic service subtype apid) fields
+key_of kind.Tpcf fields = key_made_by tpcf_key (λ (spid, end). key.Tpcf spid) fields
+key_of kind.Plf fields = key_made_by plf_key (λ (name, (spid, end)). key.Plf name spid) fields
+key_of kind.Vpd fields = key_made_by vpd_key (λ (tpsd, (place, end)). key.Vpd tpsd place) fields
+key_of kind.Cur fields = key_made_by cur_key (λ (pname, (place, end)). key.Cur pname place) fields
+key_of kind.Caf fields = key_made_by caf_key (λ (numbr, end). key.Caf numbr) fields
+key_of kind.Cap fields = key_made_by cap_key (λ (numbr, (xvals, end)). key.Cap numbr xvals) fields
+key_of kind.Txf fields = key_made_by txf_key (λ (numbr, end). key.Txf numbr) fields
+key_of kind.Txp fields = key_made_by txp_key (λ (numbr, (low, end)). key.Txp numbr low) fields
+key_of kind.Mcf fields = key_made_by mcf_key (λ (ident, end). key.Mcf ident) fields
+key_of kind.Lgf fields = key_made_by lgf_key (λ (ident, end). key.Lgf ident) fields
+key_of kind.Ocf fields = key_made_by ocf_key (λ (name, end). key.Ocf name) fields
+key_of kind.Ocp fields = key_made_by ocp_key (λ (name, (place, end)). key.Ocp name place) fields
+
+-- the line of a row
+unfoldable pub line_of : Row → List ℕ
+line_of (row.Pcf r) = line_by pcf (pcf_values r)
+line_of (row.Pid r) = line_by pid (pid_values r)
+line_of (row.Pic r) = line_by pic (pic_values r)
+line_of (row.Tpcf r) = line_by tpcf (tpcf_values r)
+line_of (row.Plf r) = line_by plf (plf_values r)
+line_of (row.Vpd r) = line_by vpd (vpd_values r)
+line_of (row.Cur r) = line_by cur (cur_values r)
+line_of (row.Caf r) = line_by caf (caf_values r)
+line_of (row.Cap r) = line_by cap (cap_values r)
+line_of (row.Txf r) = line_by txf (txf_values r)
+line_of (row.Txp r) = line_by txp (txp_values r)
+line_of (row.Mcf r) = line_by mcf (mcf_values r)
+line_of (row.Lgf r) = line_by lgf (lgf_values r)
+line_of (row.Ocf r) = line_by ocf (ocf_values r)
+line_of (row.Ocp r) = line_by (ocp (is_of_states r.sort)) (ocp_values (is_of_states r.sort) r)
+
+-- the table of a row
+abbrev pub kind_in : Row → Kind
+kind_in (row.Pcf r) = kind.Pcf
+kind_in (row.Pid r) = kind.Pid
+kind_in (row.Pic r) = kind.Pic
+kind_in (row.Tpcf r) = kind.Tpcf
+kind_in (row.Plf r) = kind.Plf
+kind_in (row.Vpd r) = kind.Vpd
+kind_in (row.Cur r) = kind.Cur
+kind_in (row.Caf r) = kind.Caf
+kind_in (row.Cap r) = kind.Cap
+kind_in (row.Txf r) = kind.Txf
+kind_in (row.Txp r) = kind.Txp
+kind_in (row.Mcf r) = kind.Mcf
+kind_in (row.Lgf r) = kind.Lgf
+kind_in (row.Ocf r) = kind.Ocf
+kind_in (row.Ocp r) = kind.Ocp
