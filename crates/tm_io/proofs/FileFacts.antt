@@ -1,5 +1,5 @@
 -- Files in memory: what is found by name, and what a change of one file leaves.
-use Rattle.std.proofs.Common.{◌≡◌, ◌<◌, ◌≤◌, ◌+◌, ◌-◌, ℕ, zero, suc, Bool, true, false, List, [], ◌∷◌, ◌++◌, Option, Some, None, ap, sym, refl, ◌∙◌, get_or, set, drop, take, length, cond, arith, if◌then◌else◌, string_bytes, drop-cons}
+use Rattle.std.proofs.Common.{◌≡◌, ◌<◌, ◌≤◌, ◌+◌, ℕ, zero, suc, true, List, [], ◌∷◌, ◌++◌, Option, Some, ap, sym, refl, ◌∙◌, get_or, set, drop, take, length, arith, if◌then◌else◌, string_bytes, drop-cons}
 use Rattle.std.proofs.lemmas.List.{take-append-drop, drop-drop, at_drop_all}
 use Rattle.std.specs.Str.{bytes_eq}
 use Rattle.tm_io.specs.Files.{file_of, fails_of, fails_at, octets_at}

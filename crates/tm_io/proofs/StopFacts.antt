@@ -1,6 +1,5 @@
 -- Taking out a position that is no stop.
-use Rattle.std.proofs.Common.{◌≡◌, ◌==◌, ◌||◌, not, ℕ, Bool, true, false, List, [], ◌∷◌, refl, arith}
-use Rattle.std.specs.List.{filter, list_any}
+use Rattle.std.proofs.Common.{◌≡◌, ℕ, false, List, [], ◌∷◌, refl, arith}
 use Rattle.tm_io.specs.Stops.{is_stop, without}
 
 pub without_none : (stops : List ℕ) (at : ℕ) → is_stop stops at ≡ false → without stops at ≡ stops

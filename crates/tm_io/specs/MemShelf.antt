@@ -1,5 +1,5 @@
 -- What a shelf in memory shows beyond the meanings of every shelf.
-use Rattle.std.specs.Prelude.{◌≡◌, ℕ, zero, suc, ◌≤◌, ◌+◌, List, Option, None, Some, Result, MatchResult, OnOk, OnErr, IfOk}
+use Rattle.std.specs.Prelude.{◌≡◌, ℕ, zero, suc, ◌≤◌, ◌+◌, List, Option, None, Some, Result, MatchResult, IfOk}
 use Rattle.tm_io.specs.Files.{stops_of}
 use Rattle.tm_io.specs.Stops.{StopsBefore, without}
 use Rattle.tm_io.specs.declared.mem_shelf.MemShelf.{MemShelf}

@@ -1,6 +1,6 @@
 -- What a sink in memory shows beyond the meanings of every sink.
-use Rattle.std.specs.Prelude.{◌≡◌, ℕ, ◌≤◌, ◌+◌, ◌==◌, ◌||◌, ◌&&◌, not, Bool, true, List, length, Result, MatchResult, IfOk, vec_len}
-use Rattle.tm_io.specs.Stops.{is_stop, StopsBefore, without}
+use Rattle.std.specs.Prelude.{◌≡◌, ℕ, ◌≤◌, ◌+◌, Bool, true, List, Result, MatchResult, IfOk, vec_len}
+use Rattle.tm_io.specs.Stops.{StopsBefore, without}
 use Rattle.tm_io.specs.declared.mem_sink.MemSink.{MemSink}
 
 -- how many octets it holds

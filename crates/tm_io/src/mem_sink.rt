@@ -65,7 +65,7 @@ impl MemSink {
 }
 
 impl Sink for MemSink {
-    ghost use Rattle.tm_io.specs.MemSink.{position, stops, fails_flush, Writes};
+    ghost use Rattle.tm_io.specs.MemSink.{position, stops, most_of, fails_flush, Writes};
 
     ghost written = { λ s. Some s.bytes.items };
 
@@ -100,7 +100,16 @@ impl Sink for MemSink {
         Ok(count)
     }
 
-    fn flush(&mut self) -> Result<(), Failed> {
+    fn flush(&mut self) -> Result<(), Failed>
+        ensures bytes { ⟦<MemSink as Sink>⟧.written self.new ≡ ⟦<MemSink as Sink>⟧.written self.old }
+        ensures cause { HasCause (⟦<MemSink as Sink>⟧.faults self.old) (⟦<MemSink as Sink>⟧.faults self.new) result }
+        ensures borrow { ⟦<MemSink as Sink>⟧.borrow self.new ≡ ⟦<MemSink as Sink>⟧.borrow self.old }
+
+        // It fails once where it was asked to.
+        ensures fails { is_err result ≡ fails_flush self.old }
+        ensures once { fails_flush self.new ≡ false }
+        ensures kept { (stops self.new ≡ stops self.old) × (most_of self.new ≡ most_of self.old) }
+    {
         if self.fails_flush {
             self.fails_flush = false;
             self.faults = self.faults.saturating_add(1);

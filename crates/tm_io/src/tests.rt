@@ -90,7 +90,11 @@ fn a_sink_in_memory_takes_pieces_and_fails_once_at_each_position(
     assert_eq!(rt; write_all(&mut &mut sink, b"efg"), Ok(()));
     assert_eq!(rt; sink.bytes(), b"abcdefg".as_slice());
     sink.fail_flush();
-    assert_eq!(rt; sink.flush(), Err(Failed));
+    assert_eq!(rt;
+        (&mut &mut sink).flush(),
+        Err(Failed),
+        "a flush through a reference"
+    );
     assert_eq!(rt; sink.flush(), Ok(()));
     Ok(())
 }
