@@ -1,0 +1,9 @@
+//! The monitoring half of a spacecraft control system: tables and a feed of packets in, decoded values out.
+#![tactic(auto)]
+
+mod bits;
+mod kinds;
+mod text;
+mod values;
+
+fn main() {}
