@@ -1,0 +1,4 @@
+pub mod ListFacts
+pub mod ReadingSteps
+pub mod PlaceSteps
+pub mod RowSteps

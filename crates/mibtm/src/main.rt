@@ -3,6 +3,7 @@
 
 mod bits;
 mod kinds;
+mod record;
 mod text;
 mod values;
 
