@@ -4,6 +4,7 @@
 mod bits;
 mod kinds;
 mod record;
+mod run;
 mod text;
 mod values;
 

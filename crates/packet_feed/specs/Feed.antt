@@ -3,8 +3,13 @@ use Rattle.std.specs.Prelude.{◌≡◌, ℕ, ◌<◌, ◌≤◌, List, length, 
 use Rattle.std.specs.Io.KnownBytes.{Consumes, IsAtEnd}
 use Rattle.tm_io.specs.Causes.{Rose}
 use Rattle.mib_model.specs.Packets.{IsPacket, BeginsNoPacket}
+use Rattle.packet_feed.specs.declared.feed.Feed.{Feed}
 use Rattle.packet_feed.specs.declared.next.Next.{Next}
 use Rattle.packet_feed.specs.declared.next.Next.TheVariants as next
+
+-- the source of a feed
+abbrev pub source_of : {S : Type 0} → Feed S → S
+source_of feed = feed.source
 
 -- of the octets that are told, so many were left, at least one, and they begin no packet
 abbrev pub WasRest : Option (List ℕ) → ℕ → Type 0
