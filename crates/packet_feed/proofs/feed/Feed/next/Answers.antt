@@ -1,7 +1,7 @@
 use Rattle.std.proofs.Common.{◌+◌, ◌-◌, ◌≡◌, ◌≤◌, ◌<◌, ◌++◌, ◌∙◌, ℕ, List, length, take, drop, arith, ap, length-take, length-drop, length-append}
 use Rattle.std.proofs.KnownBytes.{Consumes-trans}
 use Rattle.mib_model.specs.Headers.{header_of}
-use Rattle.packet_feed.proofs.Cutting.{whole-is_packet, part-begins_none, taken_whole, was_rest, take-packet, packet_fits}
+use Rattle.packet_feed.proofs.Cutting.{whole-is_packet, part-begins_none, taken_whole, take-packet, packet_fits}
 use borrow.Rule.Slice.PartMut.{put_mid}
 use Rattle.packet_feed.proofs.feed.Feed.next.Goals as goal
 
@@ -30,10 +30,12 @@ returns-then-body-size-clause-gives g c =
     let body = take c.in-Ok-fill.body c.fill-2.new.buf in
     let room = body_size c.copy_from_slice.new.self c.args.into.now c.fill-2.new.buf c.packet_size-size.result (ap length c.copy_from_slice.ensures.after ∙ c.fill.auto.buf) c.requires c.packet_size-size.ensures.fits c.fill-2.auto.buf in
     let size : length body ≡ c.in-Ok-fill.body = omega (arith, length-take c.in-Ok-fill.body c.fill-2.new.buf, c.in-Ok-fill.ensures.fits) in
-    let first = taken_whole _ _ head c.in-Ok.front (omega arith) c.in-Ok.ensures.octets in
-    (
-      was_rest _ _ (head ++ body) _ (Consumes-trans _ _ _ head body first c.in-Ok-fill.ensures.octets) (c.in-Ok-fill.ensures.end (omega (arith, room)))
-          (omega (arith, length-append head body)) (omega arith) (part-begins_none head body six (omega (arith, size, field))),
+    let first = taken_whole _ _ head c.in-Ok.front (omega arith) c.in-Ok.ensures.octets in (
+      head ++ body,
+      omega (arith, length-append head body),
+      omega arith,
+      part-begins_none head body six (omega (arith, size, field)),
+      Consumes-trans _ _ _ head body first c.in-Ok-fill.ensures.octets,
       c.in-Ok-fill.ensures.end (omega (arith, room)),
     )
 
