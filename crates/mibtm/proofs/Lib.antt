@@ -5,3 +5,4 @@ pub mod RowSteps
 pub mod PlainReadings
 pub mod PlainValues
 pub mod PlainRecords
+pub mod RunSteps

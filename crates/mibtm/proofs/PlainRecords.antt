@@ -122,3 +122,7 @@ plain_records-push db number (p ∷ packets) packet =
     let same : number + 1 + length packets ≡ number + suc (length packets) = omega arith in
     ap (λ t. plain_record db number p ++ t) (plain_records-push db (number + 1) packets packet ∙ ap (λ n. plain_records db (number + 1) packets ++ plain_record db n packet) same)
     ∙ sym (append_assoc (plain_record db number p) (plain_records db (number + 1) packets) (plain_record db (number + suc (length packets)) packet))
+
+pub plain_records-nil : (db : Database) (number : ℕ) → plain_records db number [] ≡ []
+unfolding plain_records
+plain_records-nil db number = refl
