@@ -43,6 +43,8 @@ pub mod Finish
 pub mod Interpreter
 pub mod Register
 pub mod RegisterHistories
+pub mod Plans
+pub mod Touched
 pub mod Output
 pub mod Codes
 pub mod Faults
