@@ -36,6 +36,11 @@ pub mod Alarms
 pub mod Tails
 pub mod RawTexts
 pub mod Texts
+pub mod Flaws
+pub mod References
+pub mod RowFlaws
+pub mod GroupFlaws
+pub mod Soundness
 pub mod Sameness
 pub mod SameRows
 pub mod Carry
