@@ -50,8 +50,14 @@ pub mod Register
 pub mod RegisterHistories
 pub mod Plans
 pub mod Touched
+pub mod Script
+pub mod DeskLines
+pub mod Drafts
+pub mod Desk
+pub mod DeskRuns
 pub mod Output
 pub mod Codes
 pub mod Faults
+pub mod Replies
 pub mod Unbuilt
 pub mod Words
