@@ -7,7 +7,7 @@ use Rattle.std.proofs.lemmas.List.Elements.{filter-append}
 use mathlib.Core.Logic.{dite}
 use native.Mathlib.Decide.{ℕ_discrete}
 use Rattle.histories.specs.declared.history.Move.{Move}
-use Rattle.histories.specs.History.{moves_of}
+use Rattle.histories.specs.History.{move, moves_of}
 use Rattle.turn_cell.specs.declared.view.Holding.{Holding}
 use Rattle.turn_cell.specs.Views.{bit, holding, holdings_below, times, least, listed, AreListed, with_move, is_handed, handed, kept}
 
@@ -89,6 +89,27 @@ module _ {E A : Type 0} where
   pub length-with_move : (m : Move E A) (hs : List (Holding E A)) → length (with_move m hs) ≡ length hs
   length-with_move m [] = refl
   length-with_move m (h ∷ hs) = omega (arith, length-with_move m hs)
+
+  pub least-with_move : (m : Move E A) (hs : List (Holding E A)) → least (with_move m hs) ≡ least hs
+  least-with_move m [] = refl
+  least-with_move m (h ∷ []) = refl
+  least-with_move m (h ∷ k ∷ ks) = ap (min h.number) (least-with_move m (k ∷ ks))
+
+  pub listed-with_move : (m : Move E A) (hs : List (Holding E A)) → times m.seat hs ≢ 0 → listed m.seat (with_move m hs) ≡ listed m.seat hs ++ m ∷ []
+  listed-with_move m [] some_m = absurd (some_m refl)
+  listed-with_move m (h ∷ hs) some_m =
+      let after : Bool → List (Move E A) = λ b. cond b (cond b (h.moves ++ m ∷ []) h.moves) (listed m.seat (with_move m hs)) in
+      let before : Bool → List (Move E A) = λ b. cond b h.moves (listed m.seat hs) ++ m ∷ [] in
+      dite (ℕ_discrete h.number m.seat)
+        (λ is. let e = eq-eqb h.number m.seat is in ap after e ∙ sym (ap before e))
+        (λ other. let e = ne_eqb h.number m.seat other in
+            ap after e ∙ listed-with_move m hs (λ none. some_m (times-cons_other m.seat h hs other ∙ none)) ∙ sym (ap before e))
+
+  -- the list of the least number after one more move under it
+  pub own-with_move : (hs ks : List (Holding E A)) (event : E) (answer : A) → 1 ≤ length hs → ks ≡ with_move (move (least hs) event answer) hs → listed (least ks) ks ≡ listed (least hs) hs ++ move (least hs) event answer ∷ []
+  own-with_move hs ks event answer some_number is =
+      let m : Move E A = move (least hs) event answer in
+      ap (λ l. listed (least l) l) is ∙ ap (λ n. listed n (with_move m hs)) (least-with_move m hs) ∙ listed-with_move m hs (least_held hs some_number)
 
   pub AreListed-append : (log : List (Move E A)) (hs ks : List (Holding E A)) → AreListed log hs → AreListed log ks → AreListed log (hs ++ ks)
   AreListed-append log [] ks all more = more

@@ -1,5 +1,5 @@
 -- What contracts say of a turn and of its seats. [This project's own.]
-use Rattle.std.specs.Prelude.{◌≡◌, ◌≢◌, ℕ, true, false, ◌<◌, List, [], ◌∷◌, Some}
+use Rattle.std.specs.Prelude.{◌≡◌, ◌≢◌, ℕ, true, false, ◌<◌, ◌≤◌, List, [], ◌∷◌, length, Some}
 use Rattle.atomic_table.specs.declared.shared.Seat.{Seat}
 use Rattle.histories.specs.declared.history.Move.{Move}
 use Rattle.turn_cell.specs.declared.rule.About.{About}
@@ -49,9 +49,9 @@ module _ {P C E A : Type 0} where
   IsSeatOf mean turn seat = (seat.table_id ≡ turn.table.shared.table_id) × (seat.me.0.opening ≡ Some (mean (first_state turn)))
 
 module _ {S N C E A : Type 0} where
-  -- the seat has the turn, and has made no entry in it
+  -- the seat has the turn under one of its numbers, and has made no entry in it
   abbrev pub HasTurn : Seat (Slot S N) (View C E A) → Type 0
-  HasTurn seat = (has_turn seat.me.0.standing ≡ true) × (has_entered seat.me.0.standing ≡ false) × (seat.me.1 ≡ (0, Out) ∷ [])
+  HasTurn seat = (has_turn seat.me.0.standing ≡ true) × (has_entered seat.me.0.standing ≡ false) × (seat.me.1 ≡ (0, Out) ∷ []) × (1 ≤ length seat.me.0.holdings)
 
   -- the seat has the turn, and has made its entry
   abbrev pub HasEntered : Seat (Slot S N) (View C E A) → Type 0

@@ -10,6 +10,8 @@
 mod machine;
 mod rule;
 mod slot;
+#[cfg(test)]
+mod tests;
 mod turn;
 mod view;
 

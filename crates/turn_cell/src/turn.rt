@@ -1,5 +1,5 @@
 //! The lock, its seats, and the calls that wait for nobody but `enter`.
-ghost use Rattle.std.specs.Prelude.{◌≡◌, ◌⊎◌, ◌<◌, ◌≤◌, [], ◌∷◌, ◌++◌, length, IfOk};
+ghost use Rattle.std.specs.Prelude.{◌≡◌, ◌⊎◌, ◌^◌, ◌<◌, ◌≤◌, [], ◌∷◌, ◌++◌, length, IfOk};
 ghost use Rattle.histories.specs.History.{move, moves_of, IsLegal, IsOfSeatsBelow, Permits, StartsWith, state_after};
 ghost use Rattle.turn_cell.specs.Views.{AreListed, handed, holdings_below, kept, with_move};
 
@@ -150,7 +150,7 @@ impl<S: Machine + Drop> Turn<S> {
         requires seat { IsSeatOf S.state self.now seat.old }
         requires idle { IsIdle seat.old }
         requires number { 1 ≤ length (holdings_of seat.old) }
-        requires room { length (own_moves seat.old) < 4294967296 }
+        requires room { length (own_moves seat.old) < 2 ^ 32 }
         ensures seat { IsSeatOf S.state self.now seat.new }
         ensures turn { HasTurn seat.new }
         ensures numbers { holdings_of seat.new ≡ holdings_of seat.old }
@@ -201,6 +201,8 @@ impl<S: Machine + Drop> Turn<S> {
         ensures reply { S.answer result ≡ S.reply (state_after S.after (S.state (first_state self.now)) (seen_by seat.old)) (S.event entry) }
         ensures seen { seen_by seat.new ≡ seen_by seat.old ++ move (number_of seat.old) (S.event entry) (S.answer result) ∷ [] }
         ensures numbers { holdings_of seat.new ≡ with_move (move (number_of seat.old) (S.event entry) (S.answer result)) (holdings_of seat.old) }
+        ensures number { number_of seat.new ≡ number_of seat.old }
+        ensures own { own_moves seat.new ≡ own_moves seat.old ++ move (number_of seat.old) (S.event entry) (S.answer result) ∷ [] }
         ensures state { S.state held.new ≡ state_after S.after (S.state (first_state self.now)) (seen_by seat.new) }
     {
         let note = Snapshot::of(&entry);

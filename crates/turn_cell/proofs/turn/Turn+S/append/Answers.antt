@@ -1,9 +1,11 @@
-use Rattle.std.proofs.Common.{rules, sym, ap, subst, ◌∙◌, ◌<◌, List, ◌∷◌, arith}
+use Rattle.std.proofs.Common.{rules, ◌≡◌, sym, ap, subst, ◌∙◌, ◌<◌, List, ◌∷◌, arith}
 use Rattle.atomic_table.specs.Table.{rest}
+use Rattle.histories.specs.declared.history.Move.{Move}
 use Rattle.histories.specs.History.{move}
 use Rattle.turn_cell.specs.declared.slot.Slot.TheVariants.{Noted}
 use Rattle.turn_cell.specs.declared.view.Holding.{Holding}
-use Rattle.turn_cell.specs.Views.{has_entered, has_turn, least}
+use Rattle.turn_cell.specs.Views.{has_entered, has_turn, least, with_move}
+use Rattle.turn_cell.proofs.Holdings.{least-with_move, own-with_move}
 use Rattle.turn_cell.proofs.Steps.{makes, state_after-move}
 use Rattle.turn_cell.proofs.turn.Turn+S.append.Goals as goal
 
@@ -27,3 +29,13 @@ returns-clause-state g c =
     let v = c.args.seat.now.me.0 in let event = g.S.Machine.event c.args.entry in
     state_after-move g.S.Machine.after (g.S.Machine.state c.args.self.now.table.shared.key.state.value) _ v.seen c.fetch_add.new.seat.me.0.seen (move (least v.holdings) event (g.S.Machine.answer c.act-reply.result)) (search rules)
       (c.act-reply.ensures.after ∙ ap (λ d. g.S.Machine.after d event) (ap g.S.Machine.state c.held.view_is ∙ c.requires.state))
+
+pub returns-clause-number : goal.returns-clause-number
+returns-clause-number g c =
+    let old = c.args.seat.now.me.0.holdings in let m : Move _ _ = move (least old) (g.S.Machine.event c.args.entry) (g.S.Machine.answer c.act-reply.result) in
+    let is : c.fetch_add.new.seat.me.0.holdings ≡ with_move m old = search rules in
+    ap least is ∙ least-with_move m old
+
+pub returns-clause-own : goal.returns-clause-own
+returns-clause-own g c =
+    own-with_move c.args.seat.now.me.0.holdings c.fetch_add.new.seat.me.0.holdings (g.S.Machine.event c.args.entry) (g.S.Machine.answer c.act-reply.result) c.requires.turn.3 (search rules)
