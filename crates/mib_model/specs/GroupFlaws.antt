@@ -47,8 +47,8 @@ needs_number r = is_yes r.choice || is_yes r.pidref || (has_group r && (r.fixrep
 -- the place of a row in its structure, from 0: by POS, and of equal ones by the file
 abbrev pub place_of : Database → List VpdRow → VpdRow → ℕ
 place_of db earlier r =
-    length (filter (λ o. (o.tpsd == r.tpsd) && nat_lt o.pos r.pos) db.vpd) +
-    length (filter (λ o. (o.tpsd == r.tpsd) && (o.pos == r.pos)) earlier)
+    length (filter (λ o. (r.tpsd == o.tpsd) && nat_lt o.pos r.pos) db.vpd) +
+    length (filter (λ o. (r.tpsd == o.tpsd) && (r.pos == o.pos)) earlier)
 
 -- a group of so many rows behind a place passes the end of a group in which the place stands
 abbrev pub passes_group : ℕ → ℕ → ℕ × VpdRow → Bool
