@@ -1,39 +1,8 @@
 -- A monitoring database: its 15 tables, each a list of rows in the order of its file.
 -- [SCOS-2000 Database Import ICD, monitoring tables.]
-use Rattle.std.specs.Prelude.{List, []}
-use Rattle.mib_model.specs.declared.rows.PcfRow.{PcfRow}
-use Rattle.mib_model.specs.declared.rows.PidRow.{PidRow}
-use Rattle.mib_model.specs.declared.rows.PicRow.{PicRow}
-use Rattle.mib_model.specs.declared.rows.TpcfRow.{TpcfRow}
-use Rattle.mib_model.specs.declared.rows.PlfRow.{PlfRow}
-use Rattle.mib_model.specs.declared.rows.VpdRow.{VpdRow}
-use Rattle.mib_model.specs.declared.rows.CurRow.{CurRow}
-use Rattle.mib_model.specs.declared.rows.CafRow.{CafRow}
-use Rattle.mib_model.specs.declared.rows.CapRow.{CapRow}
-use Rattle.mib_model.specs.declared.rows.TxfRow.{TxfRow}
-use Rattle.mib_model.specs.declared.rows.TxpRow.{TxpRow}
-use Rattle.mib_model.specs.declared.rows.McfRow.{McfRow}
-use Rattle.mib_model.specs.declared.rows.LgfRow.{LgfRow}
-use Rattle.mib_model.specs.declared.rows.OcfRow.{OcfRow}
-use Rattle.mib_model.specs.declared.rows.OcpRow.{OcpRow}
+use Rattle.std.specs.Prelude.{[]}
 use Rattle.mib_model.specs.declared.tables.Tables.{Tables}
-
-pub record Database : Type 0 where
-  pub pcf : List PcfRow
-  pub pid : List PidRow
-  pub pic : List PicRow
-  pub tpcf : List TpcfRow
-  pub plf : List PlfRow
-  pub vpd : List VpdRow
-  pub cur : List CurRow
-  pub caf : List CafRow
-  pub cap : List CapRow
-  pub txf : List TxfRow
-  pub txp : List TxpRow
-  pub mcf : List McfRow
-  pub lgf : List LgfRow
-  pub ocf : List OcfRow
-  pub ocp : List OcpRow
+pub use Rattle.mib_model.specs.declared.database.Database.{Database}
 
 -- the database that tables in memory are
 abbrev pub database_of : Tables → Database

@@ -4,6 +4,8 @@ pub mod Kinds
 pub mod Keys
 pub mod Digits
 pub mod Decimals
+pub mod WholeNumbers
+pub mod Orders
 pub mod Encodings
 pub mod Database
 pub mod Attempts
@@ -23,4 +25,17 @@ pub mod Headers
 pub mod Packets
 pub mod Match
 pub mod Fixed
+pub mod Walk
+pub mod Kept
+pub mod Calibrated
+pub mod Points
+pub mod Polynomials
+pub mod Curves
+pub mod Checks
+pub mod Alarms
+pub mod Tails
+pub mod RawTexts
+pub mod Texts
+pub mod Register
+pub mod RegisterHistories
 pub mod Codes

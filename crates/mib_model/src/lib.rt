@@ -8,6 +8,7 @@
 
 mod check;
 mod code;
+mod database;
 mod fault;
 mod key;
 mod kind;
@@ -19,6 +20,7 @@ mod number;
 mod octets;
 mod packet;
 mod plan;
+mod register;
 mod reply;
 mod rows;
 mod shape;
@@ -27,6 +29,7 @@ mod tables;
 
 pub use check::{Change, Class};
 pub use code::{Code, Input, Misuse};
+pub use database::Database;
 pub use fault::{MibCode, MibFault};
 pub use key::Key;
 pub use kind::{KINDS, Kind};
@@ -37,6 +40,7 @@ pub use name::{Name, Text};
 pub use number::{Dec, DecFault, Eng, Over};
 pub use packet::{BadWhy, Ended, Found, Header, Value};
 pub use plan::{PlanName, TypeItem};
+pub use register::{Answer, Entry, Intake, Scheduled};
 pub use reply::Reply;
 pub use rows::{
     Bound, CafRow, CapRow, CurRow, LgfRow, McfRow, OcfRow, OcpRow, PcfRow, PicRow, PidRow, PlfRow,

@@ -1,0 +1,96 @@
+-- How a sample stands to the checks of its parameter. [SCOS-2000 Database Import ICD, ocf and ocp; the order of the classes and the
+-- rules of a violation are this profile's.]
+use Rattle.std.specs.Prelude.{ℕ, ℤ, ◌-ℤ◌, int_lt, Bool, true, false, List, Option, Some, None, ◌==◌, ◌&&◌, ◌||◌, not, if◌then◌else◌, filter, Result, Ok, Err}
+use Rattle.std.specs.List.{list_any}
+use Rattle.std.specs.Ordering.{int_eq}
+use Rattle.std.specs.Str.{bytes_eq}
+use Rattle.mib_model.specs.declared.check.Class.{Class}
+use Rattle.mib_model.specs.declared.check.Class.TheVariants.{Nominal, Hard, Status, Delta, Soft}
+use Rattle.mib_model.specs.declared.number.Dec.{Dec}
+use Rattle.mib_model.specs.declared.number.DecFault.{DecFault}
+use Rattle.mib_model.specs.declared.rows.Bound.{Bound}
+use Rattle.mib_model.specs.declared.rows.Bound.TheVariants as bound
+use Rattle.mib_model.specs.declared.rows.OcpRow.{OcpRow}
+use Rattle.mib_model.specs.Database.{Database}
+use Rattle.mib_model.specs.Decimals.{count_of, dec_of}
+use Rattle.mib_model.specs.Kept.{Memory, holds}
+use Rattle.mib_model.specs.Orders.{sorted_by_number}
+
+-- what is checked: a count of 10^-12, or a status text
+pub data Sample : Type 0 where
+  Numbered : (count : ℤ) → Sample
+  Worded : (text : List ℕ) → Sample
+
+-- the kinds of a check by its letter: `H`, `S`, `D`, `C`
+abbrev pub is_hard : OcpRow → Bool
+is_hard row = row.sort == 72
+
+abbrev pub is_soft : OcpRow → Bool
+is_soft row = row.sort == 83
+
+abbrev pub is_delta : OcpRow → Bool
+is_delta row = row.sort == 68
+
+abbrev pub is_status : OcpRow → Bool
+is_status row = row.sort == 67
+
+-- the checks of a parameter, by POS
+unfoldable pub checks_of : Database → List ℕ → List OcpRow
+checks_of db name = sorted_by_number (λ row. row.pos) (filter (λ row. bytes_eq row.name name) db.ocp)
+
+-- a check with no condition, or whose condition holds
+abbrev pub is_met : Memory → Option (List ℕ) → ℤ → Bool
+is_met memory None number = true
+is_met memory (Some name) number = holds memory name number
+
+abbrev pub applies : Memory → OcpRow → Bool
+applies memory row = is_met memory row.rlchk row.valpar
+
+-- a count below or above a bound; a bound that is empty or a text doesn't bind
+abbrev pub is_below : Bound → ℤ → Bool
+is_below (bound.Number d) count = int_lt count (count_of d)
+is_below other count = false
+
+abbrev pub is_above : Bound → ℤ → Bool
+is_above (bound.Number d) count = int_lt (count_of d) count
+is_above other count = false
+
+abbrev pub is_out : OcpRow → ℤ → Bool
+is_out row count = is_below row.lvalu count || is_above row.hvalu count
+
+-- a limit is violated by a number out of its bounds, and by no text
+abbrev pub violates_limit : Sample → OcpRow → Bool
+violates_limit (Numbered count) row = is_out row count
+violates_limit (Worded text) row = false
+
+-- a delta is violated by a number that is too far from the one before, if there was one
+abbrev pub is_out_from : Option ℤ → ℤ → OcpRow → Bool
+is_out_from None count row = false
+is_out_from (Some previous) count row = is_out row (count -ℤ previous)
+
+abbrev pub violates_delta : Option ℤ → Sample → OcpRow → Bool
+violates_delta previous (Numbered count) row = is_out_from previous count row
+violates_delta previous (Worded text) row = false
+
+-- a number agrees with a text that reads as a decimal of the same count
+abbrev pub is_count_of : ℤ → Result Dec DecFault → Bool
+is_count_of count (Ok d) = int_eq count (count_of d)
+is_count_of count (Err fault) = false
+
+abbrev pub agrees_with : Sample → Bound → Bool
+agrees_with (Numbered count) (bound.Words text) = is_count_of count (dec_of text)
+agrees_with (Worded words) (bound.Words text) = bytes_eq words text
+agrees_with sample other = false
+
+-- the class of a sample by the checks that apply
+abbrev pub class_by : List OcpRow → Sample → Option ℤ → Class
+class_by rows sample previous =
+    if list_any (λ row. is_hard row && violates_limit sample row) rows then Hard
+    else if list_any is_status rows && not (list_any (λ row. is_status row && agrees_with sample row.lvalu) rows) then Status
+    else if list_any (λ row. is_delta row && violates_delta previous sample row) rows then Delta
+    else if list_any (λ row. is_soft row && violates_limit sample row) rows then Soft
+    else Nominal
+
+-- the class of a sample, by the checks of its parameter, the number before and the conditions
+unfoldable pub class_of : List OcpRow → Sample → Option ℤ → Memory → Class
+class_of rows sample previous memory = class_by (filter (applies memory) rows) sample previous
