@@ -6,6 +6,12 @@ ghost use Rattle.mib_model.specs.Columns.{value_of, fault_in, Must, Optional, Fi
 use crate::forms::{capital, code, number, trim};
 use mib_model::{LineFault, MibCode, Name, Text};
 
+/// The least number of the form `int`, -2^63.
+pub const INT_MIN: i128 = -9_223_372_036_854_775_808;
+
+/// The greatest number of the form `int`, 2^64 - 1.
+pub const INT_MAX: i128 = 18_446_744_073_709_551_615;
+
 pub fn fault(column: u8, code: MibCode) -> LineFault
     ensures { result ≡ fault_in column code }
 {

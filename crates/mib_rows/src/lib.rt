@@ -4,10 +4,12 @@
 //! out; what is written is read again as the same row. Lines are cut by `csv`, numbers are printed by `itoa`.
 #![tactic(auto)]
 
+mod curves;
 mod field;
 mod fields;
 mod forms;
 mod packets;
+mod parameters;
 mod read_fault;
 
 pub use read_fault::ReadFault;
