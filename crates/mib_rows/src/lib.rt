@@ -8,8 +8,13 @@ mod curves;
 mod field;
 mod fields;
 mod forms;
+mod lines;
 mod packets;
 mod parameters;
 mod read_fault;
+mod row;
+mod rows;
+mod table;
 
 pub use read_fault::ReadFault;
+pub use table::read_table;
