@@ -1,5 +1,6 @@
 use crate::name::Name;
 use crate::shape::Shape;
+use byteorder::{BigEndian, ByteOrder};
 
 /// The primary header of a space packet (CCSDS 133.0-B, packet primary header).
 #[derive(Clone, Copy, Debug, PartialEq, Eq)]
@@ -18,6 +19,28 @@ pub struct Header {
     pub count: u16,
     /// The packet data length: the octets after the primary header, less one.
     pub length: u16,
+}
+
+impl Header {
+    ghost use Rattle.std.specs.Prelude.{◌≡◌};
+    ghost use Rattle.mib_model.specs.Headers.{header_of};
+
+    /// The header that six octets are.
+    pub fn read(head: &[u8; 6]) -> Header
+        ensures { result ≡ header_of head.now }
+    {
+        let first = BigEndian::read_u16(&head[0..2]);
+        let second = BigEndian::read_u16(&head[2..4]);
+        Header {
+            version: (first / 8192) as u8,
+            telecommand: first / 4096 % 2 == 1,
+            secondary: first / 2048 % 2 == 1,
+            apid: first % 2048,
+            flags: (second / 16384) as u8,
+            count: second % 16384,
+            length: BigEndian::read_u16(&head[4..6]),
+        }
+    }
 }
 
 /// Why a packet is no telemetry that can be identified.

@@ -1,0 +1,44 @@
+-- What is kept where the edition changes from one packet to the next. [This profile.]
+use Rattle.std.specs.Prelude.{ℕ, min, Bool, true, false, List, Option, Some, None, ◌&&◌, if◌then◌else◌}
+use Rattle.std.specs.List.{find}
+use Rattle.std.specs.Str.{bytes_eq}
+use Rattle.mib_model.specs.declared.rows.OcfRow.{OcfRow}
+use Rattle.mib_model.specs.declared.rows.PcfRow.{PcfRow}
+use Rattle.mib_model.specs.Checks.{checks_of}
+use Rattle.mib_model.specs.Database.{Database}
+use Rattle.mib_model.specs.Kept.{Memory, nothing_kept}
+use Rattle.mib_model.specs.Parameters.{parameter}
+use Rattle.mib_model.specs.SameRows.{same_pcf, same_ocf, same_ocp}
+use Rattle.mib_model.specs.Sameness.{same_list}
+
+-- the check of a parameter
+abbrev pub check_of : Database → List ℕ → Option OcfRow
+check_of db name = find (λ row. bytes_eq row.name name) db.ocf
+
+-- both there, and the same
+abbrev pub stays : Option PcfRow → Option PcfRow → Bool
+stays (Some old) (Some new) = same_pcf old new
+stays old new = false
+
+-- both missing, or both there and the same but for the number of checks
+abbrev pub same_check : Option OcfRow → Option OcfRow → Bool
+same_check None None = true
+same_check (Some old) (Some new) = same_ocf old (record new { nbchck = old.nbchck })
+same_check old new = false
+
+-- what was kept of a name stays where its parameter, its check but for the number of checks, and its limits are the same
+unfoldable pub is_carried : Database → Database → List ℕ → Bool
+is_carried old new name =
+    stays (parameter old.pcf name) (parameter new.pcf name) &&
+    same_check (check_of old name) (check_of new name) &&
+    same_list same_ocp (checks_of old name) (checks_of new name)
+
+-- a run is held to the new number of checks
+abbrev pub run_for : Option OcfRow → ℕ → ℕ
+run_for None run = run
+run_for (Some row) run = min run row.nbchck
+
+-- what is kept of all names under the new edition
+unfoldable pub carry : Memory → Database → Database → Memory
+carry memory old new name =
+    if is_carried old new name then record (memory name) { run = run_for (check_of new name) (memory name).run } else nothing_kept

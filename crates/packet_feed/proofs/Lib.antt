@@ -1,0 +1,3 @@
+pub mod Filling
+pub mod Cutting
+pub mod Unique

@@ -1,0 +1,112 @@
+ghost use Rattle.std.specs.Prelude.{◌≡◌, ◌≤◌, ◌<◌, ◌+◌, ℕ, List, length, take, IfOk, OnErr};
+ghost use Rattle.std.specs.Io.KnownBytes.{Consumes, IsAtEnd};
+ghost use Rattle.tm_io.specs.Causes.{HasCause};
+ghost use Rattle.mib_model.specs.Headers.{header_of};
+ghost use Rattle.mib_model.specs.Packets.{IsCut};
+ghost use Rattle.packet_feed.specs.Feed.{Gives, HasNextCause};
+ghost use Rattle.packet_feed.specs.declared.feed.TheConstants.{PACKET_SIZE};
+
+use crate::next::Next;
+use mib_model::Header;
+use std::marker::Model;
+use tm_io::{Failed, Source};
+
+/// The most octets that a packet has.
+pub const PACKET_SIZE: usize = 65_542;
+
+const HEADER_SIZE: usize = 6;
+
+/// The packets of a source. Contracts see the source.
+#[derive(Drop)]
+pub struct Feed<S> {
+    source: S,
+}
+
+impl<S> Model for Feed<S> {
+    ghost Value = { S };
+
+    ghost view = { λ f. f.source };
+}
+
+// Fills the buffer, or as much of it as there are octets.
+fn fill<S: Source>(source: &mut S, buf: &mut [u8]) -> Result<usize, Failed>
+    ensures fits { IfOk result (λ count. count ≤ length buf.new) }
+    ensures octets { IfOk result (λ count. Consumes (S.left source.old) (S.left source.new) (take count buf.new)) }
+    ensures end { IfOk result (λ count. count < length buf.new → IsAtEnd (S.left source.new)) }
+    ensures part { OnErr result ((count : ℕ) × (count < length buf.new) × Consumes (S.left source.old) (S.left source.new) (take count buf.new)) }
+    ensures cause { HasCause (S.faults source.old) (S.faults source.new) result }
+    ensures holds { S.holds source.new ≡ S.holds source.old }
+    ensures missed { S.missed source.new ≡ S.missed source.old }
+    ensures borrow { S.borrow source.new ≡ S.borrow source.old }
+{
+    let mut at = 0;
+    while at < buf.len() {
+        let count = source.read(&mut buf[at..])?;
+        if count == 0 {
+            return Ok(at);
+        }
+        at += count;
+    }
+    Ok(at)
+}
+
+// The octets of the packet that begins with this header.
+fn packet_size(head: &[u8; HEADER_SIZE]) -> usize
+    ensures size { result ≡ 7 + (header_of head.now).length }
+    ensures fits { result ≤ PACKET_SIZE }
+{
+    HEADER_SIZE + 1 + usize::from(Header::read(head).length)
+}
+
+impl<S> Feed<S> {
+    /// The packets of this source, from where it stands.
+    pub fn new(source: S) -> Feed<S>
+        ensures { result ≡ source }
+    {
+        Feed { source }
+    }
+}
+
+impl<S: Source> Feed<S> {
+    /// What comes next. The octets of a packet are put at the front of `into`; after another answer, what `into`
+    /// holds is left open.
+    pub fn next(&mut self, into: &mut [u8]) -> Next
+        requires { length into.old ≡ PACKET_SIZE }
+        ensures gives { Gives result (S.left self.old) (S.left self.new) into.new }
+        ensures cause { HasNextCause result (S.faults self.old) (S.faults self.new) }
+        ensures holds { S.holds self.new ≡ S.holds self.old }
+        ensures missed { S.missed self.new ≡ S.missed self.old }
+        ensures borrow { S.borrow self.new ≡ S.borrow self.old }
+    {
+        let mut head = [0; HEADER_SIZE];
+        let Ok(front) = fill(&mut self.source, &mut head) else {
+            return Next::Failed;
+        };
+        if front == 0 {
+            return Next::End;
+        }
+        if front < HEADER_SIZE {
+            return Next::Cut {
+                octets: front as u32,
+            };
+        }
+        into[..HEADER_SIZE].copy_from_slice(&head);
+        let size = packet_size(&head);
+        let Ok(body) = fill(&mut self.source, &mut into[HEADER_SIZE..size]) else {
+            return Next::Failed;
+        };
+        if HEADER_SIZE + body < size {
+            return Next::Cut {
+                octets: (HEADER_SIZE + body) as u32,
+            };
+        }
+        Next::Packet {
+            octets: size as u32,
+        }
+    }
+}
+
+/// Octets are cut into packets and a rest in one way.
+pub fn cut_is_unique()
+    ensures { (feed : List ℕ) (packets others : List (List ℕ)) (rest more : List ℕ) → IsCut feed packets rest → IsCut feed others more → (packets ≡ others) × (rest ≡ more) }
+{}
