@@ -1,11 +1,13 @@
 // The tables of calibration.
 ghost use Rattle.std.specs.Prelude.{◌≡◌};
 ghost use Rattle.mib_model.specs.Columns.{made_by};
-ghost use Rattle.mib_model.specs.CurveTables.{cur, cur_row, caf, caf_row, txf, txf_row, txp, txp_row, lgf, lgf_row};
+ghost use Rattle.mib_model.specs.CurveTables.{cur, cur_row, caf, caf_row, cap, cap_row, txf, txf_row, txp, txp_row, mcf, mcf_row, lgf, lgf_row};
 
-use crate::field::{INT_MAX, INT_MIN, fault, integer, letter_or, name, natural, text};
+use crate::field::{
+    INT_MAX, INT_MIN, decimal, decimal_or_zero, fault, integer, letter_or, name, natural, text,
+};
 use crate::fields::Fields;
-use mib_model::{CafRow, CurRow, LgfRow, LineFault, MibCode, TxfRow, TxpRow};
+use mib_model::{CafRow, CapRow, CurRow, LgfRow, LineFault, McfRow, MibCode, TxfRow, TxpRow};
 
 /// A row of selections of a curve by a condition.
 pub fn cur(row: &Fields) -> Result<CurRow, LineFault>
@@ -39,6 +41,20 @@ pub fn caf(row: &Fields) -> Result<CafRow, LineFault>
     })
 }
 
+/// A row of points of a curve.
+pub fn cap(row: &Fields) -> Result<CapRow, LineFault>
+    ensures { result ≡ made_by cap cap_row row.now }
+{
+    if row.are_fewer(3) {
+        return Err(fault(0, MibCode::FewFields));
+    }
+    Ok(CapRow {
+        numbr: name(row.field(1), 1)?,
+        xvals: text(row.field(2), 2)?,
+        yvals: decimal(row.field(3), 3)?,
+    })
+}
+
 /// A row of curves by status texts.
 pub fn txf(row: &Fields) -> Result<TxfRow, LineFault>
     ensures { result ≡ made_by txf txf_row row.now }
@@ -64,6 +80,23 @@ pub fn txp(row: &Fields) -> Result<TxpRow, LineFault>
         low: text(row.field(2), 2)?,
         high: text(row.field(3), 3)?,
         altxt: text(row.field(4), 4)?,
+    })
+}
+
+/// A row of polynomials.
+pub fn mcf(row: &Fields) -> Result<McfRow, LineFault>
+    ensures { result ≡ made_by mcf mcf_row row.now }
+{
+    if row.are_fewer(3) {
+        return Err(fault(0, MibCode::FewFields));
+    }
+    Ok(McfRow {
+        ident: name(row.field(1), 1)?,
+        pol1: decimal(row.field(3), 3)?,
+        pol2: decimal_or_zero(row.field(4), 4)?,
+        pol3: decimal_or_zero(row.field(5), 5)?,
+        pol4: decimal_or_zero(row.field(6), 6)?,
+        pol5: decimal_or_zero(row.field(7), 7)?,
     })
 }
 

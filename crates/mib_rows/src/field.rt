@@ -1,10 +1,11 @@
 // What a field is in its column, by the column's form. A `must` column has no default; the fault of a field is that
 // of the column's number.
-ghost use Rattle.std.specs.Prelude.{◌≡◌, ◌≤◌, ◌≤ℤ◌, IfOk, IfSome};
-ghost use Rattle.mib_model.specs.Columns.{value_of, fault_in, Must, Optional, Filled, Named, Natural, Integer, Letter, Capital, AnyText};
+ghost use Rattle.std.specs.Prelude.{◌≡◌, ◌≤◌, ◌≤ℤ◌, IfOk, IfSome, true, false};
+ghost use Rattle.mib_model.specs.Columns.{value_of, fault_in, Must, Optional, Filled, Named, Natural, Integer, Letter, Capital, Decimal, AnyText, Bounding, zero_decimal, no_bound};
 
 use crate::forms::{capital, code, number, trim};
-use mib_model::{LineFault, MibCode, Name, Text};
+use dec_num::read_dec;
+use mib_model::{Bound, Dec, LineFault, MibCode, Name, Text};
 
 /// The least number of the form `int`, -2^63.
 pub const INT_MIN: i128 = -9_223_372_036_854_775_808;
@@ -164,4 +165,56 @@ pub fn text_or_none(field: &[u8], column: u8) -> Result<Option<Text>, LineFault>
         return Ok(None);
     }
     Ok(Some(text(field, column)?))
+}
+
+/// A decimal.
+#[tactic(auto, unfolding(mib_model::specs::Columns::value_of, mib_model::specs::Columns::content_of))]
+pub fn decimal(field: &[u8], column: u8) -> Result<Dec, LineFault>
+    ensures { result ≡ value_of (Must column Decimal) field.now }
+{
+    match read_dec(trim(field)) {
+        Ok(decimal) => Ok(decimal),
+        Err(_) => Err(fault(column, MibCode::BadNumber)),
+    }
+}
+
+/// A decimal, or 0 where the field is empty.
+#[tactic(auto, unfolding(mib_model::specs::Columns::value_of, mib_model::specs::Columns::content_of))]
+pub fn decimal_or_zero(field: &[u8], column: u8) -> Result<Dec, LineFault>
+    ensures { result ≡ value_of (Filled column Decimal zero_decimal) field.now }
+{
+    if trim(field).is_empty() {
+        return Ok(Dec { m: 0, e: 0 });
+    }
+    decimal(field, column)
+}
+
+// A bound that is a decimal or empty.
+#[tactic(auto, unfolding(mib_model::specs::Columns::value_of, mib_model::specs::Columns::content_of))]
+fn limit(field: &[u8], column: u8) -> Result<Bound, LineFault>
+    ensures { result ≡ value_of (Filled column (Bounding false) (no_bound false)) field.now }
+{
+    if trim(field).is_empty() {
+        return Ok(Bound::Empty);
+    }
+    Ok(Bound::Number(decimal(field, column)?))
+}
+
+// A bound that is a text.
+#[tactic(auto, unfolding(mib_model::specs::Columns::value_of, mib_model::specs::Columns::content_of))]
+fn state(field: &[u8], column: u8) -> Result<Bound, LineFault>
+    ensures { result ≡ value_of (Filled column (Bounding true) (no_bound true)) field.now }
+{
+    Ok(Bound::Words(text(field, column)?))
+}
+
+/// A bound: a text where the check is of states, and else a decimal or empty.
+pub fn bound(field: &[u8], column: u8, states: bool) -> Result<Bound, LineFault>
+    ensures { result ≡ value_of (Filled column (Bounding states) (no_bound states)) field.now }
+{
+    if states {
+        state(field, column)
+    } else {
+        limit(field, column)
+    }
 }

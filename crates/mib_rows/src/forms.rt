@@ -1,10 +1,9 @@
 // Numbers and letters as fields have them.
-ghost use Rattle.std.specs.Prelude.{◌≡◌, ◌≤◌, ◌<◌, ◌^◌, ◌≤ℤ◌, length, reverse, true, IfSome};
-ghost use Rattle.std.specs.Char.{is_ascii_digit};
-ghost use Rattle.std.specs.List.{list_all};
-ghost use Rattle.mib_model.specs.Digits.{digits_value};
+ghost use Rattle.std.specs.Prelude.{◌≡◌, ◌≤ℤ◌, reverse, IfSome};
 ghost use Rattle.mib_model.specs.Lines.{trimmed, without_front};
 ghost use Rattle.mib_model.specs.Numbers.{magnitude_of, signed_of, number_of, code_of, capital_of};
+
+use dec_num::{are_digits, digits_number};
 
 // The octets without the spaces in front of them.
 fn trim_front(octets: &[u8]) -> &[u8]
@@ -36,31 +35,11 @@ pub fn trim(octets: &[u8]) -> &[u8]
     trim_end(trim_front(octets))
 }
 
-fn are_digits(octets: &[u8]) -> bool
-    ensures { result ≡ list_all is_ascii_digit octets.now }
-{
-    octets.iter().all(|octet| octet.is_ascii_digit())
-}
-
-// The number that at most 20 digits spell.
-fn digits_number(digits: &[u8]) -> u128
-    requires short { length digits.now ≤ 20 }
-    requires digits { list_all is_ascii_digit digits.now ≡ true }
-    ensures value { result ≡ digits_value digits.now }
-    ensures small { result < 10 ^ 20 }
-{
-    let mut value: u128 = 0;
-    for digit in digits {
-        value = 10 * value + u128::from(*digit - b'0');
-    }
-    value
-}
-
 // The number that 1 to 20 digits are.
 fn magnitude(octets: &[u8]) -> Option<i128>
     ensures { result ≡ magnitude_of octets.now }
 {
-    if 1 <= octets.len() && octets.len() <= 20 && are_digits(octets) {
+    if are_digits(octets, 1, 20) {
         Some(digits_number(octets) as i128)
     } else {
         None

@@ -2,10 +2,10 @@
 ghost use Rattle.std.specs.Prelude.{◌≡◌};
 ghost use Rattle.mib_model.specs.RowTexts.{row_of};
 
-use crate::curves::{caf, cur, lgf, txf, txp};
+use crate::curves::{caf, cap, cur, lgf, mcf, txf, txp};
 use crate::fields::Fields;
 use crate::packets::{pic, pid, plf, tpcf, vpd};
-use crate::parameters::{ocf, pcf};
+use crate::parameters::{ocf, ocp, pcf};
 use mib_model::{Kind, LineFault, Row};
 
 /// The row of a table that the fields of a line are, or the first fault.
@@ -22,12 +22,12 @@ pub fn row(kind: Kind, fields: &Fields) -> Result<Row, LineFault>
         Kind::Vpd => Ok(Row::Vpd(vpd(fields)?)),
         Kind::Cur => Ok(Row::Cur(cur(fields)?)),
         Kind::Caf => Ok(Row::Caf(caf(fields)?)),
-        Kind::Cap => unreachable!(),
+        Kind::Cap => Ok(Row::Cap(cap(fields)?)),
         Kind::Txf => Ok(Row::Txf(txf(fields)?)),
         Kind::Txp => Ok(Row::Txp(txp(fields)?)),
-        Kind::Mcf => unreachable!(),
+        Kind::Mcf => Ok(Row::Mcf(mcf(fields)?)),
         Kind::Lgf => Ok(Row::Lgf(lgf(fields)?)),
         Kind::Ocf => Ok(Row::Ocf(ocf(fields)?)),
-        Kind::Ocp => unreachable!(),
+        Kind::Ocp => Ok(Row::Ocp(ocp(fields)?)),
     }
 }

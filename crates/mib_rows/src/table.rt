@@ -7,12 +7,13 @@ use crate::field::fault;
 use crate::fields::Fields;
 use crate::read_fault::ReadFault;
 use crate::row::row;
-use mib_model::{Kind, LineFault, MibCode, MibFault, Row};
 use crate::rows::{ROWS_MOST, ReadsRows, rows};
+use mib_model::{Kind, LineFault, MibCode, MibFault, Row};
 use std::alloc::Global;
 
 // The octets of the greatest text and of the longest row.
 const TEXT_MOST: usize = 67_108_864;
+
 const ROW_MOST: usize = 4_096;
 
 /// A fault of a table and a row.
