@@ -1,1 +1,5 @@
-mod Computed
+mod ComputedRuns
+mod ComputedNumbers
+mod ComputedTables
+mod ComputedRegisters
+mod ComputedTools

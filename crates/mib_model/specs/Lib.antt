@@ -57,6 +57,7 @@ pub mod Desk
 pub mod DeskRuns
 pub mod Output
 pub mod Codes
+pub mod Endings
 pub mod Faults
 pub mod Replies
 pub mod Unbuilt

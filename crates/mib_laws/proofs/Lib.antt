@@ -1,0 +1,5 @@
+mod Options
+mod Choices
+pub mod RunFacts
+pub mod PlainRunFacts
+pub mod RegisterFacts
