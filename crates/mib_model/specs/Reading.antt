@@ -32,12 +32,12 @@ row_at table number line =
     else if nat_lt 100000 number then whole_fault table number Rows
     else in_row table number (row_of table (fields line))
 
--- the rows of lines, the first of which has this number, or the first fault
-unfoldable pub rows_from : Kind → ℕ → List (List ℕ) → Result (List Row) MibFault
-rows_from table number [] = Ok []
-rows_from table number (line ∷ more) = do
-  first ← row_at table number line
-  rest ← rows_from table (number + 1) more
+-- what is read of lines one by one, the first of which has this number, or the first fault
+unfoldable pub rows_from : {Made : Type 0} → (ℕ → List ℕ → Result Made MibFault) → ℕ → List (List ℕ) → Result (List Made) MibFault
+rows_from read number [] = Ok []
+rows_from read number (line ∷ more) = do
+  first ← read number line
+  rest ← rows_from read (number + 1) more
   Ok (first ∷ rest)
 
 -- whether a text begins with the byte order mark EF BB BF
@@ -49,7 +49,7 @@ unfoldable pub table_of : Kind → List ℕ → Result (List Row) MibFault
 table_of table text =
     if nat_lt 67108864 (length text) then whole_fault table 0 Big
     else if is_marked text then whole_fault table 0 Mark
-    else rows_from table 1 (lines text)
+    else rows_from (row_at table) 1 (lines text)
 
 -- the row that a line apart from a text is
 unfoldable pub row_read : Kind → List ℕ → Result Row MibFault

@@ -7,6 +7,7 @@ use Rattle.mib_model.specs.declared.kind.Kind.TheVariants as kind
 use Rattle.mib_model.specs.declared.line_fault.LineFault.{LineFault}
 use Rattle.mib_model.specs.declared.rows.Row.{Row}
 use Rattle.mib_model.specs.declared.rows.Row.TheVariants as row
+use Rattle.mib_model.specs.Attempts.{made_into}
 use Rattle.mib_model.specs.Columns.{made_by, key_made_by}
 use Rattle.mib_model.specs.PacketTables.{pid, pid_row, pid_values, pid_key, pic, pic_row, pic_values, pic_key, tpcf, tpcf_row, tpcf_values, tpcf_key, plf, plf_row, plf_values, plf_key, vpd, vpd_row, vpd_values, vpd_key}
 use Rattle.mib_model.specs.CurveTables.{cur, cur_row, cur_values, cur_key, caf, caf_row, caf_values, caf_key, cap, cap_row, cap_values, cap_key, txf, txf_row, txf_values, txf_key, txp, txp_row, txp_values, txp_key, mcf, mcf_row, mcf_values, mcf_key, lgf, lgf_row, lgf_values, lgf_key}
@@ -29,21 +30,21 @@ has_states fields = names_states (trimmed (field_at fields 3))
 
 -- the row of a table that the fields of a line are, or the first fault
 unfoldable pub row_of : Kind → List (List ℕ) → Result Row LineFault
-row_of kind.Pcf fields = made_by pcf (λ values. row.Pcf (pcf_row values)) fields
-row_of kind.Pid fields = made_by pid (λ values. row.Pid (pid_row values)) fields
-row_of kind.Pic fields = made_by pic (λ values. row.Pic (pic_row values)) fields
-row_of kind.Tpcf fields = made_by tpcf (λ values. row.Tpcf (tpcf_row values)) fields
-row_of kind.Plf fields = made_by plf (λ values. row.Plf (plf_row values)) fields
-row_of kind.Vpd fields = made_by vpd (λ values. row.Vpd (vpd_row values)) fields
-row_of kind.Cur fields = made_by cur (λ values. row.Cur (cur_row values)) fields
-row_of kind.Caf fields = made_by caf (λ values. row.Caf (caf_row values)) fields
-row_of kind.Cap fields = made_by cap (λ values. row.Cap (cap_row values)) fields
-row_of kind.Txf fields = made_by txf (λ values. row.Txf (txf_row values)) fields
-row_of kind.Txp fields = made_by txp (λ values. row.Txp (txp_row values)) fields
-row_of kind.Mcf fields = made_by mcf (λ values. row.Mcf (mcf_row values)) fields
-row_of kind.Lgf fields = made_by lgf (λ values. row.Lgf (lgf_row values)) fields
-row_of kind.Ocf fields = made_by ocf (λ values. row.Ocf (ocf_row values)) fields
-row_of kind.Ocp fields = made_by (ocp (has_states fields)) (λ values. row.Ocp (ocp_row (has_states fields) values)) fields
+row_of kind.Pcf fields = made_into row.Pcf (made_by pcf pcf_row fields)
+row_of kind.Pid fields = made_into row.Pid (made_by pid pid_row fields)
+row_of kind.Pic fields = made_into row.Pic (made_by pic pic_row fields)
+row_of kind.Tpcf fields = made_into row.Tpcf (made_by tpcf tpcf_row fields)
+row_of kind.Plf fields = made_into row.Plf (made_by plf plf_row fields)
+row_of kind.Vpd fields = made_into row.Vpd (made_by vpd vpd_row fields)
+row_of kind.Cur fields = made_into row.Cur (made_by cur cur_row fields)
+row_of kind.Caf fields = made_into row.Caf (made_by caf caf_row fields)
+row_of kind.Cap fields = made_into row.Cap (made_by cap cap_row fields)
+row_of kind.Txf fields = made_into row.Txf (made_by txf txf_row fields)
+row_of kind.Txp fields = made_into row.Txp (made_by txp txp_row fields)
+row_of kind.Mcf fields = made_into row.Mcf (made_by mcf mcf_row fields)
+row_of kind.Lgf fields = made_into row.Lgf (made_by lgf lgf_row fields)
+row_of kind.Ocf fields = made_into row.Ocf (made_by ocf ocf_row fields)
+row_of kind.Ocp fields = made_into row.Ocp (made_by (ocp (has_states fields)) (ocp_row (has_states fields)) fields)
 
 -- the key of a table that these fields are, in the order of its columns, or the first fault
 unfoldable pub key_of : Kind → List (List ℕ) → Result Key LineFault

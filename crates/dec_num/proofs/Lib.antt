@@ -1,0 +1,3 @@
+pub mod DigitFacts
+pub mod ScaledFacts
+pub mod ZeroFacts

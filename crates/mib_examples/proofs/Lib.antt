@@ -1,0 +1,5 @@
+mod ComputedRuns
+mod ComputedNumbers
+mod ComputedTables
+mod ComputedRegisters
+mod ComputedTools

@@ -1,0 +1,9 @@
+pub mod Given
+pub mod NumberExamples
+pub mod TableExamples
+pub mod RegisterExamples
+pub mod ToolExamples
+pub mod LayoutsRuns
+pub mod StructuresRuns
+pub mod CalibrationsRuns
+pub mod ChecksRuns

@@ -1,0 +1,21 @@
+//! Worked examples of the definitions, computed by the checker.
+//!
+//! Each function has an empty body, and its contract is a record of examples: what a definition of `mib_model` says
+//! of tables, packets and texts that are written out. It rests on `mib_model` alone, and nothing rests on it.
+#![tactic(auto)]
+
+mod numbers;
+mod registers;
+mod runs;
+mod tables;
+mod tools;
+
+pub use numbers::{
+    bit_examples, count_examples, decimal_examples, encoding_examples, whole_number_examples,
+};
+pub use registers::{
+    carry_examples, desk_examples, edition_examples, plan_examples, reply_examples,
+};
+pub use runs::{calibrations_runs, checks_runs, layouts_runs, structures_runs};
+pub use tables::{first_fault_examples, row_examples, text_examples};
+pub use tools::{line_examples, word_examples};

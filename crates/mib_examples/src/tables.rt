@@ -1,0 +1,18 @@
+//! Lines, fields, rows, keys and first faults.
+
+ghost use Rattle.mib_examples.specs.TableExamples.{TextExamples, RowExamples, FirstFaultExamples};
+
+#[tactic(auto, using(crate::proofs::ComputedTables::text_examples))]
+pub fn text_examples()
+    ensures { TextExamples }
+{}
+
+#[tactic(auto, using(crate::proofs::ComputedTables::row_examples))]
+pub fn row_examples()
+    ensures { RowExamples }
+{}
+
+#[tactic(auto, using(crate::proofs::ComputedTables::first_fault_examples))]
+pub fn first_fault_examples()
+    ensures { FirstFaultExamples }
+{}

@@ -1,0 +1,9 @@
+mod Options
+mod Choices
+pub mod RunFacts
+pub mod PlainRunFacts
+pub mod RegisterFacts
+mod Nesting
+mod WalkFacts
+mod Sorting
+mod SoundStructures

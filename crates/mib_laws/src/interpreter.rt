@@ -1,0 +1,11 @@
+ghost use Rattle.mib_laws.specs.Runs.{PlainRuns, RunsInParts};
+
+/// Where no row asks for what decoding doesn't do yet, the interpreter gives every value with no tail and no change.
+pub fn plain_runs()
+    ensures { PlainRuns }
+{}
+
+/// The records of packets are those of the first packets, and then those of the others from where the first have left.
+pub fn runs_in_parts()
+    ensures { RunsInParts }
+{}

@@ -1,0 +1,112 @@
+-- What a desk does with its lines: one relation for a single desk and for each of several. [This profile.]
+use Rattle.std.specs.Prelude.{ℕ, Bool, length, Option, Some, None, Result, Ok, Err, if◌then◌else◌}
+use Rattle.mib_model.specs.declared.fault.MibFault.{MibFault}
+use Rattle.mib_model.specs.declared.key.Key.{Key}
+use Rattle.mib_model.specs.declared.kind.Kind.{Kind}
+use Rattle.mib_model.specs.declared.register.Answer.{Answer}
+use Rattle.mib_model.specs.declared.register.Answer.TheVariants as answer
+use Rattle.mib_model.specs.declared.register.Entry.{Entry}
+use Rattle.mib_model.specs.declared.register.Entry.TheVariants as entry
+use Rattle.mib_model.specs.declared.reply.Reply.{Reply}
+use Rattle.mib_model.specs.declared.reply.Reply.TheVariants as reply
+use Rattle.mib_model.specs.declared.rows.Row.{Row}
+use Rattle.mib_model.specs.Database.{Database}
+use Rattle.mib_model.specs.DeskLines.{Request, Comment, TooLong, BadLine, BadTable, Put, Delete, Save, Drop, Use, UseFrom, Take, Go}
+use Rattle.mib_model.specs.Drafts.{rows_of, with_rows, is_held, put_in, without_key}
+use Rattle.mib_model.specs.Keys.{key_in}
+use Rattle.mib_model.specs.Reading.{row_read, key_read}
+use Rattle.mib_model.specs.Soundness.{first_flaw}
+use Rattle.mib_model.specs.Touched.{touched}
+
+-- a reply of a desk; those of several desks have two more
+pub data DeskReply : Type 0 where
+  Plain : (reply : Reply) → DeskReply
+  Stale : (newest : ℕ) → DeskReply
+  Took : (edition : ℕ) → DeskReply
+
+-- the draft, the tables that it was made from, and the edition that these are
+pub record DeskState : Type 0 where
+  pub draft : Database
+  pub base : Database
+  pub edition : ℕ
+
+-- at the start the draft is edition 1
+abbrev pub desk_start : Database → DeskState
+desk_start first = record { draft = first; base = first; edition = 1 }
+
+-- a line's way to its reply: it is done, or an entry is made and the way goes on by its answer
+pub data Turn : Type 0 where
+  Done : (reply : Option DeskReply) (state : DeskState) → Turn
+  Ask : (entry : Entry) (on : Answer → Turn) → Turn
+
+abbrev pub says : DeskState → Reply → Turn
+says s r = Done (Some (Plain r)) s
+
+-- PUT: a row in place of that with its key, or at the end of its table
+abbrev pub put_reply : Bool → Reply
+put_reply held = if held then reply.Replaced else reply.Added
+
+abbrev pub put_turn : DeskState → Kind → Result Row MibFault → Turn
+put_turn s table (Err f) = says s (reply.BadRow f.code f.column)
+put_turn s table (Ok r) =
+    says (record s { draft = with_rows s.draft table (put_in r (rows_of s.draft table)) })
+    (put_reply (is_held (key_in r) (rows_of s.draft table)))
+
+-- DELETE: the first row with the key
+abbrev pub delete_turn : DeskState → Kind → Result Key MibFault → Turn
+delete_turn s table (Err f) = says s (reply.BadRow f.code f.column)
+delete_turn s table (Ok key) =
+    if is_held key (rows_of s.draft table)
+    then says (record s { draft = with_rows s.draft table (without_key key (rows_of s.draft table)) }) reply.Deleted
+    else says s reply.NoRow
+
+-- SAVE: a sound draft is added as an edition, which the draft is from then on made from; one of several desks adds it on its own base
+abbrev pub saved : DeskState → Answer → Turn
+saved s (answer.Added e) = says (record { draft = s.draft; base = s.draft; edition = e }) (reply.Saved e (length (touched s.base s.draft)))
+saved s (answer.Stale newest) = Done (Some (Stale newest)) s
+saved s other = says s reply.FullEditions
+
+abbrev pub save_entry : Bool → DeskState → Entry
+save_entry several s = if several then entry.AddOn s.edition s.draft else entry.Add s.draft
+
+abbrev pub save_turn : Bool → DeskState → Option MibFault → Turn
+save_turn several s (Some f) = says s (reply.Unsound f)
+save_turn several s None = Ask (save_entry several s) (saved s)
+
+-- USE: an activation; one of several desks looks at the edition first
+abbrev pub use_reply : ℕ → Answer → Reply
+use_reply e (answer.Used k) = reply.Used e k
+use_reply e (answer.NoEdition count) = reply.NoEdition count
+use_reply e (answer.Late next) = reply.Late next
+use_reply e (answer.Disorder last) = reply.Disorder last
+use_reply e other = reply.FullPending
+
+abbrev pub use_turn : DeskState → ℕ → Entry → Turn
+use_turn s e activation = Ask activation (λ a. says s (use_reply e a))
+
+abbrev pub looked : DeskState → ℕ → Entry → Answer → Turn
+looked s e activation (answer.NoEdition count) = says s (reply.NoEdition count)
+looked s e activation other = use_turn s e activation
+
+abbrev pub use_by : Bool → DeskState → ℕ → Entry → Turn
+use_by several s e activation = if several then Ask (entry.Look e) (looked s e activation) else use_turn s e activation
+
+-- TAKE: the draft becomes the newest edition
+abbrev pub took : DeskState → Answer → Turn
+took s (answer.Drawn e tables) = Done (Some (Took e)) (record { draft = tables; base = tables; edition = e })
+took s other = Done None s
+
+-- the way of a request
+unfoldable pub turn_of : Bool → DeskState → Request → Turn
+turn_of several s Comment = Done None s
+turn_of several s TooLong = says s reply.TooLong
+turn_of several s BadLine = says s reply.BadLine
+turn_of several s BadTable = says s reply.BadTable
+turn_of several s (Put table row) = put_turn s table (row_read table row)
+turn_of several s (Delete table key) = delete_turn s table (key_read table key)
+turn_of several s Save = save_turn several s (first_flaw s.draft)
+turn_of several s Drop = says (record s { draft = s.base }) reply.Dropped
+turn_of several s (Use e) = use_by several s e (entry.Use e)
+turn_of several s (UseFrom e k) = use_by several s e (entry.UseFrom e k)
+turn_of several s Take = Ask entry.Newest (took s)
+turn_of several s Go = says s reply.Go

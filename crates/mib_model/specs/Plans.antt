@@ -1,0 +1,98 @@
+-- The plans of a database: what each compiled part depends on. [This profile.]
+use Rattle.std.specs.Prelude.{ℕ, pos, Bool, List, [], ◌∷◌, ◌++◌, map, filter, filter_map, Option, Some, None, option_and_then, int_lt, ◌==◌, ◌&&◌, not, if◌then◌else◌}
+use Rattle.std.specs.List.{list_any}
+use Rattle.std.specs.Cmp.Lexicographic.{slice_cmp}
+use Rattle.std.specs.Ordering.{nat_cmp, is_le}
+use Rattle.mib_model.specs.declared.plan.PlanName.{PlanName}
+use Rattle.mib_model.specs.declared.plan.PlanName.TheVariants as plan
+use Rattle.mib_model.specs.declared.plan.TypeItem.{TypeItem}
+use Rattle.mib_model.specs.declared.rows.CurRow.{CurRow}
+use Rattle.mib_model.specs.declared.rows.OcfRow.{OcfRow}
+use Rattle.mib_model.specs.declared.rows.OcpRow.{OcpRow}
+use Rattle.mib_model.specs.declared.rows.PcfRow.{PcfRow}
+use Rattle.mib_model.specs.declared.rows.PicRow.{PicRow}
+use Rattle.mib_model.specs.declared.rows.PidRow.{PidRow}
+use Rattle.mib_model.specs.declared.rows.PlfRow.{PlfRow}
+use Rattle.mib_model.specs.declared.rows.VpdRow.{VpdRow}
+use Rattle.mib_model.specs.Carry.{check_of}
+use Rattle.mib_model.specs.Checks.{checks_of}
+use Rattle.mib_model.specs.Curves.{CurveRows, curve_named, selections}
+use Rattle.mib_model.specs.Database.{Database}
+use Rattle.mib_model.specs.Orders.{sorted_by, sorted_by_number}
+use Rattle.mib_model.specs.Parameters.{parameter, is_measured, endian_of}
+use Rattle.mib_model.specs.Walk.{structure, is_deduced}
+
+-- the rows that a plan depends on
+pub data Slice : Type 0 where
+  ParamSlice : (pcf : PcfRow) (curs : List CurRow) (curves : List (Option CurveRows)) (ocf : Option OcfRow) (ocps : List OcpRow) → Slice
+  LayoutSlice : (pid : PidRow) (plfs : List PlfRow) (types : List TypeItem) → Slice
+  StructureSlice : (vpds : List VpdRow) (types : List TypeItem) → Slice
+  IdentSlice : (pids : List PidRow) (pics : List PicRow) → Slice
+
+-- a plan: its name and its slice
+abbrev pub Plan : Type 0
+Plan = PlanName × Slice
+
+-- what a layout depends on of a parameter
+abbrev pub type_item : PcfRow → TypeItem
+type_item row = record { name = row.name; ptc = row.ptc; pfc = row.pfc; width = row.width; natur = row.natur; endian = endian_of row.endian }
+
+-- the type items of names, in their order
+abbrev pub type_items : Database → List (List ℕ) → List TypeItem
+type_items db names = filter_map (λ name. option_and_then (λ row. Some (type_item row)) (parameter db.pcf name)) names
+
+-- a parameter's curves: that of CURTX alone where it is given, else one for each selection; none for category `T`
+abbrev pub curve_names : Option (List ℕ) → List CurRow → List (List ℕ)
+curve_names (Some name) curs = name ∷ []
+curve_names None curs = map (λ cur. cur.curve) curs
+
+abbrev pub curves_for : Database → PcfRow → List (Option CurveRows)
+curves_for db row = map (curve_named db row.categ) (curve_names row.curtx (selections db row.name))
+
+-- PARAM: each measured parameter that isn't deduced, by name
+abbrev pub has_plan : PcfRow → Bool
+has_plan row = is_measured row && not (is_deduced row)
+
+abbrev pub param_plan : Database → PcfRow → Plan
+param_plan db row =
+    (plan.Param row.name, ParamSlice row (selections db row.name) (curves_for db row) (check_of db row.name) (checks_of db row.name))
+
+abbrev pub may_precede : List ℕ → List ℕ → Bool
+may_precede x y = is_le (slice_cmp nat_cmp x y)
+
+unfoldable pub param_plans : Database → List Plan
+param_plans db = map (param_plan db) (sorted_by (λ x y. may_precede x.name y.name) (filter has_plan db.pcf))
+
+-- LAYOUT: each packet of fixed layout, by SPID
+abbrev pub has_layout : PidRow → Bool
+has_layout row = int_lt row.tpsd (pos 1)
+
+abbrev pub layout_rows : Database → ℕ → List PlfRow
+layout_rows db spid = filter (λ row. row.spid == spid) db.plf
+
+abbrev pub layout_plan : Database → PidRow → Plan
+layout_plan db row =
+    (plan.Layout row.spid, LayoutSlice row (layout_rows db row.spid) (type_items db (map (λ plf. plf.name) (layout_rows db row.spid))))
+
+unfoldable pub layout_plans : Database → List Plan
+layout_plans db = map (layout_plan db) (sorted_by_number (λ row. row.spid) (filter has_layout db.pid))
+
+-- STRUCTURE: each TPSD that vpd has, by its number
+abbrev pub distinct : List ℕ → List ℕ
+distinct [] = []
+distinct (n ∷ ns) = if list_any (λ m. m == n) ns then distinct ns else n ∷ distinct ns
+
+abbrev pub structure_plan : Database → ℕ → Plan
+structure_plan db tpsd =
+    (plan.Structure tpsd, StructureSlice (structure db (pos tpsd)) (type_items db (map (λ row. row.name) (structure db (pos tpsd)))))
+
+unfoldable pub structure_plans : Database → List Plan
+structure_plans db = map (structure_plan db) (sorted_by_number (λ n. n) (distinct (map (λ row. row.tpsd) db.vpd)))
+
+-- IDENT: one in all
+abbrev pub ident_plan : Database → Plan
+ident_plan db = (plan.Ident, IdentSlice db.pid db.pic)
+
+-- all plans, in their order
+unfoldable pub plans : Database → List Plan
+plans db = param_plans db ++ layout_plans db ++ structure_plans db ++ ident_plan db ∷ []

@@ -1,0 +1,85 @@
+// The rows of a table's text.
+ghost use Rattle.std.specs.Prelude.{◌≡◌};
+ghost use Rattle.mib_model.specs.Reading.{fault_at, row_at, table_of, is_marked};
+ghost use Rattle.mib_rows.specs.Answers.{Gives};
+
+use crate::field::fault;
+use crate::fields::Fields;
+use crate::read_fault::ReadFault;
+use crate::row::row;
+use crate::rows::{ROWS_MOST, ReadsRows, rows};
+use mib_model::{Kind, LineFault, MibCode, MibFault, Row};
+use std::alloc::Global;
+
+// The octets of the greatest text and of the longest row.
+const TEXT_MOST: usize = 67_108_864;
+
+const ROW_MOST: usize = 4_096;
+
+/// A fault of a table and a row.
+pub fn fault_in_row(table: Kind, row: u32, fault: LineFault) -> MibFault
+    ensures { result ≡ fault_at table row fault }
+{
+    MibFault {
+        table,
+        row,
+        column: fault.column,
+        first: 0,
+        code: fault.code,
+    }
+}
+
+// What reads the rows of a table.
+#[derive(Drop)]
+struct TableReader {
+    alloc: Global,
+    kind: Kind,
+}
+
+impl ReadsRows for TableReader {
+    type Row = Row;
+
+    ghost reads = { λ reader. row_at reader.kind };
+
+    #[tactic(auto, unfolding(mib_model::specs::Reading::row_at))]
+    fn read(&self, number: u32, line: &[u8]) -> Result<Row, ReadFault> {
+        let kind = self.kind;
+        if line.len() > ROW_MOST {
+            let long = fault(0, MibCode::LineLong);
+            return Err(ReadFault::Mib(fault_in_row(kind, number, long)));
+        }
+        if number > ROWS_MOST {
+            let more = fault(0, MibCode::Rows);
+            return Err(ReadFault::Mib(fault_in_row(kind, number, more)));
+        }
+        let Ok(fields) = Fields::cut(self.alloc, line) else {
+            return Err(ReadFault::Memory);
+        };
+        match row(kind, &fields) {
+            Ok(row) => Ok(row),
+            Err(e) => Err(ReadFault::Mib(fault_in_row(kind, number, e))),
+        }
+    }
+}
+
+fn begins_with_mark(text: &[u8]) -> bool
+    ensures { result ≡ is_marked text.now }
+{
+    text.starts_with(b"\xEF\xBB\xBF")
+}
+
+/// The rows of a table's text, in their order.
+#[tactic(auto, unfolding(mib_model::specs::Reading::table_of))]
+pub fn read_table(alloc: Global, kind: Kind, text: &[u8]) -> Result<Vec<Row>, ReadFault>
+    ensures { Gives (λ rows. rows.items) result (table_of kind text.now) }
+{
+    if text.len() > TEXT_MOST {
+        let big = fault(0, MibCode::Big);
+        return Err(ReadFault::Mib(fault_in_row(kind, 0, big)));
+    }
+    if begins_with_mark(text) {
+        let mark = fault(0, MibCode::Mark);
+        return Err(ReadFault::Mib(fault_in_row(kind, 0, mark)));
+    }
+    rows(alloc, &TableReader { alloc, kind }, text)
+}

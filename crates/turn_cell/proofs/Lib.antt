@@ -1,0 +1,5 @@
+pub mod Sums
+pub mod Holdings
+pub mod Histories
+pub mod Steps
+pub mod Shares
