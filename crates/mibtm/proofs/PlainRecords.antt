@@ -113,16 +113,23 @@ pub output-plain : (db : Database) (packets : List (List ℕ)) (tail : List ℕ)
 unfolding output_of_one
 output-plain db packets tail built = ap (λ t. t ++ tail) (interpreted db (start db) 1 packets built refl)
 
-pub plain_records-push : (db : Database) (number : ℕ) (packets : List (List ℕ)) (packet : List ℕ)
-    → plain_records db number (packets ++ packet ∷ []) ≡ plain_records db number packets ++ plain_record db (number + length packets) packet
-unfolding plain_records
-plain_records-push db number [] packet =
-    append-nil (plain_record db number packet) ∙ ap (λ n. plain_record db n packet) (let same : number ≡ number + 0 = omega arith in same)
-plain_records-push db number (p ∷ packets) packet =
-    let same : number + 1 + length packets ≡ number + suc (length packets) = omega arith in
-    ap (λ t. plain_record db number p ++ t) (plain_records-push db (number + 1) packets packet ∙ ap (λ n. plain_records db (number + 1) packets ++ plain_record db n packet) same)
-    ∙ sym (append_assoc (plain_record db number p) (plain_records db (number + 1) packets) (plain_record db (number + suc (length packets)) packet))
-
 pub plain_records-nil : (db : Database) (number : ℕ) → plain_records db number [] ≡ []
 unfolding plain_records
 plain_records-nil db number = refl
+
+pub plain_records-append : (db : Database) (number : ℕ) (packets others : List (List ℕ))
+    → plain_records db number (packets ++ others) ≡ plain_records db number packets ++ plain_records db (number + length packets) others
+unfolding plain_records
+plain_records-append db number [] others = ap (λ n. plain_records db n others) (let same : number ≡ number + 0 = omega arith in same)
+plain_records-append db number (p ∷ packets) others =
+    let same : number + 1 + length packets ≡ number + suc (length packets) = omega arith in
+    ap (λ t. plain_record db number p ++ t) (plain_records-append db (number + 1) packets others ∙ ap (λ n. plain_records db (number + 1) packets ++ plain_records db n others) same)
+    ∙ sym (append_assoc (plain_record db number p) (plain_records db (number + 1) packets) (plain_records db (number + suc (length packets)) others))
+
+-- one packet more
+pub plain_records-push : (db : Database) (number : ℕ) (packets : List (List ℕ)) (packet : List ℕ)
+    → plain_records db number (packets ++ packet ∷ []) ≡ plain_records db number packets ++ plain_record db (number + length packets) packet
+unfolding plain_records
+plain_records-push db number packets packet =
+    plain_records-append db number packets (packet ∷ [])
+    ∙ ap (λ t. plain_records db number packets ++ t) (append-nil (plain_record db (number + length packets) packet))

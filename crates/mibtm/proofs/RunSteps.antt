@@ -1,7 +1,7 @@
 -- A run, packet by packet.
 use Rattle.std.proofs.Common.{◌≡◌, ◌≤◌, ◌<◌, ◌+◌, ◌-◌, ℕ, zero, suc, List, [], ◌∷◌, ◌++◌, Option, Some, None, length, take, refl, sym, ap, ◌∙◌, append_assoc, append-nil, arith, subst, zero-add}
 use Rattle.std.specs.List.{All, concat}
-use Rattle.std.proofs.lemmas.List.{length_push}
+use Rattle.std.proofs.lemmas.List.{length_push, take_at}
 use Rattle.std.proofs.lemmas.List.Elements.{All-push, All-nil}
 use Rattle.std.proofs.lemmas.List.Folds.{concat-append}
 use Rattle.std.proofs.KnownBytes.{Appends-trans, Appends-nil}
@@ -14,12 +14,12 @@ use Rattle.mib_model.specs.declared.code.Code.TheVariants as code
 use Rattle.mib_model.specs.Output.{output_of_one}
 use Rattle.mib_model.specs.Packets.{IsPacket, BeginsNoPacket, IsCut}
 use Rattle.mib_model.specs.Texts.{cut_text, rest_text}
-use Rattle.mibtm.specs.Causes.{code_of_stop}
+use Rattle.mibtm.specs.Causes.{code_of_stop, HasFeedCause}
 use Rattle.mibtm.specs.Readings.{IsBuilt, plain_record}
 use Rattle.mibtm.specs.Run.{Ran, Ends, Going, Writes, WritesPart, StopsWriting, StopsAt, most_packets}
 use Rattle.mibtm.specs.declared.run.Stop.{Stop}
 use Rattle.mibtm.specs.declared.run.Stop.TheVariants as stop
-use Rattle.mibtm.proofs.PlainRecords.{plain_records, output-plain, plain_records-push, plain_records-nil}
+use Rattle.mibtm.proofs.PlainRecords.{plain_records, output-plain, plain_records-push, plain_records-append, plain_records-nil}
 
 -- a tail behind the text
 output-tail : (db : Database) (packets : List (List ℕ)) (tail : List ℕ) → IsBuilt db → output_of_one db packets tail ≡ output_of_one db packets [] ++ tail
@@ -133,7 +133,7 @@ ran_stopped s db number before now (Some octets) (Some left) None old mid new pa
 ran_stopped stop.Memory db number before now (Some octets) (Some left) (Some after) old mid new packet built few is given stopped so_far =
     let (packets, whole, each, count, wrote) = so_far in (
       concat (packets ++ packet ∷ []), packets ++ packet ∷ [], [], whole-push octets left after packet packets whole given, packets-cut (packets ++ packet ∷ []) (All-push IsPacket packets packet each is),
-      (packets, packet ∷ [], refl, writes-none db packets old mid new wrote stopped),
+      (rw (length_push packets packet) (omega (arith, count, few)), packets, packet ∷ [], refl, writes-none db packets old mid new wrote stopped),
     )
 ran_stopped stop.Out db number before now (Some octets) (Some left) (Some after) old mid new packet built few is given stopped so_far =
     let (packets, whole, each, count, wrote) = so_far in
@@ -186,7 +186,7 @@ ran_stopped_at_rest stop.Memory db number cut before now (Some octets) (Some lef
     let (packets, whole, each, count, wrote) = so_far in
     let (rest, size, some, none, taken, end) = took in (
       concat packets ++ rest, packets, rest, read_whole octets left rest after packets whole taken, rest-cut packets rest each none,
-      (packets, [], sym (append-nil packets), writes-none db packets old mid new wrote stopped),
+      (omega (arith, count, few), packets, [], sym (append-nil packets), writes-none db packets old mid new wrote stopped),
     )
 ran_stopped_at_rest stop.Out db number cut before now (Some octets) (Some left) (Some after) old mid new built few took same stopped so_far =
     let (packets, whole, each, count, wrote) = so_far in
@@ -198,3 +198,73 @@ ran_stopped_at_rest stop.Out db number cut before now (Some octets) (Some left) 
         fault = λ more. absurd (omega (arith, more, same));
       }),
     )
+
+-- nothing was read and nothing written
+pub ran_nothing : (db : Database) (left old : Option (List ℕ)) (before now : ℕ) → IsBuilt db → Ran code.Want db left left before now old old
+ran_nothing db None old before now built = tt
+ran_nothing db (Some octets) old before now built =
+    ([], [], [], refl, packets-cut [] (All-nil IsPacket), (omega arith, [], [], refl, subst (Appends old old) (sym (output-none db built)) (Appends-nil old)))
+
+-- what was written whole is a first part of itself with more behind it
+part-whole : (text tail : List ℕ) (old new : Option (List ℕ)) → Appends old new text → AppendsPrefix old new (text ++ tail)
+part-whole text tail old new wrote = (length text, subst (Appends old new) (sym (take_at text tail (length text) refl)) wrote)
+
+part-of : (db : Database) (packets : List (List ℕ)) (tail more : List ℕ) (old new : Option (List ℕ)) → IsBuilt db → Writes db packets tail old new
+    → output_of_one db packets (tail ++ more) ≡ output_of_one db packets tail ++ more → WritesPart db packets (tail ++ more) old new
+part-of db packets tail more old new built wrote is = subst (AppendsPrefix old new) (sym is) (part-whole (output_of_one db packets tail) more old new wrote)
+
+part-tail : (db : Database) (packets : List (List ℕ)) (tail : List ℕ) (old new : Option (List ℕ)) → IsBuilt db → Writes db packets [] old new → WritesPart db packets tail old new
+part-tail db packets tail old new built wrote = part-of db packets [] tail old new built wrote (output-tail db packets tail built)
+
+part-same : (db : Database) (packets : List (List ℕ)) (tail : List ℕ) (old new : Option (List ℕ)) → Writes db packets tail old new → WritesPart db packets tail old new
+part-same db packets tail old new wrote =
+    subst (AppendsPrefix old new) (append-nil (output_of_one db packets tail)) (part-whole (output_of_one db packets tail) [] old new wrote)
+
+-- the text of the first packets
+output-front : (db : Database) (printed more : List (List ℕ)) (tail : List ℕ) → IsBuilt db
+    → output_of_one db (printed ++ more) tail ≡ output_of_one db printed [] ++ (plain_records db (1 + length printed) more ++ tail)
+output-front db printed more tail built =
+    output-plain db (printed ++ more) tail built ∙ ap (λ t. t ++ tail) (plain_records-append db 1 printed more)
+    ∙ append_assoc (plain_records db 1 printed) (plain_records db (1 + length printed) more) tail
+    ∙ sym (ap (λ t. t ++ (plain_records db (1 + length printed) more ++ tail)) (output-plain db printed [] built ∙ append-nil (plain_records db 1 printed)))
+
+part-front : (db : Database) (packets printed more : List (List ℕ)) (tail : List ℕ) (old new : Option (List ℕ)) → IsBuilt db → packets ≡ printed ++ more
+    → Writes db printed [] old new → WritesPart db packets tail old new
+part-front db packets printed more tail old new built is wrote =
+    subst (AppendsPrefix old new) (sym (ap (λ ps. output_of_one db ps tail) is ∙ output-front db printed more tail built))
+    (part-whole (output_of_one db printed []) (plain_records db (1 + length printed) more ++ tail) old new wrote)
+
+stops-with : (db : Database) (packets : List (List ℕ)) (rest : List ℕ) (before now : ℕ) (old new : Option (List ℕ))
+    → ((tail : List ℕ) → WritesPart db packets tail old new) → StopsWriting db packets rest before now old new
+stops-with db packets rest before now old new part = record { whole = λ same. part (rest_text rest); fault = λ more. part [] }
+
+-- a run whose output fails at its end
+ends-unflushed : (c : Code) (db : Database) (packets : List (List ℕ)) (rest left : List ℕ) (before now : ℕ) (old new : Option (List ℕ)) → IsBuilt db
+    → HasFeedCause c before now → Ends c db packets rest left before now old new → Ends code.OutFault db packets rest left before now old new
+ends-unflushed code.Ok db packets rest left before now old new built cause (none, end, few, wrote) =
+    (omega (arith, few), stops-with db packets rest before now old new (λ tail. part-tail db packets tail old new built wrote))
+ends-unflushed (code.Cut cut) db packets rest left before now old new built cause (size, some, end, few, wrote) =
+    (omega (arith, few), record {
+      whole = λ same. subst (λ (tail : List ℕ). WritesPart db packets tail old new) (sym (rest_text-some rest cut size some)) (part-same db packets (cut_text cut) old new wrote);
+      fault = λ more. absurd (omega (arith, more, cause));
+    })
+ends-unflushed code.FeedFault db packets rest left before now old new built cause (few, wrote) =
+    (omega (arith, few), stops-with db packets rest before now old new (λ tail. part-tail db packets tail old new built wrote))
+ends-unflushed code.OutFault db packets rest left before now old new built cause ends = ends
+ends-unflushed code.Limit db packets rest left before now old new built cause (none, all, wrote) =
+    (omega (arith, all), stops-with db packets rest before now old new (λ tail. part-tail db packets tail old new built wrote))
+ends-unflushed code.Want db packets rest left before now old new built cause (few, printed, more, is, wrote) =
+    (few, stops-with db packets rest before now old new (λ tail. part-front db packets printed more tail old new built is wrote))
+ends-unflushed (code.Usage misuse) db packets rest left before now old new built cause ends = absurd ends
+ends-unflushed (code.BadMib fault) db packets rest left before now old new built cause ends = absurd ends
+ends-unflushed (code.NoFile input) db packets rest left before now old new built cause ends = absurd ends
+ends-unflushed code.TablesFault db packets rest left before now old new built cause ends = absurd ends
+ends-unflushed code.DeskFault db packets rest left before now old new built cause ends = absurd ends
+ends-unflushed code.ReplyFault db packets rest left before now old new built cause ends = absurd ends
+
+pub ran_unflushed : (c : Code) (db : Database) (before now : ℕ) (start after old new : Option (List ℕ)) → IsBuilt db → HasFeedCause c before now
+    → Ran c db start after before now old new → Ran code.OutFault db start after before now old new
+ran_unflushed c db before now None after old new built cause ran = tt
+ran_unflushed c db before now (Some octets) None old new built cause ran = absurd ran
+ran_unflushed c db before now (Some octets) (Some left) old new built cause (read, packets, rest, whole, cut, ends) =
+    (read, packets, rest, whole, cut, ends-unflushed c db packets rest left before now old new built cause ends)

@@ -40,7 +40,7 @@ Ends code.FeedFault db packets rest left before now old new = (length packets < 
 Ends code.OutFault db packets rest left before now old new = (length packets ≤ most_packets) × StopsWriting db packets rest before now old new
 Ends code.Limit db packets rest left before now old new = (rest ≡ []) × (length packets ≡ most_packets) × Writes db packets [] old new
 Ends code.Want db packets rest left before now old new =
-    (printed : List (List ℕ)) × (more : List (List ℕ)) × (packets ≡ printed ++ more) × Writes db printed [] old new
+    (length packets ≤ most_packets) × (printed : List (List ℕ)) × (more : List (List ℕ)) × (packets ≡ printed ++ more) × Writes db printed [] old new
 Ends other db packets rest left before now old new = ⊥
 
 -- what a run with a code did with the octets that the feed had, if they are told: what was read of them is cut into packets and

@@ -129,7 +129,8 @@ fn print_packets<S: Source, O: Sink>(
     Code::Limit
 }
 
-// Prints the packets of a source.
+// Prints the packets of a source, in buffers of its own.
+#[tactic(auto, using(crate::proofs::RunSteps::ran_nothing))]
 fn print_all<S: Source, O: Sink>(
     alloc: Global,
     tables: &Tables,
@@ -146,4 +147,29 @@ fn print_all<S: Source, O: Sink>(
         return Code::Want;
     };
     print_packets(&mut frame, &mut Vec::new(alloc), tables, source, out)
+}
+
+/// Prints the packets of a source, and hands on what was written. It ends at the end of the source, at a rest, at a
+/// fault, or after 1,000,000,000 packets.
+#[tactic(auto, using(crate::proofs::RunSteps::ran_unflushed))]
+pub(crate) fn run<S: Source, O: Sink>(
+    alloc: Global,
+    tables: &Tables,
+    source: &mut S,
+    out: &mut O,
+) -> Code
+    requires { IsBuilt (database_of tables.now) }
+    ensures ran { Ran result (database_of tables.now) (S.left source.old) (S.left source.new) (S.faults source.old) (S.faults source.new) (O.written out.old) (O.written out.new) }
+    ensures feed { HasFeedCause result (S.faults source.old) (S.faults source.new) }
+    ensures out { HasOutCause result (O.faults out.old) (O.faults out.new) }
+    ensures missed { S.missed source.new ≡ S.missed source.old }
+{
+    let code = print_all(alloc, tables, source, out);
+    if code == Code::OutFault {
+        return code;
+    }
+    match out.flush() {
+        Ok(()) => code,
+        Err(_) => Code::OutFault,
+    }
 }
