@@ -1,3 +1,4 @@
 pub mod Readings
 pub mod Causes
 pub mod Run
+pub mod Inputs

@@ -7,5 +7,6 @@ mod record;
 mod run;
 mod text;
 mod values;
+mod words;
 
 fn main() {}
