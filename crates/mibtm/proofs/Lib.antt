@@ -6,3 +6,4 @@ pub mod PlainReadings
 pub mod PlainValues
 pub mod PlainRecords
 pub mod RunSteps
+pub mod TextFiles

@@ -1,5 +1,5 @@
 -- Which code comes with which count of faults.
-use Rattle.std.specs.Prelude.{◌≡◌, ℕ, ◌≤◌}
+use Rattle.std.specs.Prelude.{◌≡◌, ℕ, ◌≤◌, ⊤}
 use Rattle.tm_io.specs.Causes.{Rose}
 use Rattle.mib_model.specs.declared.code.Code.{Code}
 use Rattle.mib_model.specs.declared.code.Code.TheVariants as code
@@ -35,3 +35,9 @@ code_of_stop stop.Out = code.OutFault
 abbrev pub HasStopCause : Stop → ℕ → ℕ → Type 0
 HasStopCause stop.Memory before now = now ≡ before
 HasStopCause stop.Out before now = Failed before now
+
+-- the codes that reading a file may end with
+abbrev pub IsReadStop : Code → Type 0
+IsReadStop code.TablesFault = ⊤
+IsReadStop code.Want = ⊤
+IsReadStop other = ⊥

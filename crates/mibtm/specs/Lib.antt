@@ -2,3 +2,4 @@ pub mod Readings
 pub mod Causes
 pub mod Run
 pub mod Inputs
+pub mod Sources

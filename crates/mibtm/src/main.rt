@@ -6,6 +6,7 @@ mod kinds;
 mod record;
 mod run;
 mod text;
+mod text_file;
 mod values;
 mod words;
 
