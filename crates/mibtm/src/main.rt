@@ -5,6 +5,7 @@ mod bits;
 mod kinds;
 mod record;
 mod run;
+mod tables;
 mod text;
 mod text_file;
 mod values;
