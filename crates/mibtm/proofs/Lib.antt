@@ -7,3 +7,4 @@ pub mod PlainValues
 pub mod PlainRecords
 pub mod RunSteps
 pub mod TextFiles
+pub mod TableTexts

@@ -1,5 +1,5 @@
 -- As much of a file as is read.
-use Rattle.std.proofs.Common.{◌≡◌, ◌≤◌, ℕ, List, [], ◌++◌, length, take, Option, Some, None, IfSome, refl, sym, ap, ◌∙◌, append-nil, subst, arith, Bool, true, false, is_some, unwrap_or}
+use Rattle.std.proofs.Common.{◌≡◌, ◌≤◌, ℕ, List, [], ◌++◌, length, take, Option, Some, None, IfSome, refl, sym, ap, ◌∙◌, append-nil, subst, arith, Bool, true, false, is_some, unwrap_or, min, length-take}
 use Rattle.std.proofs.lemmas.List.{take_all, take_at}
 use Rattle.std.proofs.KnownBytes.{Consumes-trans}
 use Rattle.std.specs.Io.KnownBytes.{Consumes, IsAtEnd}
@@ -45,3 +45,9 @@ pub not_held : (holds : Option Files) (name text : List ℕ) (held : Bool) → t
     → IfSome holds (λ files. text ≡ part_read (octets_of files name))
 not_held None name text held empty is none = tt
 not_held (Some files) name text held empty is none = empty ∙ sym (none-read (files name) (sym is ∙ none))
+
+pub length-part_read : (octets : List ℕ) → length (part_read octets) ≡ min 67108865 (length octets)
+length-part_read octets = go 67108865 refl
+  where
+    go : (n : ℕ) → n ≡ 67108865 → length (part_read octets) ≡ min n (length octets)
+    go n is = ap length (sym (part_read-by n octets is)) ∙ length-take n octets

@@ -41,3 +41,16 @@ abbrev pub IsReadStop : Code → Type 0
 IsReadStop code.TablesFault = ⊤
 IsReadStop code.Want = ⊤
 IsReadStop other = ⊥
+
+-- the codes that reading a text may end with
+abbrev pub IsTextStop : Code → Type 0
+IsTextStop (code.BadMib fault) = ⊤
+IsTextStop code.Want = ⊤
+IsTextStop other = ⊥
+
+-- the codes that reading a table may end with
+abbrev pub IsLoadStop : Code → Type 0
+IsLoadStop (code.BadMib fault) = ⊤
+IsLoadStop code.TablesFault = ⊤
+IsLoadStop code.Want = ⊤
+IsLoadStop other = ⊥

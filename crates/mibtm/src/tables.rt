@@ -5,7 +5,7 @@ ghost use Rattle.mib_model.specs.declared.kind.Kind.{Kind};
 ghost use Rattle.mib_model.specs.Attempts.{made_into};
 ghost use Rattle.mib_model.specs.DatabaseTexts as Texts;
 ghost use Rattle.mib_model.specs.Reading.{table_of};
-ghost use Rattle.mibtm.specs.Causes.{HasTablesCause};
+ghost use Rattle.mibtm.specs.Causes.{HasTablesCause, IsLoadStop, IsTextStop};
 ghost use Rattle.mibtm.specs.Sources as Sources;
 ghost use Rattle.mibtm.specs.Sources.{Refuses, table_text};
 
@@ -89,7 +89,7 @@ impl TableRow for PlfRow {
 
 // The rows of one table among rows.
 fn rows_of<R: TableRow>(alloc: Global, rows: &[Row]) -> Result<Vec<R>, AllocError>
-    ensures { IfOk result (λ v. v.items ≡ filter_map R.from_row rows.now) }
+    ensures { IfOk result (λ kept. kept.items ≡ filter_map R.from_row rows.now) }
 {
     rows.iter().filter_map(|row| R::from_row(row)).collect(alloc)
 }
@@ -103,4 +103,40 @@ fn file_name(alloc: Global, folder: &str, table: Kind) -> Result<String, AllocEr
     name.push_str(table.name())?;
     name.push_str(".dat")?;
     Ok(name)
+}
+
+// The rows of a table's text.
+fn read_rows<R: TableRow>(alloc: Global, text: &[u8]) -> Result<Vec<R>, Code>
+    ensures told { MatchResult result (λ rows. made_into (filter_map R.from_row) (table_of R.kind text.now) ≡ Ok rows.items) (λ code. Refuses code (table_of R.kind text.now)) }
+    ensures few { IfOk result (λ rows. vec_len rows ≤ 100000) }
+    ensures stop { IfErr result IsTextStop }
+{
+    match read_table(alloc, R::kind(), text) {
+        Ok(rows) => match rows_of(alloc, &rows) {
+            Ok(kept) => Ok(kept),
+            Err(_) => Err(Code::Want),
+        },
+        Err(ReadFault::Mib(fault)) => Err(Code::BadMib(fault)),
+        Err(ReadFault::Memory) => Err(Code::Want),
+    }
+}
+
+// The rows of a table of a folder.
+fn table<R: TableRow, T: Shelf>(
+    alloc: Global,
+    folder: &str,
+    shelf: &mut T,
+) -> Result<Vec<R>, Code>
+    ensures told { IfSome (T.holds shelf.old) (λ files. MatchResult result (λ rows. made_into (filter_map R.from_row) (table_of R.kind (table_text files folder.now R.kind)) ≡ Ok rows.items) (λ code. Refuses code (table_of R.kind (table_text files folder.now R.kind)))) }
+    ensures few { IfOk result (λ rows. vec_len rows ≤ 100000) }
+    ensures ok { OnOk result (T.faults shelf.new ≡ T.faults shelf.old) }
+    ensures cause { IfErr result (λ code. HasTablesCause code (T.faults shelf.old) (T.faults shelf.new)) }
+    ensures stop { IfErr result IsLoadStop }
+    ensures holds { T.holds shelf.new ≡ T.holds shelf.old }
+{
+    let Ok(name) = file_name(alloc, folder, R::kind()) else {
+        return Err(Code::Want);
+    };
+    let text = read_file(alloc, shelf, name.as_str())?;
+    read_rows(alloc, &text)
 }
