@@ -8,6 +8,7 @@ mod run;
 mod tables;
 mod text;
 mod text_file;
+mod unbuilt;
 mod values;
 mod words;
 

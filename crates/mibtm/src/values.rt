@@ -25,7 +25,7 @@ fn parameter_of<'a>(rows: &'a [PcfRow], name: &Name) -> Option<&'a PcfRow>
 }
 
 // The width of an unsigned integer by its format code.
-fn integer_width(pfc: u16) -> Option<u8>
+pub(crate) fn integer_width(pfc: u16) -> Option<u8>
     ensures value { result ≡ Encodings.integer_width pfc }
     ensures most { IfSome result (λ width. width ≤ 64) }
 {
