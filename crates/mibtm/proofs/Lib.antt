@@ -8,3 +8,4 @@ pub mod PlainRecords
 pub mod RunSteps
 pub mod TextFiles
 pub mod TableTexts
+pub mod LoadSteps

@@ -1,16 +1,17 @@
 -- The rows of a text are at most 100,000, and a text that is read in part is refused as the whole is.
-use Rattle.std.proofs.Common.{◌≡◌, ◌≤◌, ◌<◌, ◌+◌, ◌-◌, ℕ, suc, min, Bool, true, false, List, [], ◌∷◌, ◌++◌, length, take, Result, Ok, Err, Option, Some, None, IfSome, IfOk, refl, sym, ap, ◌∙◌, inl, inr, arith, length-take, filter_map, subst}
+use Rattle.std.proofs.Common.{◌≡◌, ◌≤◌, ◌<◌, ◌+◌, ◌-◌, ℕ, suc, min, Bool, true, false, List, [], ◌∷◌, ◌++◌, length, take, Result, Ok, Err, Option, Some, None, IfSome, IfOk, IfErr, Vec, refl, sym, ap, ◌∙◌, inl, inr, arith, length-take, filter_map, subst}
 use Rattle.std.specs.Prelude.{nat_lt}
 use Rattle.std.proofs.lemmas.Bool.{cases_Bool}
 use Rattle.std.specs.List.{cons_option}
 use borrow.Author.Tests.{ltb-true, ltb-false, lt-ltb}
+use Rattle.mib_model.specs.declared.code.Code.{Code}
 use Rattle.mib_model.specs.declared.fault.MibFault.{MibFault}
 use Rattle.mib_model.specs.declared.kind.Kind.{Kind}
 use Rattle.mib_model.specs.declared.rows.Row.{Row}
 use Rattle.mib_model.specs.Attempts.{◌>>=◌, made_into}
 use Rattle.mib_model.specs.Lines.{lines}
 use Rattle.mib_model.specs.Reading.{row_at, rows_from, table_of, is_marked}
-use Rattle.mibtm.specs.Sources.{Files, octets_of, table_file, table_text, part_read}
+use Rattle.mibtm.specs.Sources.{Files, Picks, Refuses, RefusesTable, octets_of, table_file, table_text, part_read}
 use Rattle.mibtm.proofs.TextFiles.{part_read-all, length-part_read}
 
 -- a row that is read has a number of at most 100,000
@@ -78,3 +79,17 @@ pub of_file : (P : Result (List Row) MibFault → Type 0) (table : Kind) (holds 
 of_file P table None folder name text given is same read said = tt
 of_file P table (Some files) folder name text given is same read said =
     subst P (ap (table_of table) (same ∙ read ∙ ap (λ n. part_read (octets_of files n)) is) ∙ table_of-part table (table_text files folder table)) said
+
+-- the same of the answers of a reading
+pub ok_of_file : {R Z : Type 0} (pick : Row → Option R) (table : Kind) (holds : Option Files) (folder name text given : List ℕ) (result : Result (Vec R Z) Code)
+    → name ≡ table_file folder table → given ≡ text → IfSome holds (λ files. text ≡ part_read (octets_of files name))
+    → IfOk result (λ rows. made_into (filter_map pick) (table_of table given) ≡ Ok rows.items) → IfOk result (λ rows. IfSome holds (Picks pick table folder rows.items))
+ok_of_file pick table holds folder name text given (Ok rows) is same read said =
+    of_file (λ r. made_into (filter_map pick) r ≡ Ok rows.items) table holds folder name text given is same read said
+ok_of_file pick table holds folder name text given (Err c) is same read said = tt
+
+pub err_of_file : {X : Type 0} (table : Kind) (holds : Option Files) (folder name text given : List ℕ) (result : Result X Code)
+    → name ≡ table_file folder table → given ≡ text → IfSome holds (λ files. text ≡ part_read (octets_of files name))
+    → IfErr result (λ c. Refuses c (table_of table given)) → IfErr result (λ c. IfSome holds (RefusesTable table folder c))
+err_of_file table holds folder name text given (Ok x) is same read said = tt
+err_of_file table holds folder name text given (Err c) is same read said = of_file (Refuses c) table holds folder name text given is same read said

@@ -3,6 +3,7 @@
 
 mod bits;
 mod kinds;
+mod load;
 mod record;
 mod run;
 mod tables;

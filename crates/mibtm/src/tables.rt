@@ -1,5 +1,5 @@
 // The tables of a folder.
-ghost use Rattle.std.specs.Prelude.{◌≡◌, ◌≤◌, vec_len, string_bytes, filter_map, IfOk, IfErr, OnOk, IfSome, MatchResult, Ok, Option};
+ghost use Rattle.std.specs.Prelude.{◌≡◌, ◌≤◌, vec_len, string_bytes, filter_map, IfOk, IfErr, OnOk, IfSome, Ok, Option};
 ghost use Rattle.mib_model.specs.declared.rows.Row.{Row};
 ghost use Rattle.mib_model.specs.declared.kind.Kind.{Kind};
 ghost use Rattle.mib_model.specs.Attempts.{made_into};
@@ -7,7 +7,7 @@ ghost use Rattle.mib_model.specs.DatabaseTexts as Texts;
 ghost use Rattle.mib_model.specs.Reading.{table_of};
 ghost use Rattle.mibtm.specs.Causes.{HasTablesCause, IsLoadStop, IsTextStop};
 ghost use Rattle.mibtm.specs.Sources as Sources;
-ghost use Rattle.mibtm.specs.Sources.{Refuses, table_text};
+ghost use Rattle.mibtm.specs.Sources.{Picks, Refuses, RefusesTable};
 
 use crate::text_file::read_file;
 use mib_model::{Code, Kind, PcfRow, PidRow, PlfRow, Row};
@@ -107,7 +107,8 @@ fn file_name(alloc: Global, folder: &str, table: Kind) -> Result<String, AllocEr
 
 // The rows of a table's text.
 fn read_rows<R: TableRow>(alloc: Global, text: &[u8]) -> Result<Vec<R>, Code>
-    ensures told { MatchResult result (λ rows. made_into (filter_map R.from_row) (table_of R.kind text.now) ≡ Ok rows.items) (λ code. Refuses code (table_of R.kind text.now)) }
+    ensures told { IfOk result (λ rows. made_into (filter_map R.from_row) (table_of R.kind text.now) ≡ Ok rows.items) }
+    ensures refused { IfErr result (λ code. Refuses code (table_of R.kind text.now)) }
     ensures few { IfOk result (λ rows. vec_len rows ≤ 100000) }
     ensures stop { IfErr result IsTextStop }
 {
@@ -122,12 +123,13 @@ fn read_rows<R: TableRow>(alloc: Global, text: &[u8]) -> Result<Vec<R>, Code>
 }
 
 // The rows of a table of a folder.
-fn table<R: TableRow, T: Shelf>(
+pub(crate) fn table<R: TableRow, T: Shelf>(
     alloc: Global,
     folder: &str,
     shelf: &mut T,
 ) -> Result<Vec<R>, Code>
-    ensures told { IfSome (T.holds shelf.old) (λ files. MatchResult result (λ rows. made_into (filter_map R.from_row) (table_of R.kind (table_text files folder.now R.kind)) ≡ Ok rows.items) (λ code. Refuses code (table_of R.kind (table_text files folder.now R.kind)))) }
+    ensures told { IfOk result (λ rows. IfSome (T.holds shelf.old) (Picks R.from_row R.kind folder.now rows.items)) }
+    ensures refused { IfErr result (λ code. IfSome (T.holds shelf.old) (RefusesTable R.kind folder.now code)) }
     ensures few { IfOk result (λ rows. vec_len rows ≤ 100000) }
     ensures ok { OnOk result (T.faults shelf.new ≡ T.faults shelf.old) }
     ensures cause { IfErr result (λ code. HasTablesCause code (T.faults shelf.old) (T.faults shelf.new)) }
