@@ -9,3 +9,4 @@ pub mod RunSteps
 pub mod TextFiles
 pub mod TableTexts
 pub mod LoadSteps
+pub mod DecodeSteps

@@ -3,3 +3,4 @@ pub mod Causes
 pub mod Run
 pub mod Inputs
 pub mod Sources
+pub mod Tool

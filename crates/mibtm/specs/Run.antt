@@ -43,6 +43,16 @@ Ends code.Want db packets rest left before now old new =
     (length packets ≤ most_packets) × (printed : List (List ℕ)) × (more : List (List ℕ)) × (packets ≡ printed ++ more) × Writes db printed [] old new
 Ends other db packets rest left before now old new = ⊥
 
+-- the codes that a run ends with
+abbrev pub IsRunCode : Code → Type 0
+IsRunCode code.Ok = ⊤
+IsRunCode (code.Cut count) = ⊤
+IsRunCode code.FeedFault = ⊤
+IsRunCode code.OutFault = ⊤
+IsRunCode code.Limit = ⊤
+IsRunCode code.Want = ⊤
+IsRunCode other = ⊥
+
 -- what a run with a code did with the octets that the feed had, if they are told: what was read of them is cut into packets and
 -- a rest, and the code says more
 abbrev pub Ran : Code → Database → Option (List ℕ) → Option (List ℕ) → ℕ → ℕ → Option (List ℕ) → Option (List ℕ) → Type 0

@@ -2,6 +2,7 @@
 #![tactic(auto)]
 
 mod bits;
+mod decode;
 mod kinds;
 mod load;
 mod record;

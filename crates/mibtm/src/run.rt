@@ -5,7 +5,7 @@ ghost use Rattle.mib_model.specs.Database.{database_of};
 ghost use Rattle.mib_model.specs.Texts.{cut_text};
 ghost use Rattle.mibtm.specs.Causes.{HasOutCause, HasFeedCause, HasStopCause, code_of_stop};
 ghost use Rattle.mibtm.specs.Readings.{IsBuilt, plain_record};
-ghost use Rattle.mibtm.specs.Run.{Ran, StopsAt};
+ghost use Rattle.mibtm.specs.Run.{IsRunCode, Ran, StopsAt};
 ghost use Rattle.packet_feed.specs.declared.feed.TheConstants.{PACKET_SIZE};
 
 use crate::record::add_record;
@@ -27,7 +27,8 @@ pub enum Stop {
 
 impl Stop {
     fn code(self) -> Code
-        ensures { result ≡ code_of_stop self }
+        ensures code { result ≡ code_of_stop self }
+        ensures run { IsRunCode result }
     {
         match self {
             Stop::Memory => Code::Want,
@@ -103,6 +104,7 @@ fn print_packets<S: Source, O: Sink>(
     requires room { length frame.old ≡ PACKET_SIZE }
     requires built { IsBuilt (database_of tables.now) }
     ensures ran { Ran result (database_of tables.now) (S.left source.old) (S.left source.new) (S.faults source.old) (S.faults source.new) (O.written out.old) (O.written out.new) }
+    ensures code { IsRunCode result }
     ensures feed { HasFeedCause result (S.faults source.old) (S.faults source.new) }
     ensures out { HasOutCause result (O.faults out.old) (O.faults out.new) }
     ensures missed { S.missed source.new ≡ S.missed source.old }
@@ -139,6 +141,7 @@ fn print_all<S: Source, O: Sink>(
 ) -> Code
     requires { IsBuilt (database_of tables.now) }
     ensures ran { Ran result (database_of tables.now) (S.left source.old) (S.left source.new) (S.faults source.old) (S.faults source.new) (O.written out.old) (O.written out.new) }
+    ensures code { IsRunCode result }
     ensures feed { HasFeedCause result (S.faults source.old) (S.faults source.new) }
     ensures out { HasOutCause result (O.faults out.old) (O.faults out.new) }
     ensures missed { S.missed source.new ≡ S.missed source.old }
@@ -160,6 +163,7 @@ pub(crate) fn run<S: Source, O: Sink>(
 ) -> Code
     requires { IsBuilt (database_of tables.now) }
     ensures ran { Ran result (database_of tables.now) (S.left source.old) (S.left source.new) (S.faults source.old) (S.faults source.new) (O.written out.old) (O.written out.new) }
+    ensures code { IsRunCode result }
     ensures feed { HasFeedCause result (S.faults source.old) (S.faults source.new) }
     ensures out { HasOutCause result (O.faults out.old) (O.faults out.new) }
     ensures missed { S.missed source.new ≡ S.missed source.old }
