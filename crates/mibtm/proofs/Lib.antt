@@ -10,3 +10,4 @@ pub mod TextFiles
 pub mod TableTexts
 pub mod LoadSteps
 pub mod DecodeSteps
+pub mod ToolSteps

@@ -4,7 +4,7 @@ ghost use Rattle.mib_model.specs.Database.{database_of};
 ghost use Rattle.mibtm.specs.Causes.{HasTablesCause, HasFeedCause, HasOutCause};
 ghost use Rattle.mibtm.specs.Readings.{IsBuilt};
 ghost use Rattle.mibtm.specs.Sources.{database_in};
-ghost use Rattle.mibtm.specs.Tool.{AnswersTables, Decodes, IsBeforeRun, IsFeedCode};
+ghost use Rattle.mibtm.specs.Tool.{AnswersTables, Decodes, IsBeforeFeed, IsBeforeRun, IsDecodeCode, IsFeedCode};
 
 use crate::load::load;
 use crate::run::run;
@@ -31,5 +31,29 @@ fn decode_feed<F: Shelf, O: Sink>(
         Ok(true) => run(alloc, tables, feed, out),
         Ok(false) => Code::NoFile(Input::Feed),
         Err(_) => Code::FeedFault,
+    }
+}
+
+/// Prints the feed of that name by the tables of a folder.
+pub(crate) fn decode<T: Shelf, F: Shelf, O: Sink>(
+    alloc: Global,
+    folder: &str,
+    name: &str,
+    tables: &mut T,
+    feed: &mut F,
+    out: &mut O,
+) -> Code
+    ensures tables { IfSome (T.holds tables.old) (λ files. AnswersTables result (database_in files folder.now)) }
+    ensures decodes { IfSome (T.holds tables.old) (λ files. IfOk (database_in files folder.now) (λ db. IfSome (F.holds feed.old) (λ feeds. Decodes result db (feeds name.now) (record { missed_before = F.missed feed.old; missed_now = F.missed feed.new; faults_before = F.faults feed.old; faults_now = F.faults feed.new; left = F.left feed.new; old = O.written out.old; new = O.written out.new })))) }
+    ensures code { IsDecodeCode result }
+    ensures tables_cause { HasTablesCause result (T.faults tables.old) (T.faults tables.new) }
+    ensures feed_cause { HasFeedCause result (F.faults feed.old) (F.faults feed.new) }
+    ensures out_cause { HasOutCause result (O.faults out.old) (O.faults out.new) }
+    ensures before_feed { IsBeforeFeed result → feed.new ≡ feed.old }
+    ensures before_run { IsBeforeRun result → out.new ≡ out.old }
+{
+    match load(alloc, folder, tables) {
+        Ok(database) => decode_feed(alloc, &database, name, feed, out),
+        Err(code) => code,
     }
 }

@@ -10,6 +10,7 @@ mod run;
 mod tables;
 mod text;
 mod text_file;
+mod tool;
 mod unbuilt;
 mod values;
 mod words;
