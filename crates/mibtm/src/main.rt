@@ -70,3 +70,6 @@ fn main(rt: HostRuntime) -> ExitCode {
     tell(rt, &code);
     ExitCode::from(code.number())
 }
+
+#[cfg(test)]
+mod tests;
