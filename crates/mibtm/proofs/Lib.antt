@@ -11,3 +11,4 @@ pub mod TableTexts
 pub mod LoadSteps
 pub mod DecodeSteps
 pub mod ToolSteps
+pub mod Completeness

@@ -1,5 +1,5 @@
 -- What a call of the tool for `decode` answers and leaves. [This profile.]
-use Rattle.std.specs.Prelude.{◌≡◌, ℕ, ◌⊎◌, List, [], ◌++◌, Option, Some, None, Result, Err, IsOk, ⊤}
+use Rattle.std.specs.Prelude.{◌≡◌, ℕ, ◌⊎◌, List, [], ◌++◌, Option, Some, None, Result, Err, IsOk, ⊤, ◌<◌, ◌+◌, ◌^◌, length}
 use Rattle.std.specs.List.{All, concat}
 use Rattle.std.specs.Io.KnownBytes.{Appends}
 use Rattle.mib_model.specs.declared.code.Code.{Code}
@@ -7,9 +7,10 @@ use Rattle.mib_model.specs.declared.code.Code.TheVariants as code
 use Rattle.mib_model.specs.declared.code.Input.TheVariants as input
 use Rattle.mib_model.specs.declared.database.Database.{Database}
 use Rattle.mib_model.specs.declared.fault.MibFault.{MibFault}
-use Rattle.mib_model.specs.Packets.{IsPacket}
+use Rattle.mib_model.specs.Packets.{IsPacket, IsCut}
+use Rattle.mib_model.specs.Texts.{cut_text}
 use Rattle.mibtm.specs.Causes.{Failed}
-use Rattle.mibtm.specs.Run.{Ran, Writes}
+use Rattle.mibtm.specs.Run.{Ran, Writes, most_packets}
 
 -- the codes of `decode`: those of wrong words, of a desk and of replies never come
 abbrev pub IsDecodeCode : Code → Type 0
@@ -98,3 +99,18 @@ DecodesSome other db octets s = RanSo other db octets s
 abbrev pub Decodes : Code → Database → Option (List ℕ) → Standing → Type 0
 Decodes c db None s = DecodesNone c s
 Decodes c db (Some octets) s = DecodesSome c db octets s
+
+-- what was printed of a whole feed
+abbrev pub Completes : Code → Database → List ℕ → Option (List ℕ) → Option (List ℕ) → Type 0
+Completes code.Ok db octets old new = (packets : List (List ℕ)) × IsCut octets packets [] × Writes db packets [] old new
+Completes (code.Cut count) db octets old new =
+    (packets : List (List ℕ)) × (rest : List ℕ) × IsCut octets packets rest × (length rest ≡ count) × Writes db packets (cut_text count) old new
+Completes code.Limit db octets old new =
+    (packets : List (List ℕ)) × (more : List ℕ) × (octets ≡ concat packets ++ more) × All IsPacket packets × (length packets ≡ most_packets) × Writes db packets [] old new
+Completes code.Want db octets old new = ⊤
+Completes other db octets old new = ⊥
+
+-- a count of faults that didn't rise, and could still
+pub record IsUnfailed (before now : ℕ) : Type 0 where
+  pub same : now ≡ before
+  pub more : before + 1 < 2 ^ 64

@@ -7,6 +7,7 @@
 #![tactic(auto)]
 
 mod bits;
+mod buffer;
 mod code_text;
 mod decode;
 mod kinds;

@@ -1,5 +1,5 @@
 // A run: packets are read and printed one after the other.
-ghost use Rattle.std.specs.Prelude.{◌≡◌, ◌≤◌, ◌<◌, length, vec_len, IfOk, OnOk, IfErr};
+ghost use Rattle.std.specs.Prelude.{◌≡◌, ◌≤◌, ◌<◌, length, IfOk, OnOk, IfErr};
 ghost use Rattle.std.specs.Io.KnownBytes.{Appends};
 ghost use Rattle.mib_model.specs.Database.{database_of};
 ghost use Rattle.mib_model.specs.Texts.{cut_text};
@@ -8,11 +8,12 @@ ghost use Rattle.mibtm.specs.Readings.{IsBuilt, plain_record};
 ghost use Rattle.mibtm.specs.Run.{IsRunCode, Ran, StopsAt};
 ghost use Rattle.packet_feed.specs.declared.feed.TheConstants.{PACKET_SIZE};
 
+use crate::buffer::zeros;
 use crate::record::add_record;
 use crate::text::add_cut;
 use mib_model::{Code, Tables};
 use packet_feed::{Feed, Next, PACKET_SIZE};
-use std::alloc::{AllocError, Global};
+use std::alloc::Global;
 use tm_io::{Sink, Source, write_all};
 
 // The most packets of a run.
@@ -84,13 +85,6 @@ fn print_cut<O: Sink>(text: &mut Vec<u8>, octets: u32, out: &mut O) -> Result<()
         return Err(Stop::Memory);
     }
     print(text, out)
-}
-
-// A buffer of so many octets. The size is no literal here, since a proof would write it out as a list.
-fn zeros(alloc: Global, size: usize) -> Result<Vec<u8>, AllocError>
-    ensures { IfOk result (λ v. vec_len v ≡ size) }
-{
-    Vec::from_elem(alloc, 0, size)
 }
 
 // Prints the packets of a source up to its end, a fault or the limit. The buffers are for a packet and its record.

@@ -3,8 +3,9 @@ ghost use Rattle.std.specs.Prelude.{◌≡◌, ◌≤◌, length, vec_len, IfOk,
 ghost use Rattle.mibtm.specs.Causes.{HasTablesCause, IsReadStop};
 ghost use Rattle.mibtm.specs.Sources.{octets_of, part_read};
 
+use crate::buffer::zeros;
 use mib_model::Code;
-use std::alloc::{AllocError, Global};
+use std::alloc::Global;
 use tm_io::{Shelf, Source};
 
 // The most octets of a text that are read: one more than a table may have.
@@ -12,13 +13,6 @@ const TEXT_MOST: usize = 67_108_865;
 
 // The octets that are read at once.
 const CHUNK_SIZE: usize = 65_536;
-
-// A buffer of so many octets. The size is no literal here, since a proof would write it out as a list.
-fn zeros(alloc: Global, size: usize) -> Result<Vec<u8>, AllocError>
-    ensures { IfOk result (λ v. vec_len v ≡ size) }
-{
-    Vec::from_elem(alloc, 0, size)
-}
 
 // Reads a source to its end, or to the most octets that are read, in pieces that the buffer has room for.
 fn read_into<S: Source>(source: &mut S, chunk: &mut [u8], text: &mut Vec<u8>) -> Result<(), Code>

@@ -1,8 +1,9 @@
-ghost use Rattle.std.specs.Prelude.{◌≡◌, map, string_bytes, IfSome, IfOk, MatchResult};
+ghost use Rattle.std.specs.Prelude.{◌≡◌, ℕ, List, Option, Some, Ok, map, string_bytes, IfSome, IfOk, MatchResult};
+ghost use Rattle.mib_model.specs.declared.database.Database.{Database};
 ghost use Rattle.mibtm.specs.Causes.{HasTablesCause, HasFeedCause, HasOutCause};
 ghost use Rattle.mibtm.specs.Inputs.{inputs_in};
 ghost use Rattle.mibtm.specs.Sources.{database_in};
-ghost use Rattle.mibtm.specs.Tool.{AnswersTables, Decodes, IsBeforeFeed, IsBeforeRun, IsDecodeCode, IsUsage};
+ghost use Rattle.mibtm.specs.Tool.{AnswersTables, Completes, Decodes, IsBeforeFeed, IsBeforeRun, IsDecodeCode, IsUnfailed, IsUsage, Standing};
 
 use crate::decode::decode;
 use crate::words::inputs;
@@ -66,3 +67,13 @@ pub fn tool<
     };
     Status { code }
 }
+
+/// Where the tables are accepted, the feed is held and nothing fails, a call decodes the feed whole, unless memory
+/// runs out.
+pub fn decoding_is_complete()
+    ensures { (c : Code) (db : Database) (octets : List ℕ) (s : Standing) (tables tables_now out out_now : ℕ)
+        → IsDecodeCode c → AnswersTables c (Ok db) → Decodes c db (Some octets) s
+        → HasTablesCause c tables tables_now → HasFeedCause c s.faults_before s.faults_now → HasOutCause c out out_now
+        → IsUnfailed tables tables_now → IsUnfailed s.faults_before s.faults_now → IsUnfailed out out_now
+        → Completes c db octets s.old s.new }
+{}

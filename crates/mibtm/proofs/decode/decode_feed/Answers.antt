@@ -1,12 +1,6 @@
 use Rattle.mib_model.specs.Database.{database_of}
-use Rattle.mibtm.proofs.DecodeSteps.{fed, run-is_feed, run-not_before}
+use Rattle.mibtm.proofs.DecodeSteps.{fed}
 use Rattle.mibtm.proofs.decode.decode_feed.Goals as goal
-
-pub returns-in-Ok-true-clause-code : goal.returns-in-Ok-true-clause-code
-returns-in-Ok-true-clause-code g c = run-is_feed c.run.result c.run.ensures.code
-
-pub returns-in-Ok-true-clause-before_run : goal.returns-in-Ok-true-clause-before_run
-returns-in-Ok-true-clause-before_run g c = λ before. absurd (run-not_before c.run.result c.run.ensures.code before)
 
 pub returns-in-Ok-true-clause-decodes : goal.returns-in-Ok-true-clause-decodes
 returns-in-Ok-true-clause-decodes g c =

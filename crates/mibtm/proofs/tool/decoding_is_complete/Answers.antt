@@ -1,0 +1,5 @@
+use Rattle.mibtm.proofs.Completeness.{completes}
+use Rattle.mibtm.proofs.tool.decoding_is_complete.Goals as goal
+
+pub returns : goal.returns
+returns c = completes
