@@ -9,7 +9,8 @@ use native.Mathlib.Decide.{ℕ_discrete}
 use Rattle.histories.specs.declared.history.Move.{Move}
 use Rattle.histories.specs.History.{move, moves_of}
 use Rattle.turn_cell.specs.declared.view.Holding.{Holding}
-use Rattle.turn_cell.specs.Views.{bit, holding, holdings_below, times, least, greatest, listed, AreListed, with_move, is_spare, is_handed, handed, kept}
+use Rattle.turn_cell.specs.Standings.{bit}
+use Rattle.turn_cell.specs.Views.{holding, holdings_below, times, least, greatest, listed, AreListed, with_move, is_spare, is_handed, handed, kept}
 
 -- the least of two is one of them
 min_is : (x y : ℕ) → (min x y ≡ x) ⊎ (min x y ≡ y)

@@ -16,7 +16,8 @@ use Rattle.turn_cell.specs.declared.slot.Slot.{Slot}
 use Rattle.turn_cell.specs.declared.slot.Slot.TheVariants.{Home}
 use Rattle.turn_cell.specs.declared.view.Standing.TheVariants.{Idle}
 use Rattle.turn_cell.specs.declared.view.View.{View}
-use Rattle.turn_cell.specs.Views.{bit, has_ticket, has_turn, times, least, AreListed, is_handed, longer, newcomer, split_left, split_right, joined, spent}
+use Rattle.turn_cell.specs.Standings.{bit, has_ticket, has_turn}
+use Rattle.turn_cell.specs.Views.{times, least, AreListed, is_handed, longer, newcomer, split_left, split_right, joined, spent}
 use Rattle.turn_cell.specs.Rule.{Fits, Free, Busy, Kept}
 use Rattle.turn_cell.proofs.Sums.{sum_by-set_at}
 use Rattle.turn_cell.proofs.Holdings.{least_held, times-append, times-split, length-split, times-below_none, times-below_one, length-below, AreListed-append, AreListed-filter, AreListed-below}

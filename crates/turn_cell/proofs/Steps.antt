@@ -16,7 +16,8 @@ use Rattle.turn_cell.specs.declared.slot.Slot.TheVariants.{Home, Noted, Out}
 use Rattle.turn_cell.specs.declared.view.Standing.{Standing}
 use Rattle.turn_cell.specs.declared.view.Standing.TheVariants.{Idle, Waiting, InTurn, Entered}
 use Rattle.turn_cell.specs.declared.view.View.{View}
-use Rattle.turn_cell.specs.Views.{bit, has_ticket, has_turn, has_entered, ticket_of, times, least, listed, view, drawn, turned, entered, idle}
+use Rattle.turn_cell.specs.Standings.{bit, has_ticket, has_turn, has_entered, ticket_of}
+use Rattle.turn_cell.specs.Views.{times, least, listed, view, drawn, turned, entered, idle}
 use Rattle.turn_cell.specs.Rule.{Fits, Free, Busy, Kept, Looks, Makes, Settles}
 use Rattle.turn_cell.proofs.Sums.{sum_by-set_at, one-le-sum_by, two-le-sum_by, sum_by-le_at}
 use Rattle.turn_cell.proofs.Holdings.{least_held, moves_of_is, moves_of-own, moves_of-other, AreListed-with_move, AreListed-other, times-with_move, length-with_move}

@@ -10,7 +10,8 @@ use Rattle.histories.specs.History.{moves_of, IsLegal, IsOfSeatsBelow, Permits, 
 use Rattle.turn_cell.specs.declared.slot.Slot.{Slot}
 use Rattle.turn_cell.specs.declared.slot.Slot.TheVariants.{Home, Noted}
 use Rattle.turn_cell.specs.declared.view.View.{View}
-use Rattle.turn_cell.specs.Views.{bit, has_ticket, has_turn, has_entered, ticket_of, times, least, AreListed, turned, entered, idle, spent}
+use Rattle.turn_cell.specs.Standings.{bit, has_ticket, has_turn, has_entered, ticket_of}
+use Rattle.turn_cell.specs.Views.{times, least, AreListed, turned, entered, idle, spent}
 
 module _ {C E A : Type 0} where
   -- one seat's view fits the words and the history

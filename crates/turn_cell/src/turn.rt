@@ -1,4 +1,5 @@
-//! The lock, its seats, and the calls that wait for nobody but `enter`.
+//! The lock, its seats and the state in hand. Tickets are drawn, and served in their order (Reed and Kanodia,
+//! Synchronization with Eventcounts and Sequencers, 1979).
 ghost use Rattle.std.specs.Prelude.{◌≡◌, ◌⊎◌, ◌^◌, ◌<◌, ◌≤◌, [], ◌∷◌, ◌++◌, length, IfOk};
 ghost use Rattle.histories.specs.History.{move, moves_of, IsLegal, IsOfSeatsBelow, Permits, StartsWith, state_after};
 ghost use Rattle.turn_cell.specs.Views.{AreListed, handed, holdings_below, kept, with_move};
@@ -145,7 +146,7 @@ impl<S: Machine + Drop> Turn<S> {
 
 impl<S: Machine + Drop> Turn<S> {
     ghost use Rattle.std.specs.Prelude.{true, false};
-    ghost use Rattle.turn_cell.specs.Views.{has_entered, has_ticket, has_turn, ticket_of};
+    ghost use Rattle.turn_cell.specs.Standings.{has_entered, has_ticket, has_turn, ticket_of};
     ghost use Rattle.turn_cell.specs.Rule.{Seizes};
     ghost use Rattle.turn_cell.specs.Seats.{first_state, holdings_of, number_of, own_moves, seen_by, HasEntered, HasTurn, IsIdle, IsSeatOf};
 

@@ -4,7 +4,8 @@ use Rattle.histories.specs.declared.history.Move.{Move}
 use Rattle.histories.specs.History.{move}
 use Rattle.turn_cell.specs.declared.slot.Slot.TheVariants.{Noted}
 use Rattle.turn_cell.specs.declared.view.Holding.{Holding}
-use Rattle.turn_cell.specs.Views.{has_entered, has_turn, least, with_move}
+use Rattle.turn_cell.specs.Standings.{has_entered, has_turn}
+use Rattle.turn_cell.specs.Views.{least, with_move}
 use Rattle.turn_cell.proofs.Holdings.{least-with_move, own-with_move}
 use Rattle.turn_cell.proofs.Steps.{makes, state_after-move}
 use Rattle.turn_cell.proofs.turn.Turn+S.append.Goals as goal

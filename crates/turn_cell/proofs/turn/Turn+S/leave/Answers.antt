@@ -2,7 +2,7 @@ use Rattle.std.proofs.Common.{rules, sym, ap, ◌∙◌, ◌∷◌, arith}
 use Rattle.atomic_table.specs.Table.{rest}
 use Rattle.histories.specs.History.{state_after}
 use Rattle.turn_cell.specs.declared.slot.Slot.TheVariants.{Home, Noted}
-use Rattle.turn_cell.specs.Views.{has_entered}
+use Rattle.turn_cell.specs.Standings.{has_entered}
 use Rattle.turn_cell.proofs.Steps.{passes}
 use Rattle.turn_cell.proofs.turn.Turn+S.leave.Goals as goal
 

@@ -1,5 +1,5 @@
 use Rattle.std.proofs.Common.{sym, ap, subst, ◌∙◌, arith}
-use Rattle.turn_cell.specs.Views.{has_ticket, has_turn, ticket_of}
+use Rattle.turn_cell.specs.Standings.{has_ticket, has_turn, ticket_of}
 use Rattle.turn_cell.specs.Rule.{Seizes}
 use Rattle.turn_cell.proofs.Steps.{looks}
 use Rattle.turn_cell.proofs.turn.Turn+S.wait_turn.Goals as goal
