@@ -1,13 +1,12 @@
-// A library with one function.
+//! A window of fixed room in which results that come in any order wait for their turn, and are taken in the order of
+//! their numbers, from 1 on.
+//!
+//! After `new` no call takes memory, and each takes constant time. Stands on the standard library alone.
 #![tactic(auto)]
 
-ghost use Rattle.std.specs.Prelude.{◌≡◌};
-ghost use Rattle.commit_order.specs.Echo.{echo_of};
+mod window;
 
-// The `ensures` clause is the contract: what `echo` returns is `echo_of` of its argument, a definition
-// in `specs/Echo.antt`, which a caller's clause can cite too.
-pub fn echo(x: usize) -> usize
-    ensures { result ≡ echo_of x }
-{
-    x
-}
+pub use window::{Placed, Window};
+
+#[cfg(test)]
+mod tests;
