@@ -1,13 +1,17 @@
-// A library with one function.
+//! Workers that take cells, work them and give results.
+//!
+//! `run_batch` works a whole list of cells, and waits for nobody. `Pool::serve` runs workers between two queues: each gets
+//! cells, works them and puts the results, until it gets a cell of number 0. Stands on `tm_io` for the gate and on
+//! `work_queue` for the queues.
 #![tactic(auto)]
 
-ghost use Rattle.std.specs.Prelude.{◌≡◌};
-ghost use Rattle.decode_pool.specs.Echo.{echo_of};
+mod batch;
+mod pool;
+mod work;
 
-// The `ensures` clause is the contract: what `echo` returns is `echo_of` of its argument, a definition
-// in `specs/Echo.antt`, which a caller's clause can cite too.
-pub fn echo(x: usize) -> usize
-    ensures { result ≡ echo_of x }
-{
-    x
-}
+pub use batch::run_batch;
+pub use pool::Pool;
+pub use work::{Work, each_result_is_of_its_job};
+
+#[cfg(test)]
+mod tests;
