@@ -37,7 +37,8 @@ use Rattle.mib_model.specs.Soundness.{flaws}
 use Rattle.mib_model.specs.Texts.{head_text, value_text, record_body, record_text}
 use Rattle.mib_model.specs.Touched.{same_slice, touched}
 use Rattle.mib_model.specs.Unbuilt.{unbuilt}
-use Rattle.mib_model.specs.Walk.{structure, deduced, step, walked, structure_values}
+use Rattle.mib_model.specs.Structures.{structure, deduced}
+use Rattle.mib_model.specs.Walk.{step, walked, structure_values}
 use Rattle.mib_model.specs.WholeNumbers.{decimal_whole, whole_number}
 use Rattle.mib_model.specs.Words.{parted, command_of}
 use Rattle.mib_model.specs.Writing.{decimal_text}

@@ -3,7 +3,7 @@ use Rattle.std.proofs.Common.{◌≡◌, ◌≢◌, ℕ, zero, suc, ◌+◌, ◌
 use Rattle.std.proofs.Math.Dec.{eqb-suc-zero}
 use Rattle.std.specs.List.{repeat}
 use Rattle.mib_model.specs.declared.rows.VpdRow.{VpdRow}
-use Rattle.mib_model.specs.Walk.{group_repeated}
+use Rattle.mib_model.specs.Structures.{group_repeated}
 
 -- the groups of the first n rows end among these
 abbrev pub Fits : ℕ → List VpdRow → Type 0

@@ -20,7 +20,7 @@ use Rattle.mib_model.specs.Keys.{key_in, same_key}
 use Rattle.mib_model.specs.Orders.{sorted_by}
 use Rattle.mib_model.specs.RowFlaws.{cur_rules, caf_rules, cap_rules, txp_rules, ocf_rules, ocp_rules}
 use Rattle.mib_model.specs.Soundness.{IsSound, flaws}
-use Rattle.mib_model.specs.Walk.{structure}
+use Rattle.mib_model.specs.Structures.{structure}
 use Rattle.mib_laws.proofs.Options.{option_map-none, or-false, position-none}
 use Rattle.mib_laws.proofs.Nesting.{Fits, Nested, Good, good-rows}
 use Rattle.mib_laws.proofs.Sorting.{Ascending, Different, all-sorted, sorted-ascending, count-sorted, count-before, by_pos}

@@ -8,7 +8,8 @@ use Rattle.mib_model.specs.declared.packet.Ended.TheVariants as ended
 use Rattle.mib_model.specs.declared.rows.VpdRow.{VpdRow}
 use Rattle.mib_model.specs.Bits.{raw_number}
 use Rattle.mib_model.specs.Fixed.{most_values}
-use Rattle.mib_model.specs.Walk.{Extracted, Walking, Step, Goes, Ends, Typed, typed, subject, structure, step, step_from, on_row, on_subject, try_value, after_value, with_value, chosen, group_repeated, times, is_yes, lies_outside, walked, on_step}
+use Rattle.mib_model.specs.Structures.{Typed, typed, subject, structure, group_repeated, times, is_yes}
+use Rattle.mib_model.specs.Walk.{Extracted, Walking, Step, Goes, Ends, step, step_from, on_row, on_subject, try_value, after_value, with_value, chosen, lies_outside, walked, on_step}
 use Rattle.mib_laws.proofs.Choices.{choice}
 use Rattle.mib_laws.proofs.Nesting.{lead, Good, good-group, lead-group}
 
