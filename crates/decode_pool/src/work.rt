@@ -19,5 +19,4 @@ pub trait Work {
 /// twice.
 pub fn each_result_is_of_its_job<W: Work>()
     ensures { EachResultIsOfItsJob W.made W.Cell.number_of }
-{
-}
+{}
