@@ -1,12 +1,12 @@
 -- Each result that was taken is of its job.
-use Rattle.std.proofs.Common.{◌≡◌, ◌≢◌, ◌==◌, ◌&&◌, ◌<◌, ◌+◌, not, ℕ, zero, suc, Bool, true, false, List, [], ◌∷◌, ◌++◌, length, get_or, sym, refl, ap, ◌∙◌, subst, arith, IsPermutation, ⊎_elim}
+use Rattle.std.proofs.Common.{◌≡◌, ◌≢◌, ◌<◌, ℕ, zero, suc, Bool, true, false, List, [], ◌∷◌, ◌++◌, length, get_or, sym, refl, ap, ◌∙◌, subst, arith, ⊎_elim}
 use Rattle.std.specs.List.{Contains, IsDistinct, AllByRecursion}
 use Rattle.std.proofs.lemmas.Bool.{cases_order}
 use Rattle.std.proofs.lemmas.List.Elements.{Contains-append_left}
 use Rattle.std.proofs.lemmas.List.Sorted.{IsPermutation-sym, Contains-permutation}
-use Rattle.std.proofs.lemmas.Map.Keys.{IsDistinct-head, IsDistinct-tail, IsDistinct-cons, IsDistinct-IsPermutation, apart_from_distinct}
+use Rattle.std.proofs.lemmas.Map.Keys.{IsDistinct-IsPermutation, apart_from_distinct}
 use Rattle.decode_pool.specs.Served.{EachMade}
-use Rattle.decode_pool.specs.Flow.{KeepsNumber, shares_number, HasDistinctNumbers, Flows, IsOfItsJob, EachResultIsOfItsJob}
+use Rattle.decode_pool.specs.Flow.{KeepsNumber, shares_number, HasDistinctNumbers, EachResultIsOfItsJob}
 
 module _ {J : Type 0} (made : J → J → Type 0) (number : J → ℕ) where
   abbrev shares : J → J → Bool

@@ -1,5 +1,5 @@
 -- The passes of all workers, cut into pairs.
-use Rattle.std.proofs.Common.{◌≡◌, ◌<◌, ◌≤◌, ◌+◌, ◌-◌, ◌*◌, ◌/◌, ◌%◌, ℕ, zero, suc, List, [], ◌∷◌, ◌++◌, length, take, drop, sym, refl, ap, ◌∙◌, subst, arith}
+use Rattle.std.proofs.Common.{◌≡◌, ◌<◌, ◌*◌, ◌/◌, ◌%◌, ℕ, zero, suc, List, [], ◌∷◌, ◌++◌, length, take, drop, sym, refl, subst, arith}
 use Rattle.std.specs.Fork.{slice_chunk, IsChunk}
 use Rattle.work_queue.specs.declared.queue.Queue.{Queue}
 use Rattle.work_queue.specs.declared.queue.Pass.{Pass}
