@@ -8,6 +8,7 @@ mod curves;
 mod field;
 mod fields;
 mod forms;
+mod keys;
 mod lines;
 mod packets;
 mod parameters;
@@ -17,4 +18,4 @@ mod rows;
 mod table;
 
 pub use read_fault::ReadFault;
-pub use table::read_table;
+pub use table::{read_key, read_row, read_table};
