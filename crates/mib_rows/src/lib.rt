@@ -25,3 +25,6 @@ mod write;
 pub use read_fault::ReadFault;
 pub use table::{read_key, read_row, read_table};
 pub use write::write_row;
+
+#[cfg(test)]
+mod tests;
