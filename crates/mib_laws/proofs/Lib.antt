@@ -3,3 +3,7 @@ mod Choices
 pub mod RunFacts
 pub mod PlainRunFacts
 pub mod RegisterFacts
+mod Nesting
+mod WalkFacts
+mod Sorting
+mod SoundStructures

@@ -25,6 +25,7 @@ pub mod Headers
 pub mod Packets
 pub mod Match
 pub mod Fixed
+pub mod Structures
 pub mod Walk
 pub mod Kept
 pub mod Calibrated
