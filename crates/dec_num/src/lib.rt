@@ -11,3 +11,6 @@ mod zeros;
 
 pub use digits::{are_digits, digits_number};
 pub use read::read_dec;
+
+#[cfg(test)]
+mod tests;

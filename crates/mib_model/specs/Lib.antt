@@ -17,6 +17,7 @@ pub mod PacketTables
 pub mod CurveTables
 pub mod Writing
 pub mod RowTexts
+pub mod Fitting
 pub mod Reading
 pub mod DatabaseTexts
 pub mod Parameters

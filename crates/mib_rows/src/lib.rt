@@ -5,16 +5,26 @@
 #![tactic(auto)]
 
 mod curves;
+mod curves_lines;
 mod field;
 mod fields;
 mod forms;
+mod keys;
+mod line_writer;
 mod lines;
 mod packets;
+mod packets_lines;
 mod parameters;
+mod parameters_lines;
 mod read_fault;
 mod row;
 mod rows;
 mod table;
+mod write;
 
 pub use read_fault::ReadFault;
-pub use table::read_table;
+pub use table::{read_key, read_row, read_table};
+pub use write::write_row;
+
+#[cfg(test)]
+mod tests;
