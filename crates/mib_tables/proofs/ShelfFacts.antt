@@ -1,13 +1,14 @@
 -- The database that 15 lists are: its tables, and what a change of one list makes of it.
-use Rattle.std.proofs.Common.{◌≡◌, ◌≢◌, ℕ, ◌<◌, ◌≤◌, Bool, true, false, cond, if◌then◌else◌, List, [], ◌∷◌, map, length, get_or, set, refl, ap, sym, ◌∙◌, subst, true≢false, arith}
+use Rattle.std.proofs.Common.{◌≡◌, ◌≢◌, ◌<◌, ◌≤◌, Bool, true, false, cond, List, [], ◌∷◌, length, set, replicate, refl, ap, sym, ◌∙◌, subst, true≢false, arith}
 use Rattle.std.proofs.Math.Path.{fun_ext}
-use Rattle.std.proofs.lemmas.List.{get_or-set_same, get_or-set_other, length-set, get_or-map, map-set}
-use Rattle.std.proofs.lemmas.List.Elements.{All-head, All-tail}
+use Rattle.std.proofs.lemmas.List.{get_or-set_same, get_or-set_other, get_or-replicate, length-set}
+use Rattle.std.proofs.lemmas.List.Elements.{All-head, All-nil, All-tail}
 use Rattle.mib_model.specs.declared.kind.Kind.{Kind}
 use Rattle.mib_model.specs.declared.kind.Kind.TheVariants as kind
 use Rattle.mib_model.specs.declared.rows.Row.{Row}
 use Rattle.mib_model.specs.declared.rows.Row.TheVariants as row
 use Rattle.mib_model.specs.declared.database.Database.{Database}
+use Rattle.mib_model.specs.Database.{no_rows}
 use Rattle.mib_model.specs.DatabaseTexts.{database_by}
 use Rattle.mib_model.specs.Drafts.{rows_of, with_rows, same_kind}
 use Rattle.mib_model.specs.RowTexts.{kind_in}
@@ -143,3 +144,19 @@ tables-set lists are k rows own few = record {
   own = λ j. let P : List Row → Type 0 = AreOf j in subst P (sym (list-set lists k rows (place_within lists are k) j)) (own_of_both j k (same_kind j k) refl rows (list_of lists j) own (are.own j));
   few = λ j. let P : List Row → Type 0 = λ xs. length xs ≤ 1000000000 in subst P (sym (list-set lists k rows (place_within lists are k) j)) (few_of_both (same_kind j k) rows (list_of lists j) few (are.few j));
 }
+
+none_in : (k : Kind) → list_of (replicate 15 []) k ≡ []
+none_in k = get_or-replicate 15 (kind_place k) [] [] (place_fits k)
+
+-- 15 lists of no rows are tables
+pub tables_none : AreTables (replicate 15 [])
+tables_none = record {
+  fifteen = refl;
+  own = λ k. let P : List Row → Type 0 = AreOf k in let Q : Row → Type 0 = λ r. kind_in r ≡ k in subst P (sym (none_in k)) (All-nil Q);
+  few = λ k. let P : List Row → Type 0 = λ xs. length xs ≤ 1000000000 in let none : length {A = Row} [] ≤ 1000000000 = omega arith in subst P (sym (none_in k)) none;
+}
+
+-- and have no rows
+pub database_none : database_in (replicate 15 []) ≡ no_rows
+unfolding database_in
+database_none = refl

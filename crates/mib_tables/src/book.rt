@@ -1,18 +1,19 @@
-ghost use Rattle.std.specs.Prelude.{◌≡◌, ◌≤◌, length, IfOk, OnOk, OnErr, slice_get};
+ghost use Rattle.std.specs.Prelude.{◌≡◌, ◌≤◌, length, is_ok, IfOk, OnOk, OnErr, slice_get};
 ghost use Rattle.std.specs.Option.{option_copied};
 ghost use Rattle.mib_model.specs.Database.{no_rows};
-ghost use Rattle.mib_model.specs.Drafts.{rows_of, with_rows};
-ghost use Rattle.mib_tables.specs.Kinds.{AreOf};
+ghost use Rattle.mib_model.specs.Drafts.{is_held, put_in, rows_of, with_rows, without_key};
+ghost use Rattle.mib_model.specs.Keys.{key_in};
+ghost use Rattle.mib_model.specs.RowTexts.{kind_in};
+ghost use Rattle.mib_tables.specs.Kinds.{AreOf, kind_of_key};
+ghost use Rattle.mib_tables.specs.Puts.{put_made};
 ghost use Rattle.mib_tables.specs.Shelves.{values_in};
 
-use crate::kinds::place_of;
-use mib_model::{Kind, Row};
+use crate::kinds::{kind_of, kind_of_row, place_of};
+use crate::shared::{NoRow, Put, ROWS_MOST, put_row, share, share_again, take_row};
+use mib_model::{KINDS, Key, Kind, Row};
 use std::alloc::{AllocError, Global};
 use std::marker::Model;
 use std::sync::Arc;
-
-/// The greatest number of rows of a table.
-pub const ROWS_MOST: usize = 1_000_000_000;
 
 /// The 15 tables that operators edit. Contracts see the database that they are. Rows are shared with copies.
 #[derive(Drop)]
@@ -34,6 +35,66 @@ impl Model for Book {
 }
 
 impl Book {
+    /// A book with no rows.
+    pub fn empty(alloc: Global) -> Result<Book, AllocError>
+        ensures { IfOk result (λ book. book ≡ no_rows) }
+    {
+        let mut lists = Vec::with_capacity(alloc, KINDS.len())?;
+        for _ in KINDS {
+            lists.push(Vec::new(alloc))?;
+        }
+        Ok(Book { alloc, lists })
+    }
+
+    /// Gives a table these rows in place of its own; more than 1,000,000,000 are want of memory.
+    pub fn fill(&mut self, kind: Kind, rows: &[Row]) -> Result<(), AllocError>
+        requires { AreOf kind rows.now }
+        ensures rows { OnOk result (self.new ≡ with_rows self.old kind rows.now) }
+        ensures kept { OnErr result (self.new ≡ self.old) }
+    {
+        if rows.len() > ROWS_MOST {
+            return Err(AllocError);
+        }
+        let list = share(self.alloc, rows)?;
+        self.lists[place_of(kind)] = list;
+        Ok(())
+    }
+
+    /// Puts a row in the place of the first row of its table that has its key, or behind all others. A table of
+    /// 1,000,000,000 rows takes no more: want of memory.
+    pub fn put(&mut self, row: Row) -> Result<Put, AllocError>
+        ensures rows { let table = kind_in row in OnOk result (self.new ≡ with_rows self.old table (put_in row (rows_of self.old table))) }
+        ensures made { IfOk result (λ made. made ≡ put_made (is_held (key_in row) (rows_of self.old (kind_in row)))) }
+        ensures kept { OnErr result (self.new ≡ self.old) }
+    {
+        let list = &mut self.lists[place_of(kind_of_row(&row))];
+        put_row(self.alloc, list, row)
+    }
+
+    /// Takes the first row with a key out of the key's table.
+    pub fn del(&mut self, key: &Key) -> Result<(), NoRow>
+        ensures held { is_ok result ≡ is_held key.now (rows_of self.old (kind_of_key key.now)) }
+        ensures rows { let table = kind_of_key key.now in OnOk result (self.new ≡ with_rows self.old table (without_key key.now (rows_of self.old table))) }
+        ensures kept { OnErr result (self.new ≡ self.old) }
+    {
+        let list = &mut self.lists[place_of(kind_of(key))];
+        take_row(list, key)
+    }
+
+    /// The same database in a book of its own, which shares the rows.
+    pub fn copy(&self) -> Result<Book, AllocError>
+        ensures { IfOk result (λ book. book ≡ self.now) }
+    {
+        let mut lists = Vec::with_capacity(self.alloc, KINDS.len())?;
+        for list in &self.lists {
+            lists.push(share_again(self.alloc, list)?)?;
+        }
+        Ok(Book {
+            alloc: self.alloc,
+            lists,
+        })
+    }
+
     /// The rows of a table, in their order.
     pub fn rows(&self, kind: Kind) -> &[Arc<Row>]
         ensures rows { values_in result.now ≡ rows_of self.now kind }

@@ -6,5 +6,7 @@
 
 mod book;
 mod kinds;
+mod shared;
 
 pub use book::Book;
+pub use shared::{NoRow, Put, ROWS_MOST};
