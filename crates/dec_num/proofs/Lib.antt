@@ -5,3 +5,4 @@ pub mod RoundingFacts
 pub mod ScalingFacts
 pub mod TextFacts
 pub mod LineFacts
+pub mod BaseFacts

@@ -21,7 +21,7 @@ interpolated_over p q raw rise narrow_rise wide =
     grind (arith, nat_tests, over)
 
 pub interpolated_some : (p q : Knot) (raw rise climb : ℤ) → Some rise ≡ narrow (q.y -ℤ p.y) → Some climb ≡ narrow ((raw -ℤ p.x) *ℤ rise)
-  → bounded false (p.y +ℤ half climb (nat_abs (q.x -ℤ p.x))) ≡ interpolated p q raw
+    → bounded false (p.y +ℤ half climb (nat_abs (q.x -ℤ p.x))) ≡ interpolated p q raw
 unfolding interpolated
 interpolated_some p q raw rise climb narrow_rise narrow_climb =
     let facts = narrow-Some (q.y -ℤ p.y) rise narrow_rise in
@@ -29,6 +29,6 @@ interpolated_some p q raw rise climb narrow_rise narrow_climb =
     let product : climb ≡ product_of p q raw = more.1 ∙ ap (λ (r : ℤ). (raw -ℤ p.x) *ℤ r) facts.1 in
     let low : is_wide (product_of p q raw) ≡ false = ap is_wide (sym product ∙ more.1) ∙ more.0 in
     let same : bounded false (p.y +ℤ half climb (nat_abs (q.x -ℤ p.x))) ≡ bounded false (p.y +ℤ half (product_of p q raw) (nat_abs (q.x -ℤ p.x))) =
-      ap (λ (z : ℤ). bounded false (p.y +ℤ half z (nat_abs (q.x -ℤ p.x)))) product in
+    ap (λ (z : ℤ). bounded false (p.y +ℤ half z (nat_abs (q.x -ℤ p.x)))) product in
     let steps : (is_wide (q.y -ℤ p.y) || is_wide (product_of p q raw)) ≡ false = grind (arith, facts.0, low) in
     same ∙ ap (λ (b : Bool). bounded b (p.y +ℤ half (product_of p q raw) (nat_abs (q.x -ℤ p.x)))) (sym steps)

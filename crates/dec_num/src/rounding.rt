@@ -27,11 +27,7 @@ pub fn half(dividend: i128, divisor: u128) -> i128
     ensures within { nat_abs result ≤ nat_abs dividend }
 {
     let magnitude = rounded(dividend.unsigned_abs(), divisor) as i128;
-    if dividend < 0 {
-        -magnitude
-    } else {
-        magnitude
-    }
+    if dividend < 0 { -magnitude } else { magnitude }
 }
 
 /// 10 to a power of at most 38.
