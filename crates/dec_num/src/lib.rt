@@ -22,3 +22,6 @@ pub use mib_model::{Dec, DecFault, Eng, Over};
 pub use read::read_dec;
 pub use spaces::trim;
 pub use whole::{decimal_whole, whole_number};
+
+#[cfg(test)]
+mod tests;
