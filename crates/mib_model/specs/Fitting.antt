@@ -1,5 +1,5 @@
 -- Which values the columns of a table may have. [This profile.]
-use Rattle.std.specs.Prelude.{◌≡◌, ◌≢◌, ℕ, ◌≤◌, ◌≤ℤ◌, true, false, List, [], ◌∷◌, Option, Some, None, Ok, ◌==◌, not}
+use Rattle.std.specs.Prelude.{◌≡◌, ◌≢◌, ℕ, ◌≤◌, ◌<◌, ◌^◌, ◌≤ℤ◌, nat_abs, true, false, List, [], ◌∷◌, Option, Some, None, Ok, ◌==◌, not}
 use Rattle.std.specs.Char.{is_ascii_uppercase}
 use Rattle.std.specs.List.{list_all, list_any}
 use Rattle.mib_model.specs.declared.number.Dec.{Dec}
@@ -17,9 +17,11 @@ use Rattle.mib_model.specs.Names.{is_name, is_text}
 use Rattle.mib_model.specs.RowTexts.{is_of_states}
 use Rattle.mib_model.specs.Writing.{content_text, decimal_text}
 
--- a decimal that its text is read as
-abbrev pub IsDecimal : Dec → Type 0
-IsDecimal d = dec_of (decimal_text d) ≡ Ok d
+-- a decimal that its text is read as: at most 17 digits, an exponent from -30 to 30
+pub record IsDecimal (d : Dec) : Type 0 where
+  pub digits : nat_abs d.m < 10 ^ 17
+  pub exponent : nat_abs d.e ≤ 30
+  pub read : dec_of (decimal_text d) ≡ Ok d
 
 -- a text that may stand in a field: at most 64 octets, and no tab
 pub record FitsText (octets : List ℕ) : Type 0 where

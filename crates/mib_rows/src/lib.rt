@@ -10,6 +10,7 @@ mod field;
 mod fields;
 mod forms;
 mod keys;
+mod laws;
 mod line_writer;
 mod lines;
 mod packets;
@@ -22,6 +23,7 @@ mod rows;
 mod table;
 mod write;
 
+pub use laws::written_is_read;
 pub use read_fault::ReadFault;
 pub use table::{read_key, read_row, read_table};
 pub use write::write_row;

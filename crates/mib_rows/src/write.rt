@@ -1,6 +1,8 @@
 // The line of a row.
-ghost use Rattle.std.specs.Prelude.{◌≡◌, IfOk};
-ghost use Rattle.mib_model.specs.RowTexts.{line_of};
+ghost use Rattle.std.specs.Prelude.{◌≡◌, IfOk, Ok};
+ghost use Rattle.mib_model.specs.Fitting.{FitsRow};
+ghost use Rattle.mib_model.specs.Reading.{row_read};
+ghost use Rattle.mib_model.specs.RowTexts.{kind_in, line_of};
 
 use crate::curves_lines::{caf, cap, cur, lgf, mcf, txf, txp};
 use crate::packets_lines::{pic, pid, plf, tpcf, vpd};
@@ -8,9 +10,9 @@ use crate::parameters_lines::{ocf, ocp, pcf};
 use mib_model::Row;
 use std::alloc::{AllocError, Global};
 
-/// The line of a row.
+// The line of a row, in the columns of its table.
 #[tactic(auto, unfolding(mib_model::specs::RowTexts::line_of))]
-pub fn write_row(alloc: Global, row: &Row) -> Result<Vec<u8>, AllocError>
+fn line_of_row(alloc: Global, row: &Row) -> Result<Vec<u8>, AllocError>
     ensures { IfOk result (λ line. line.items ≡ line_of row.now) }
 {
     match row {
@@ -30,4 +32,12 @@ pub fn write_row(alloc: Global, row: &Row) -> Result<Vec<u8>, AllocError>
         Row::Ocf(row) => ocf(alloc, row),
         Row::Ocp(row) => ocp(alloc, row),
     }
+}
+
+/// The line of a row: `read_row` reads a row that a line can be again from it.
+pub fn write_row(alloc: Global, row: &Row) -> Result<Vec<u8>, AllocError>
+    ensures line { IfOk result (λ line. line.items ≡ line_of row.now) }
+    ensures again { IfOk result (λ line. FitsRow row.now → row_read (kind_in row.now) line.items ≡ Ok row.now) }
+{
+    line_of_row(alloc, row)
 }
