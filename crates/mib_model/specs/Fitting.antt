@@ -34,7 +34,7 @@ FitsBound bound.Empty = Unit {0}
 FitsBound (bound.Number d) = IsDecimal d
 FitsBound (bound.Words octets) = ⊥
 
--- a letter of OCP_TYPE that fits the kind of its bounds
+-- what a bound of a check of states may be: a text
 abbrev pub FitsState : Bound → Type 0
 FitsState bound.Empty = ⊥
 FitsState (bound.Number d) = ⊥
