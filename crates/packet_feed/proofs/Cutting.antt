@@ -1,12 +1,11 @@
 -- Octets that begin with a header.
-use Rattle.std.proofs.Common.{◌≡◌, ◌≤◌, ◌<◌, ◌+◌, ℕ, List, ◌++◌, length, take, Option, Some, None, arith, refl, ◌∙◌, ap, length-append, length-take, get_or-take, append-nil}
+use Rattle.std.proofs.Common.{◌≡◌, ◌≤◌, ◌<◌, ◌+◌, ℕ, List, ◌++◌, length, take, Option, arith, refl, ◌∙◌, ap, length-append, length-take, get_or-take}
 use Rattle.std.proofs.lemmas.List.{get_or_append_left, take_at, take_all}
 use Rattle.std.proofs.lemmas.Slice.{take-put_mid}
 use borrow.Rule.Slice.PartMut.{put_mid}
-use Rattle.std.specs.Io.KnownBytes.{Consumes, IsAtEnd}
+use Rattle.std.specs.Io.KnownBytes.{Consumes}
 use Rattle.mib_model.specs.Headers.{header_of}
 use Rattle.mib_model.specs.Packets.{IsPacket, BeginsNoPacket}
-use Rattle.packet_feed.specs.Feed.{WasRest}
 
 -- the length field stands in the first six octets
 length_field-take : (octets : List ℕ) (n : ℕ) → 6 ≤ n → (header_of (take n octets)).length ≡ (header_of octets).length
@@ -34,15 +33,6 @@ part-begins_none head body six part n fits packet =
 -- octets that were taken whole
 pub taken_whole : (old new : Option (List ℕ)) (octets : List ℕ) (count : ℕ) → length octets ≤ count → Consumes old new (take count octets) → Consumes old new octets
 taken_whole old new octets count all taken = rw (take_all count octets all) at taken
-
--- the source ended behind these octets
-pub was_rest : (old new : Option (List ℕ)) (octets : List ℕ) (count : ℕ)
-    → Consumes old new octets → IsAtEnd new → length octets ≡ count → 0 < count → BeginsNoPacket octets → WasRest old count
-was_rest None new octets count taken end size some none = tt
-was_rest (Some a) None octets count taken end size some none = absurd taken
-was_rest (Some a) (Some b) octets count taken end size some none =
-    let same : a ≡ octets = taken ∙ rw end (append-nil octets) in
-    rw same (size, some, none)
 
 -- the packet that stands at the front of the buffer
 pub take-packet : (head rest body : List ℕ) (size k : ℕ) → length head ≡ 6 → length body + 6 ≡ size

@@ -1,26 +1,30 @@
 -- What a feed gives: packets, then its end or a rest. [CCSDS 133.0-B, packet data length, for the packets.]
-use Rattle.std.specs.Prelude.{◌≡◌, ℕ, ◌<◌, ◌≤◌, List, length, take, Option, Some, None, ⊤}
+use Rattle.std.specs.Prelude.{◌≡◌, ℕ, ◌<◌, ◌≤◌, List, [], length, take, Option}
 use Rattle.std.specs.Io.KnownBytes.{Consumes, IsAtEnd}
 use Rattle.tm_io.specs.Causes.{Rose}
 use Rattle.mib_model.specs.Packets.{IsPacket, BeginsNoPacket}
+use Rattle.packet_feed.specs.declared.feed.Feed.{Feed}
 use Rattle.packet_feed.specs.declared.next.Next.{Next}
 use Rattle.packet_feed.specs.declared.next.Next.TheVariants as next
 
--- of the octets that are told, so many were left, at least one, and they begin no packet
-abbrev pub WasRest : Option (List ℕ) → ℕ → Type 0
-WasRest None count = ⊤
-WasRest (Some octets) count = (length octets ≡ count) × (0 < count) × BeginsNoPacket octets
+-- the source of a feed
+abbrev pub source_of : {S : Type 0} → Feed S → S
+source_of feed = feed.source
 
 -- some octets were taken that begin no packet
 abbrev pub TookRest : Option (List ℕ) → Option (List ℕ) → Type 0
 TookRest old new = (rest : List ℕ) × BeginsNoPacket rest × Consumes old new rest
 
+-- so many octets, at least one, were taken that begin no packet, and they were all that was left
+abbrev pub TookLast : ℕ → Option (List ℕ) → Option (List ℕ) → Type 0
+TookLast count old new = (rest : List ℕ) × (length rest ≡ count) × (0 < count) × BeginsNoPacket rest × Consumes old new rest × IsAtEnd new
+
 -- what an answer says of the octets that were left, of those that are left now, and of the buffer: a packet was taken and stands
--- at the front of the buffer; none was left; a rest was left, and now nothing is; before the fault no packet was taken
+-- at the front of the buffer; none was left; a rest was left and was taken; before the fault no whole packet was taken
 abbrev pub Gives : Next → Option (List ℕ) → Option (List ℕ) → List ℕ → Type 0
 Gives (next.Packet count) old new buffer = (count ≤ length buffer) × IsPacket (take count buffer) × Consumes old new (take count buffer)
-Gives next.End old new buffer = IsAtEnd old × IsAtEnd new
-Gives (next.Cut count) old new buffer = WasRest old count × IsAtEnd new
+Gives next.End old new buffer = IsAtEnd old × Consumes old new []
+Gives (next.Cut count) old new buffer = TookLast count old new
 Gives next.Failed old new buffer = TookRest old new
 
 -- the count of faults rose where the answer is a failure, and stays as it was where it is another

@@ -3,12 +3,11 @@ ghost use Rattle.std.specs.Io.KnownBytes.{Consumes, IsAtEnd};
 ghost use Rattle.tm_io.specs.Causes.{HasCause};
 ghost use Rattle.mib_model.specs.Headers.{header_of};
 ghost use Rattle.mib_model.specs.Packets.{IsCut};
-ghost use Rattle.packet_feed.specs.Feed.{Gives, HasNextCause};
+ghost use Rattle.packet_feed.specs.Feed.{Gives, HasNextCause, source_of};
 ghost use Rattle.packet_feed.specs.declared.feed.TheConstants.{PACKET_SIZE};
 
 use crate::next::Next;
 use mib_model::Header;
-use std::marker::Model;
 use tm_io::{Failed, Source};
 
 /// The most octets that a packet has.
@@ -16,16 +15,10 @@ pub const PACKET_SIZE: usize = 65_542;
 
 const HEADER_SIZE: usize = 6;
 
-/// The packets of a source. Contracts see the source.
+/// The packets of a source. Contracts see the source, by `source_of`.
 #[derive(Drop)]
 pub struct Feed<S> {
     source: S,
-}
-
-impl<S> Model for Feed<S> {
-    ghost Value = { S };
-
-    ghost view = { λ f. f.source };
 }
 
 // Fills the buffer, or as much of it as there are octets.
@@ -61,7 +54,7 @@ fn packet_size(head: &[u8; HEADER_SIZE]) -> usize
 impl<S> Feed<S> {
     /// The packets of this source, from where it stands.
     pub fn new(source: S) -> Feed<S>
-        ensures { result ≡ source }
+        ensures { source_of result ≡ source }
     {
         Feed { source }
     }
@@ -72,11 +65,11 @@ impl<S: Source> Feed<S> {
     /// holds is left open.
     pub fn next(&mut self, into: &mut [u8]) -> Next
         requires { length into.old ≡ PACKET_SIZE }
-        ensures gives { Gives result (S.left self.old) (S.left self.new) into.new }
-        ensures cause { HasNextCause result (S.faults self.old) (S.faults self.new) }
-        ensures holds { S.holds self.new ≡ S.holds self.old }
-        ensures missed { S.missed self.new ≡ S.missed self.old }
-        ensures borrow { S.borrow self.new ≡ S.borrow self.old }
+        ensures gives { Gives result (S.left (source_of self.old)) (S.left (source_of self.new)) into.new }
+        ensures cause { HasNextCause result (S.faults (source_of self.old)) (S.faults (source_of self.new)) }
+        ensures holds { S.holds (source_of self.new) ≡ S.holds (source_of self.old) }
+        ensures missed { S.missed (source_of self.new) ≡ S.missed (source_of self.old) }
+        ensures borrow { S.borrow (source_of self.new) ≡ S.borrow (source_of self.old) }
     {
         let mut head = [0; HEADER_SIZE];
         let Ok(front) = fill(&mut self.source, &mut head) else {

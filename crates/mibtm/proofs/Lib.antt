@@ -1,0 +1,13 @@
+pub mod ListFacts
+pub mod ReadingSteps
+pub mod PlaceSteps
+pub mod RowSteps
+pub mod PlainReadings
+pub mod PlainValues
+pub mod PlainRecords
+pub mod RunSteps
+pub mod TextFiles
+pub mod TableTexts
+pub mod LoadSteps
+pub mod DecodeSteps
+pub mod ToolSteps

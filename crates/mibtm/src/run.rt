@@ -1,0 +1,179 @@
+// A run: packets are read and printed one after the other.
+ghost use Rattle.std.specs.Prelude.{◌≡◌, ◌≤◌, ◌<◌, length, vec_len, IfOk, OnOk, IfErr};
+ghost use Rattle.std.specs.Io.KnownBytes.{Appends};
+ghost use Rattle.mib_model.specs.Database.{database_of};
+ghost use Rattle.mib_model.specs.Texts.{cut_text};
+ghost use Rattle.mibtm.specs.Causes.{HasOutCause, HasFeedCause, HasStopCause, code_of_stop};
+ghost use Rattle.mibtm.specs.Readings.{IsBuilt, plain_record};
+ghost use Rattle.mibtm.specs.Run.{IsRunCode, Ran, StopsAt};
+ghost use Rattle.packet_feed.specs.declared.feed.TheConstants.{PACKET_SIZE};
+
+use crate::record::add_record;
+use crate::text::add_cut;
+use mib_model::{Code, Tables};
+use packet_feed::{Feed, Next, PACKET_SIZE};
+use std::alloc::{AllocError, Global};
+use tm_io::{Sink, Source, write_all};
+
+// The most packets of a run.
+const MOST_PACKETS: u64 = 1_000_000_000;
+
+/// Why printing stopped.
+#[derive(Clone, Copy, Debug, PartialEq, Eq)]
+pub enum Stop {
+    Memory,
+    Out,
+}
+
+impl Stop {
+    fn code(self) -> Code
+        ensures code { result ≡ code_of_stop self }
+        ensures run { IsRunCode result }
+    {
+        match self {
+            Stop::Memory => Code::Want,
+            Stop::Out => Code::OutFault,
+        }
+    }
+}
+
+// Writes a text whole.
+fn print<O: Sink>(text: &[u8], out: &mut O) -> Result<(), Stop>
+    ensures all { OnOk result (Appends (O.written out.old) (O.written out.new) text.now) }
+    ensures part { IfErr result (λ stop. StopsAt stop text.now (O.written out.old) (O.written out.new)) }
+    ensures ok { OnOk result (O.faults out.new ≡ O.faults out.old) }
+    ensures cause { IfErr result (λ stop. HasStopCause stop (O.faults out.old) (O.faults out.new)) }
+{
+    match write_all(out, text) {
+        Ok(()) => Ok(()),
+        Err(_) => Err(Stop::Out),
+    }
+}
+
+// Writes the record of a packet, over a buffer that is used again.
+fn print_packet<O: Sink>(
+    text: &mut Vec<u8>,
+    tables: &Tables,
+    number: u64,
+    packet: &[u8],
+    out: &mut O,
+) -> Result<(), Stop>
+    requires built { IsBuilt (database_of tables.now) }
+    requires packet { 7 ≤ length packet.now }
+    ensures all { OnOk result (Appends (O.written out.old) (O.written out.new) (plain_record (database_of tables.now) number packet.now)) }
+    ensures part { IfErr result (λ stop. StopsAt stop (plain_record (database_of tables.now) number packet.now) (O.written out.old) (O.written out.new)) }
+    ensures ok { OnOk result (O.faults out.new ≡ O.faults out.old) }
+    ensures cause { IfErr result (λ stop. HasStopCause stop (O.faults out.old) (O.faults out.new)) }
+{
+    text.clear();
+    if add_record(text, tables, number, packet).is_err() {
+        return Err(Stop::Memory);
+    }
+    print(text, out)
+}
+
+// Writes the line of a rest.
+fn print_cut<O: Sink>(text: &mut Vec<u8>, octets: u32, out: &mut O) -> Result<(), Stop>
+    ensures all { OnOk result (Appends (O.written out.old) (O.written out.new) (cut_text octets)) }
+    ensures part { IfErr result (λ stop. StopsAt stop (cut_text octets) (O.written out.old) (O.written out.new)) }
+    ensures ok { OnOk result (O.faults out.new ≡ O.faults out.old) }
+    ensures cause { IfErr result (λ stop. HasStopCause stop (O.faults out.old) (O.faults out.new)) }
+{
+    text.clear();
+    if add_cut(text, octets).is_err() {
+        return Err(Stop::Memory);
+    }
+    print(text, out)
+}
+
+// A buffer of so many octets. The size is no literal here, since a proof would write it out as a list.
+fn zeros(alloc: Global, size: usize) -> Result<Vec<u8>, AllocError>
+    ensures { IfOk result (λ v. vec_len v ≡ size) }
+{
+    Vec::from_elem(alloc, 0, size)
+}
+
+// Prints the packets of a source up to its end, a fault or the limit. The buffers are for a packet and its record.
+fn print_packets<S: Source, O: Sink>(
+    frame: &mut [u8],
+    text: &mut Vec<u8>,
+    tables: &Tables,
+    source: &mut S,
+    out: &mut O,
+) -> Code
+    requires room { length frame.old ≡ PACKET_SIZE }
+    requires built { IsBuilt (database_of tables.now) }
+    ensures ran { Ran result (database_of tables.now) (S.left source.old) (S.left source.new) (S.faults source.old) (S.faults source.new) (O.written out.old) (O.written out.new) }
+    ensures code { IsRunCode result }
+    ensures feed { HasFeedCause result (S.faults source.old) (S.faults source.new) }
+    ensures out { HasOutCause result (O.faults out.old) (O.faults out.new) }
+    ensures missed { S.missed source.new ≡ S.missed source.old }
+{
+    let mut feed = Feed::new(source);
+    for number in 1..MOST_PACKETS + 1 {
+        match feed.next(frame) {
+            Next::Packet { octets } => {
+                let packet = &frame[..octets as usize];
+                if let Err(stop) = print_packet(text, tables, number, packet, out) {
+                    return stop.code();
+                }
+            }
+            Next::End => return Code::Ok,
+            Next::Cut { octets } => {
+                return match print_cut(text, octets, out) {
+                    Ok(()) => Code::Cut(octets),
+                    Err(stop) => stop.code(),
+                };
+            }
+            Next::Failed => return Code::FeedFault,
+        }
+    }
+    Code::Limit
+}
+
+// Prints the packets of a source, in buffers of its own.
+#[tactic(auto, using(crate::proofs::RunSteps::ran_nothing))]
+fn print_all<S: Source, O: Sink>(
+    alloc: Global,
+    tables: &Tables,
+    source: &mut S,
+    out: &mut O,
+) -> Code
+    requires { IsBuilt (database_of tables.now) }
+    ensures ran { Ran result (database_of tables.now) (S.left source.old) (S.left source.new) (S.faults source.old) (S.faults source.new) (O.written out.old) (O.written out.new) }
+    ensures code { IsRunCode result }
+    ensures feed { HasFeedCause result (S.faults source.old) (S.faults source.new) }
+    ensures out { HasOutCause result (O.faults out.old) (O.faults out.new) }
+    ensures missed { S.missed source.new ≡ S.missed source.old }
+{
+    let Ok(mut frame) = zeros(alloc, PACKET_SIZE) else {
+        return Code::Want;
+    };
+    print_packets(&mut frame, &mut Vec::new(alloc), tables, source, out)
+}
+
+/// Prints the packets of a source, and hands on what was written. It ends at the end of the source, at a rest, at a
+/// fault, or after 1,000,000,000 packets.
+#[tactic(auto, using(crate::proofs::RunSteps::ran_unflushed))]
+pub(crate) fn run<S: Source, O: Sink>(
+    alloc: Global,
+    tables: &Tables,
+    source: &mut S,
+    out: &mut O,
+) -> Code
+    requires { IsBuilt (database_of tables.now) }
+    ensures ran { Ran result (database_of tables.now) (S.left source.old) (S.left source.new) (S.faults source.old) (S.faults source.new) (O.written out.old) (O.written out.new) }
+    ensures code { IsRunCode result }
+    ensures feed { HasFeedCause result (S.faults source.old) (S.faults source.new) }
+    ensures out { HasOutCause result (O.faults out.old) (O.faults out.new) }
+    ensures missed { S.missed source.new ≡ S.missed source.old }
+{
+    let code = print_all(alloc, tables, source, out);
+    if code == Code::OutFault {
+        return code;
+    }
+    match out.flush() {
+        Ok(()) => code,
+        Err(_) => Code::OutFault,
+    }
+}

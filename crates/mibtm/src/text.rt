@@ -1,0 +1,81 @@
+// The lines of a packet's record.
+ghost use Rattle.std.specs.Prelude.{◌≡◌, ◌≤◌, ◌++◌, length, OnOk, codes, decimal, None};
+ghost use Rattle.mib_model.specs.Headers.{header_of};
+ghost use Rattle.mib_model.specs.Texts.{found_text, head_text, type_text, why_text, cut_text};
+
+use crate::kinds::header;
+use itoa::Buffer;
+use mib_model::{BadWhy, Found};
+use std::alloc::AllocError;
+
+// Appends a number's digits.
+pub(crate) fn add_number(out: &mut Vec<u8>, n: u64) -> Result<(), AllocError>
+    ensures { OnOk result (out.new.items ≡ out.old.items ++ decimal n) }
+{
+    out.extend_from_slice(Buffer::new().format(n).as_bytes())
+}
+
+fn add_types(out: &mut Vec<u8>, service: u8, subtype: u8) -> Result<(), AllocError>
+    ensures { OnOk result (out.new.items ≡ out.old.items ++ type_text service subtype) }
+{
+    out.extend_from_slice(b" TYPE ")?;
+    add_number(out, u64::from(service))?;
+    out.extend_from_slice(b"/")?;
+    add_number(out, u64::from(subtype))
+}
+
+fn add_found(out: &mut Vec<u8>, found: &Found) -> Result<(), AllocError>
+    ensures { OnOk result (out.new.items ≡ out.old.items ++ found_text found.now None) }
+{
+    match *found {
+        Found::Spid {
+            spid,
+            service,
+            subtype,
+            ..
+        } => {
+            add_types(out, service, subtype)?;
+            out.extend_from_slice(b" SPID ")?;
+            add_number(out, u64::from(spid))
+        }
+        Found::Unknown { service, subtype } => {
+            add_types(out, service, subtype)?;
+            out.extend_from_slice(b" UNKNOWN")
+        }
+        Found::Idle => out.extend_from_slice(b" IDLE"),
+        Found::Bad(BadWhy::Version) => out.extend_from_slice(b" BAD VERSION"),
+        Found::Bad(BadWhy::Telecommand) => out.extend_from_slice(b" BAD TELECOMMAND"),
+        Found::Bad(BadWhy::Short) => out.extend_from_slice(b" BAD SHORT"),
+    }
+}
+
+// Appends the head line of a packet's record.
+#[tactic(auto, unfolding(mib_model::specs::Texts::head_text))]
+pub(crate) fn add_head(
+    out: &mut Vec<u8>,
+    number: u64,
+    packet: &[u8],
+    found: &Found,
+) -> Result<(), AllocError>
+    requires { 7 ≤ length packet.now }
+    ensures { OnOk result (out.new.items ≡ out.old.items ++ head_text number (header_of packet.now) found.now None) }
+{
+    let header = header(packet);
+    out.extend_from_slice(b"PKT ")?;
+    add_number(out, number)?;
+    out.extend_from_slice(b" APID ")?;
+    add_number(out, u64::from(header.apid))?;
+    out.extend_from_slice(b" COUNT ")?;
+    add_number(out, u64::from(header.count))?;
+    add_found(out, found)?;
+    out.extend_from_slice(b"\n")
+}
+
+// Appends the line of a rest.
+pub(crate) fn add_cut(out: &mut Vec<u8>, octets: u32) -> Result<(), AllocError>
+    ensures { OnOk result (out.new.items ≡ out.old.items ++ cut_text octets) }
+{
+    out.extend_from_slice(b"CUT ")?;
+    add_number(out, u64::from(octets))?;
+    out.extend_from_slice(b"\n")
+}
