@@ -1,0 +1,3 @@
+pub mod BitFacts
+pub mod LittleFacts
+pub mod EncodingFacts
