@@ -26,3 +26,6 @@ pub use polynomial::poly;
 pub use read::read_dec;
 pub use spaces::trim;
 pub use whole::{decimal_whole, whole_number};
+
+#[cfg(test)]
+mod tests;
