@@ -1,5 +1,5 @@
 -- Bits one behind the other, and the numbers of whole octets.
-use Rattle.std.proofs.Common.{◌≡◌, ℕ, zero, suc, ◌+◌, ◌-◌, ◌*◌, ◌/◌, ◌%◌, ◌^◌, ◌<◌, ◌≤◌, List, length, get_or, drop, refl, sym, ap, ◌∙◌, zero-add, add-zero, add-suc, add_assoc, arith}
+use Rattle.std.proofs.Common.{◌≡◌, ℕ, zero, suc, ◌+◌, ◌-◌, ◌*◌, ◌/◌, ◌%◌, ◌^◌, ◌<◌, ◌≤◌, List, get_or, drop, refl, sym, ap, ◌∙◌, zero-add, add-zero, add-suc, add_assoc, arith}
 use Rattle.std.proofs.Math.Numerals.{sub-one}
 use Rattle.std.proofs.Math.Pow.{pow_mono}
 use Rattle.std.proofs.Math.Nat.{pow-succ', mod-lt, div-eq_of_lt, div-one}
@@ -39,7 +39,7 @@ front_of octets i (suc k) few octet =
     let place : (8 * i + k) / 8 ≡ i = omega arith in
     let behind : (8 * i + k) % 8 ≡ k = omega arith in
     let halves : get_or octets i 0 / 2 ^ (8 - k) ≡ get_or octets i 0 / 2 ^ (7 - k) / 2 =
-      ap (λ (n : ℕ). get_or octets i 0 / 2 ^ n) (step k few) ∙ sym (shr-shr (get_or octets i 0) (7 - k) 1) in
+    ap (λ (n : ℕ). get_or octets i 0 / 2 ^ n) (step k few) ∙ sym (shr-shr (get_or octets i 0) (7 - k) 1) in
     let next : 8 - suc k ≡ 7 - k = omega arith in
     rw (place, behind, again, halves, next) (both_halves (get_or octets i 0 / 2 ^ (7 - k)))
 
@@ -64,13 +64,13 @@ bits-octets octets i (suc n) each =
 
 -- a field behind the first bits of octets
 pub bits-inside : (octets : List ℕ) (skip width rest n : ℕ) → skip + width + rest ≡ 8 * n → ((k : ℕ) → get_or octets k 0 < 256)
-  → big_number n octets / 2 ^ rest % 2 ^ width ≡ bits octets skip width
+    → big_number n octets / 2 ^ rest % 2 ^ width ≡ bits octets skip width
 bits-inside octets skip width rest n whole each =
     let front : big_number n octets ≡ bits octets 0 (skip + width) * 2 ^ rest + bits octets (0 + (skip + width)) rest =
-      sym (bits-octets octets 0 n each) ∙ ap (bits octets 0) (sym whole) ∙ bits-append octets 0 (skip + width) rest in
+    sym (bits-octets octets 0 n each) ∙ ap (bits octets 0) (sym whole) ∙ bits-append octets 0 (skip + width) rest in
     let low = bits-below octets (0 + (skip + width)) rest in
     let field : bits octets 0 (skip + width) ≡ bits octets 0 skip * 2 ^ width + bits octets skip width =
-      bits-append octets 0 skip width ∙ rw zero-add refl in
+    bits-append octets 0 skip width ∙ rw zero-add refl in
     let high = bits-below octets skip width in
     ap (λ (x : ℕ). x / 2 ^ rest % 2 ^ width) front ∙ ap (λ (x : ℕ). x % 2 ^ width) (shr_high (bits octets 0 (skip + width)) rest (bits octets (0 + (skip + width)) rest) low ∙ field) ∙
     mod_low (bits octets 0 skip) width (bits octets skip width) high

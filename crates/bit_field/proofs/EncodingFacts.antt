@@ -1,10 +1,10 @@
 -- The widths and orders of encodings.
-use Rattle.std.proofs.Common.{◌≡◌, ℕ, ◌+◌, ◌*◌, ◌/◌, ◌%◌, ◌<◌, ◌≤◌, Bool, true, false, Some, None, refl, subst, sym, ap, ◌∙◌, inl, inr, arith}
+use Rattle.std.proofs.Common.{◌≡◌, ℕ, ◌+◌, ◌*◌, ◌/◌, ◌%◌, ◌<◌, ◌≤◌, Bool, true, false, Some, None, refl, subst, inl, inr, arith}
 use Rattle.std.specs.Prelude.{Option, option_and_then, cond, nat_le, ◌==◌, ◌&&◌}
 use Rattle.std.proofs.lemmas.Bool.{cases_Bool, leb-true, eqb-true}
 use Rattle.std.proofs.lemmas.Bool.Decides.{nat_tests}
 use Rattle.mib_model.specs.declared.shape.Sort.{Sort}
-use Rattle.mib_model.specs.declared.shape.Sort.TheVariants.{Unsigned, Signed, Real, Octets, Chars, Cds, Cuc, Deduced}
+use Rattle.mib_model.specs.declared.shape.Sort.TheVariants.{Unsigned, Signed, Real, Octets, Chars, Cds, Deduced}
 use Rattle.mib_model.specs.declared.shape.Order.{Order}
 use Rattle.mib_model.specs.declared.shape.Order.TheVariants.{Big, Little}
 use Rattle.mib_model.specs.declared.shape.Endian.{Endian}
@@ -48,8 +48,8 @@ integer_fine : (pfc : ℕ) → Widths (integer_width pfc)
 integer_fine pfc = elim (cases_Bool (nat_le pfc 12)) [
   | inl few ↦ rw few (let low = leb-true pfc 12 few in (omega arith, omega arith))
   | inr more ↦ rw more
-    (widths_if (pfc == 13) (Some 24) _ (omega arith, omega arith) (widths_if (pfc == 14) (Some 32) _ (omega arith, omega arith)
-    (widths_if (pfc == 15) (Some 48) _ (omega arith, omega arith) (width_fine (pfc == 16) 64 (λ _. (omega arith, omega arith))))))
+      (widths_if (pfc == 13) (Some 24) _ (omega arith, omega arith) (widths_if (pfc == 14) (Some 32) _ (omega arith, omega arith)
+      (widths_if (pfc == 15) (Some 48) _ (omega arith, omega arith) (width_fine (pfc == 16) 64 (λ _. (omega arith, omega arith))))))
 ]
 
 between : (low high n : ℕ) → is_from_to low high n ≡ true → (low ≤ n) × (n ≤ high)
@@ -83,7 +83,7 @@ abbrev Facts : Encoding → Type 0
 Facts e = (has_number e.sort ≡ true → IsNumberWidth e.width) × (e.order ≡ Little → e.width ≡ 8 * (e.width / 8))
 
 packed : (sort : Sort) (width : ℕ) (order : Order) (e : Encoding) → (has_number sort ≡ true → IsNumberWidth width) → (order ≡ Little → width ≡ 8 * (width / 8))
-  → Some (record { sort = sort; width = width; order = order }) ≡ Some e → Facts e
+    → Some (record { sort = sort; width = width; order = order }) ≡ Some e → Facts e
 packed sort width order e fine whole same =
     let is : ◌≡◌ {A = Encoding} (record { sort = sort; width = width; order = order }) e = cc in
     subst (λ (x : Encoding). (has_number x.sort ≡ true → IsNumberWidth x.width) × (x.order ≡ Little → x.width ≡ 8 * (x.width / 8))) is (fine, whole)

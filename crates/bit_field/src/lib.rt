@@ -9,8 +9,13 @@
 
 mod encoding;
 mod field;
-mod take;
+mod laws;
+mod value;
+mod values;
 
 pub use encoding::shape_of;
 pub use field::{signed, unsigned};
-pub use mib_model::{Endian, Ended, Order, Shape, Sort, Value};
+pub use laws::bits_are_a_sum;
+pub use mib_model::{Ended, Endian, Order, Shape, Sort, Value};
+pub use value::take;
+pub use values::{MOST_VALUES, Values};

@@ -1,4 +1,4 @@
-use Rattle.std.proofs.Common.{◌≡◌, ◌∙◌, arith}
+use Rattle.std.proofs.Common.{◌∙◌}
 use Rattle.std.proofs.lemmas.List.{take_rest}
 use Rattle.bit_field.proofs.BitFacts.{bits-none, bits-place}
 use Rattle.bit_field.proofs.field.number_at.Goals as goal

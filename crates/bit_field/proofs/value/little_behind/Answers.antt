@@ -1,8 +1,7 @@
-use Rattle.std.proofs.Common.{◌≡◌, ◌+◌, ◌*◌, ◌%◌, ◌^◌, ◌<◌, arith}
+use Rattle.std.proofs.Common.{arith}
 use Rattle.std.proofs.lemmas.List.{take_rest}
-use Rattle.mib_model.specs.Bits.{bits}
 use Rattle.bit_field.proofs.LittleFacts.{little-none, little-more, little-fits, little-fits_all, octet_shifted}
-use Rattle.bit_field.proofs.take.little_behind.Goals as goal
+use Rattle.bit_field.proofs.value.little_behind.Goals as goal
 
 pub loop-i-init : goal.loop-i-init
 loop-i-init c = record { value = little-none c.args.octets.now c.args.skip; within = omega arith }
