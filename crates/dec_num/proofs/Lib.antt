@@ -6,3 +6,4 @@ pub mod ScalingFacts
 pub mod TextFacts
 pub mod LineFacts
 pub mod BaseFacts
+pub mod PolynomialFacts

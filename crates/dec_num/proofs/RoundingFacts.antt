@@ -1,6 +1,6 @@
 -- Quotients rounded to the nearest whole number.
-use Rattle.std.proofs.Common.{◌≡◌, ℕ, ◌+◌, ◌-◌, ◌*◌, ◌/◌, ◌%◌, ◌^◌, ◌<◌, ◌≤◌, Bool, true, false, sym, ap, refl, arith}
-use Rattle.std.specs.Prelude.{ℤ, pos, negsuc, nat_abs, int_lt}
+use Rattle.std.proofs.Common.{◌≡◌, ℕ, ◌+◌, ◌-◌, ◌*◌, ◌/◌, ◌%◌, ◌^◌, ◌<◌, ◌≤◌, Bool, true, false, sym, refl, arith}
+use Rattle.std.specs.Prelude.{ℤ, pos, nat_abs, int_lt}
 use Rattle.std.proofs.Math.Nat.{div-add-mod, div-eq_of_lt-le, div-eq_of_lt, mod-lt, pow-le-pow_right, one-le-pow}
 use Rattle.mib_model.specs.Decimals.{half, with_sign}
 

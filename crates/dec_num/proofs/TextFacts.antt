@@ -1,7 +1,7 @@
 -- The digits behind a point.
-use Rattle.std.proofs.Common.{◌≡◌, ℕ, ◌+◌, ◌-◌, ◌^◌, ◌<◌, ◌≤◌, List, [], ◌∷◌, length, take, refl, sym, ◌∙◌, arith}
-use Rattle.std.specs.Prelude.{replicate, decimal, codes}
-use Rattle.std.proofs.Math.Nat.{pow-le-pow_right, one-le-pow}
+use Rattle.std.proofs.Common.{◌≡◌, ℕ, ◌^◌, ◌<◌, ◌≤◌, [], ◌∷◌, length, take, arith}
+use Rattle.std.specs.Prelude.{replicate, decimal}
+use Rattle.std.proofs.Math.Nat.{pow-le-pow_right}
 use Rattle.std.proofs.lemmas.List.{take-replicate}
 use Rattle.std.proofs.lemmas.Fmt.{length-decimal-le_wide}
 

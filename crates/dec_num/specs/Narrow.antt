@@ -16,3 +16,8 @@ narrow_result z = if is_wide_result z then None else Some z
 abbrev pub counted : Result Eng Over → Result ℤ Over
 counted (Ok v) = Ok v.count
 counted (Err over) = Err over
+
+-- a count, or that it left the bounds
+abbrev pub or_over : Option ℤ → Result ℤ Over
+or_over None = Err (record {})
+or_over (Some count) = Ok count

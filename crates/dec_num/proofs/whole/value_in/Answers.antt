@@ -1,4 +1,4 @@
-use Rattle.std.proofs.Common.{◌*◌, ◌+◌, ◌^◌, ◌<◌, arith}
+use Rattle.std.proofs.Common.{arith}
 use Rattle.dec_num.proofs.BaseFacts.{digit_in_fits, all_fit}
 use Rattle.dec_num.proofs.whole.value_in.Goals as goal
 
