@@ -65,21 +65,3 @@ same_kind_itself k = (bytes_eq-Decides (kind_name k) (kind_name k)).1 refl
 -- tables of one place are the same
 pub alike : (j k : Kind) → kind_place j ≡ kind_place k → same_kind j k ≡ true
 alike j k place = let P : Kind → Type 0 = λ t. same_kind j t ≡ true in subst P (same_by_place j k place) (same_kind_itself j)
-
--- the table of a row is that of its key
-pub kind_of_its_key : (r : Row) → kind_of_key (key_in r) ≡ kind_in r
-kind_of_its_key (row.Pcf r) = refl
-kind_of_its_key (row.Pid r) = refl
-kind_of_its_key (row.Pic r) = refl
-kind_of_its_key (row.Tpcf r) = refl
-kind_of_its_key (row.Plf r) = refl
-kind_of_its_key (row.Vpd r) = refl
-kind_of_its_key (row.Cur r) = refl
-kind_of_its_key (row.Caf r) = refl
-kind_of_its_key (row.Cap r) = refl
-kind_of_its_key (row.Txf r) = refl
-kind_of_its_key (row.Txp r) = refl
-kind_of_its_key (row.Mcf r) = refl
-kind_of_its_key (row.Lgf r) = refl
-kind_of_its_key (row.Ocf r) = refl
-kind_of_its_key (row.Ocp r) = refl
