@@ -3,13 +3,9 @@ use Rattle.std.proofs.Common.{◌≡◌, true, get_or, Some, refl, ap, sym, ◌�
 use Rattle.std.proofs.lemmas.Slice.Eq.{bytes_eq-Decides}
 use Rattle.mib_model.specs.declared.kind.Kind.{Kind}
 use Rattle.mib_model.specs.declared.kind.Kind.TheVariants as kind
-use Rattle.mib_model.specs.declared.rows.Row.{Row}
-use Rattle.mib_model.specs.declared.rows.Row.TheVariants as row
 use Rattle.mib_model.specs.Drafts.{same_kind}
-use Rattle.mib_model.specs.Keys.{key_in}
 use Rattle.mib_model.specs.Kinds.{kind_name, kind_named, kinds}
-use Rattle.mib_model.specs.RowTexts.{kind_in}
-use Rattle.mib_tables.specs.Kinds.{kind_place, kind_of_key}
+use Rattle.mib_tables.specs.Kinds.{kind_place}
 
 -- the table at a place is the one of that place
 at_place : (k : Kind) → get_or kinds (kind_place k) kind.Pcf ≡ k
