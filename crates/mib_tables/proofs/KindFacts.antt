@@ -3,13 +3,9 @@ use Rattle.std.proofs.Common.{◌≡◌, true, get_or, Some, refl, ap, sym, ◌�
 use Rattle.std.proofs.lemmas.Slice.Eq.{bytes_eq-Decides}
 use Rattle.mib_model.specs.declared.kind.Kind.{Kind}
 use Rattle.mib_model.specs.declared.kind.Kind.TheVariants as kind
-use Rattle.mib_model.specs.declared.rows.Row.{Row}
-use Rattle.mib_model.specs.declared.rows.Row.TheVariants as row
 use Rattle.mib_model.specs.Drafts.{same_kind}
-use Rattle.mib_model.specs.Keys.{key_in}
 use Rattle.mib_model.specs.Kinds.{kind_name, kind_named, kinds}
-use Rattle.mib_model.specs.RowTexts.{kind_in}
-use Rattle.mib_tables.specs.Kinds.{kind_place, kind_of_key}
+use Rattle.mib_tables.specs.Kinds.{kind_place}
 
 -- the table at a place is the one of that place
 at_place : (k : Kind) → get_or kinds (kind_place k) kind.Pcf ≡ k
@@ -65,21 +61,3 @@ same_kind_itself k = (bytes_eq-Decides (kind_name k) (kind_name k)).1 refl
 -- tables of one place are the same
 pub alike : (j k : Kind) → kind_place j ≡ kind_place k → same_kind j k ≡ true
 alike j k place = let P : Kind → Type 0 = λ t. same_kind j t ≡ true in subst P (same_by_place j k place) (same_kind_itself j)
-
--- the table of a row is that of its key
-pub kind_of_its_key : (r : Row) → kind_of_key (key_in r) ≡ kind_in r
-kind_of_its_key (row.Pcf r) = refl
-kind_of_its_key (row.Pid r) = refl
-kind_of_its_key (row.Pic r) = refl
-kind_of_its_key (row.Tpcf r) = refl
-kind_of_its_key (row.Plf r) = refl
-kind_of_its_key (row.Vpd r) = refl
-kind_of_its_key (row.Cur r) = refl
-kind_of_its_key (row.Caf r) = refl
-kind_of_its_key (row.Cap r) = refl
-kind_of_its_key (row.Txf r) = refl
-kind_of_its_key (row.Txp r) = refl
-kind_of_its_key (row.Mcf r) = refl
-kind_of_its_key (row.Lgf r) = refl
-kind_of_its_key (row.Ocf r) = refl
-kind_of_its_key (row.Ocp r) = refl

@@ -2,3 +2,4 @@ pub mod KindFacts
 pub mod ShelfFacts
 pub mod PlaceFacts
 pub mod SharedFacts
+pub mod ListedFacts

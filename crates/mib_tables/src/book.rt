@@ -1,7 +1,8 @@
 ghost use Rattle.std.specs.Prelude.{◌≡◌, ◌≤◌, length, is_ok, IfOk, OnOk, OnErr, slice_get};
 ghost use Rattle.std.specs.Option.{option_copied};
-ghost use Rattle.mib_model.specs.Database.{no_rows};
+ghost use Rattle.mib_model.specs.Database.{database_of, no_rows};
 ghost use Rattle.mib_model.specs.Drafts.{is_held, put_in, rows_of, with_rows, without_key};
+ghost use Rattle.mib_model.specs.declared.kind.Kind.{Kind};
 ghost use Rattle.mib_model.specs.Keys.{key_in};
 ghost use Rattle.mib_model.specs.RowTexts.{kind_in};
 ghost use Rattle.mib_tables.specs.Kinds.{AreOf, kind_of_key};
@@ -10,7 +11,8 @@ ghost use Rattle.mib_tables.specs.Shelves.{values_in};
 
 use crate::kinds::{kind_of, kind_of_row, place_of};
 use crate::shared::{NoRow, Put, ROWS_MOST, put_row, share, share_again, take_row};
-use mib_model::{KINDS, Key, Kind, Row};
+use crate::table_row::share_kind;
+use mib_model::{KINDS, Key, Kind, Row, Tables};
 use std::alloc::{AllocError, Global};
 use std::marker::Model;
 use std::sync::Arc;
@@ -35,6 +37,18 @@ impl Model for Book {
 }
 
 impl Book {
+    /// The rows of tables, each of which has at most 1,000,000,000.
+    pub fn new(alloc: Global, tables: Tables) -> Result<Book, AllocError>
+        requires { (kind : Kind) → length (rows_of (database_of tables) kind) ≤ ROWS_MOST }
+        ensures { IfOk result (λ book. book ≡ database_of tables) }
+    {
+        let mut lists = Vec::with_capacity(alloc, KINDS.len())?;
+        for kind in KINDS {
+            lists.push(share_kind(alloc, &tables, kind)?)?;
+        }
+        Ok(Book { alloc, lists })
+    }
+
     /// A book with no rows.
     pub fn empty(alloc: Global) -> Result<Book, AllocError>
         ensures { IfOk result (λ book. book ≡ no_rows) }

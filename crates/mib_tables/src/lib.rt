@@ -7,6 +7,9 @@
 mod book;
 mod kinds;
 mod shared;
+mod table_row;
+#[cfg(test)]
+mod tests;
 
 pub use book::Book;
 pub use shared::{NoRow, Put, ROWS_MOST};
