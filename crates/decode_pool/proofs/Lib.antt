@@ -1,3 +1,4 @@
 pub mod Works
 pub mod Pairs
+pub mod AccountFacts
 pub mod FlowFacts

@@ -1,8 +1,9 @@
 -- The passes of all workers, cut into pairs.
-use Rattle.std.proofs.Common.{◌≡◌, ◌<◌, ◌≤◌, ◌+◌, ◌-◌, ◌*◌, ◌/◌, ◌%◌, ℕ, zero, suc, List, [], ◌∷◌, length, take, drop, sym, refl, ap, ◌∙◌, subst, arith}
+use Rattle.std.proofs.Common.{◌≡◌, ◌<◌, ◌*◌, ◌/◌, ◌%◌, ℕ, zero, suc, List, [], ◌∷◌, ◌++◌, length, take, drop, sym, refl, subst, arith}
 use Rattle.std.specs.Fork.{slice_chunk, IsChunk}
 use Rattle.work_queue.specs.declared.queue.Queue.{Queue}
 use Rattle.work_queue.specs.declared.queue.Pass.{Pass}
+use Rattle.work_queue.specs.Passes.{IsOf}
 use Rattle.decode_pool.specs.Served.{Ready, AllServe}
 
 module _ {J : Type 0} (jobs results : Queue J) where
@@ -47,5 +48,11 @@ module _ {J : Type 0} (jobs results : Queue J) where
       let first = each 0 (omega arith) in
       let twice : (n : ℕ) → suc n * 2 ≡ suc (suc (n * 2)) = λ n. omega arith in
       let rest : (n : ℕ) → n * 2 < length old → AllServe jobs results made number (slice_chunk old 2 n) (slice_chunk new 2 n) =
-            λ n lt. subst (λ (k : ℕ). AllServe jobs results made number (take 2 (drop k (a ∷ b ∷ old))) (take 2 (drop k (x ∷ y ∷ new)))) (twice n) (each (suc n) (omega (arith, lt))) in
+      λ n lt. subst (λ (k : ℕ). AllServe jobs results made number (take 2 (drop k (a ∷ b ∷ old))) (take 2 (drop k (x ∷ y ∷ new)))) (twice n) (each (suc n) (omega (arith, lt))) in
       (first.0, first.1, first.2, all_serve made number old new ready.2 (omega (arith, same)) rest)
+
+  -- two passes more, for one more worker
+  pub ready_push : (passes : List (Pass J)) (a b : Pass J) → Ready jobs results passes → IsOf jobs a → IsOf results b → Ready jobs results ((passes ++ a ∷ []) ++ b ∷ [])
+  ready_push [] a b ready p q = (p, q, tt)
+  ready_push (x ∷ []) a b ready p q = absurd ready
+  ready_push (x ∷ y ∷ passes) a b ready p q = (ready.0, ready.1, ready_push passes a b ready.2 p q)

@@ -1,4 +1,4 @@
-ghost use Rattle.decode_pool.specs.Flow.{EachResultIsOfItsJob};
+ghost use Rattle.decode_pool.specs.Flow.{EachResultIsOfItsJob, AccountsOfAPool};
 
 use work_queue::Numbered;
 
@@ -14,10 +14,15 @@ pub trait Work {
         ensures { made cell.old cell.new };
 }
 
+/// What `Pool::serve` leaves in the accounts of all passes together, with no work of its own: the jobs that were worked, an
+/// end for each worker, and a result for each job that was worked.
+pub fn accounts_of_a_pool<W: Work>()
+    ensures { AccountsOfAPool W.made W.Cell.number_of }
+{}
+
 /// The law of a pool, with no work of its own: where workers keep the numbers of cells, and no two jobs have one number
 /// but for 0, each result that was taken is the one that `work` makes of the job put under its number, and none was taken
 /// twice.
 pub fn each_result_is_of_its_job<W: Work>()
     ensures { EachResultIsOfItsJob W.made W.Cell.number_of }
-{
-}
+{}

@@ -3,6 +3,7 @@ mod Choices
 pub mod RunFacts
 pub mod PlainRunFacts
 pub mod RegisterFacts
+mod SamenessFacts
 mod Nesting
 mod WalkFacts
 mod Sorting

@@ -1,3 +1,4 @@
 pub mod Runs
 pub mod Registers
+pub mod Samenesses
 pub mod Walks

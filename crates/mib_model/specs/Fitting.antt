@@ -34,6 +34,7 @@ FitsBound bound.Empty = Unit {0}
 FitsBound (bound.Number d) = IsDecimal d
 FitsBound (bound.Words octets) = ⊥
 
+-- what a bound of a check of states may be: a text
 abbrev pub FitsState : Bound → Type 0
 FitsState bound.Empty = ⊥
 FitsState (bound.Number d) = ⊥

@@ -57,6 +57,7 @@ pub mod DeskLines
 pub mod Drafts
 pub mod Desk
 pub mod DeskRuns
+pub mod Summaries
 pub mod Output
 pub mod Codes
 pub mod Endings
