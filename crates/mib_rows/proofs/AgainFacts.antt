@@ -1,23 +1,19 @@
 -- What is written in the columns of a table is read again.
-use Rattle.std.proofs.Common.{◌≡◌, ◌≢◌, ℕ, zero, suc, ◌+◌, ◌-◌, ◌≤◌, ◌<◌, ◌^◌, Bool, true, false, ◌&&◌, List, [], ◌∷◌, ◌++◌, length, replicate, Option, Some, None, Ok, decimal, ℤ, pos, negsuc, nat_abs, ◌≤ℤ◌, slice_get, codes, refl, sym, ap, subst, ◌∙◌, inl, inr, append_assoc, arith, length-append, eqb}
-use Rattle.std.specs.Prelude.{unwrap_or}
+use Rattle.std.proofs.Common.{◌≡◌, ◌≢◌, ℕ, ◌<◌, ◌^◌, true, false, List, [], ◌∷◌, ◌++◌, Some, None, Ok, ℤ, pos, negsuc, nat_abs, ◌≤ℤ◌, codes, refl, sym, ap, subst, inl, inr, arith, eqb}
 use Rattle.std.specs.Char.{is_ascii_uppercase}
 use Rattle.std.specs.List.{list_all, list_any}
 use Rattle.std.specs.Fmt.{signed_decimal}
 use Rattle.std.proofs.lemmas.Bool.{cases_Bool}
 use Rattle.std.proofs.lemmas.Bool.Decides.{nat_tests}
-use Rattle.std.proofs.lemmas.List.{length-replicate, append-nil}
 use Rattle.std.proofs.lemmas.Int.{ints}
-use Rattle.mib_model.specs.declared.rows.Bound.{Bound}
 use Rattle.mib_model.specs.declared.rows.Bound.TheVariants as bound
 use Rattle.mib_model.specs.declared.number.Dec.{Dec}
-use Rattle.mib_model.specs.Columns.{Form, Named, Natural, Integer, Letter, Capital, Decimal, AnyText, Bounding, Content, Column, Must, Optional, Filled, number_in, Value, Values, counted, content_of, value_of, row_by}
-use Rattle.mib_model.specs.Fitting.{IsDecimal, FitsForm, FitsValue, FitsValues, FitsText}
-use Rattle.mib_model.specs.Lines.{fields, field_at, trimmed}
-use Rattle.mib_model.specs.Names.{is_name, is_visible}
-use Rattle.mib_model.specs.Numbers.{number_of}
-use Rattle.mib_model.specs.Writing.{decimal_text, content_text, value_text, line_onto, line_by}
-use Rattle.mib_rows.proofs.PlainFacts.{IsPlain, IsWhole, whole, and_left, and_right, fields-tab, fields-last, fields-tabs, trimmed-plain, plain-decimal, plain-signed, plain-append}
+use Rattle.mib_model.specs.Columns.{Form, Named, Natural, Integer, Letter, Capital, Decimal, AnyText, Bounding, Content, Column, Must, Optional, Filled, Value, counted, content_of, value_of}
+use Rattle.mib_model.specs.Fitting.{IsDecimal, FitsForm, FitsValue}
+use Rattle.mib_model.specs.Lines.{trimmed}
+use Rattle.mib_model.specs.Names.{is_visible}
+use Rattle.mib_model.specs.Writing.{decimal_text, content_text, value_text}
+use Rattle.mib_rows.proofs.PlainFacts.{IsPlain, IsWhole, whole, and_left, and_right, trimmed-plain, plain-decimal, plain-signed, plain-append}
 use Rattle.mib_rows.proofs.NumberFacts.{number-again}
 
 -- the forms that tables have: ranges of at most 20 digits, and letters that are visible

@@ -1,5 +1,5 @@
 -- A number that is written is read again.
-use Rattle.std.proofs.Common.{◌≡◌, ℕ, suc, ◌≤◌, ◌<◌, ◌^◌, Bool, true, false, ◌&&◌, List, [], ◌∷◌, length, refl, sym, ap, ◌∙◌, arith, eqb, decimal, ℤ, pos, negsuc, neg_ℤ, nat_abs, ◌≤ℤ◌, Some}
+use Rattle.std.proofs.Common.{◌≡◌, ℕ, suc, ◌≤◌, ◌<◌, ◌^◌, true, false, List, [], ◌∷◌, length, refl, ◌∙◌, arith, eqb, decimal, ℤ, pos, negsuc, nat_abs, ◌≤ℤ◌, Some}
 use Rattle.std.proofs.lemmas.Int.{ints}
 use Rattle.std.specs.Prelude.{nat_le, int_le}
 use Rattle.std.specs.Fmt.{signed_decimal}
@@ -7,7 +7,6 @@ use Rattle.std.specs.Char.{is_ascii_digit}
 use Rattle.std.specs.List.{list_all}
 use Rattle.std.proofs.lemmas.Bool.Decides.{nat_tests}
 use Rattle.std.proofs.lemmas.Fmt.{decimal_nonempty, length-decimal-le}
-use Rattle.mib_model.specs.Digits.{digits_value}
 use Rattle.mib_model.specs.Numbers.{magnitude_of, signed_of, in_range, number_of}
 use Rattle.mib_rows.proofs.PlainFacts.{IsSpelled, spelled, and_left}
 

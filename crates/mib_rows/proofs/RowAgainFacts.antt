@@ -1,9 +1,9 @@
 -- A line that is written is read again as its row.
-use Rattle.std.proofs.Common.{◌≡◌, ℕ, zero, suc, ◌+◌, ◌-◌, ◌≤◌, ◌<◌, false, List, [], ◌∷◌, ◌++◌, length, replicate, Option, Some, Ok, slice_get, refl, sym, ap, subst, ◌∙◌, append_assoc, arith, length-append}
+use Rattle.std.proofs.Common.{◌≡◌, ℕ, suc, ◌+◌, ◌-◌, ◌≤◌, ◌<◌, false, List, [], ◌∷◌, ◌++◌, length, replicate, Option, Some, Ok, slice_get, refl, sym, ap, subst, ◌∙◌, append_assoc, arith, length-append}
 use Rattle.std.specs.Prelude.{unwrap_or, nat_lt}
 use Rattle.std.proofs.lemmas.Bool.Decides.{nat_tests}
 use Rattle.std.proofs.lemmas.List.{length-replicate, append-nil}
-use Rattle.mib_model.specs.Columns.{Column, number_in, Value, Values, value_of, row_by, last_must, made_by}
+use Rattle.mib_model.specs.Columns.{Column, number_in, Values, value_of, row_by, last_must, made_by}
 use Rattle.mib_model.specs.Fitting.{FitsValues}
 use Rattle.mib_model.specs.Lines.{fields, field_at}
 use Rattle.mib_model.specs.Writing.{value_text, line_onto, line_by}

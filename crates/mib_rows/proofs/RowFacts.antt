@@ -1,18 +1,17 @@
 -- The rows of each table are read again from their lines.
-use Rattle.std.proofs.Common.{◌≡◌, ℕ, Bool, true, false, List, [], ◌∷◌, Ok, codes, refl, sym, ap, ◌∙◌, arith, rules}
+use Rattle.std.proofs.Common.{◌≡◌, Bool, true, false, [], ◌∷◌, Ok, codes, refl, ap, ◌∙◌, arith, rules}
 use Rattle.mib_model.specs.declared.rows.Row.{Row}
 use Rattle.mib_model.specs.declared.rows.Row.TheVariants as row
 use Rattle.mib_model.specs.declared.rows.OcpRow.{OcpRow}
-use Rattle.mib_model.specs.Columns.{Column}
 use Rattle.mib_model.specs.PacketTables.{pid, pid_row, pid_values, pic, pic_row, pic_values, tpcf, tpcf_row, tpcf_values, plf, plf_row, plf_values, vpd, vpd_row, vpd_values}
 use Rattle.mib_model.specs.CurveTables.{cur, cur_row, cur_values, caf, caf_row, caf_values, cap, cap_row, cap_values, txf, txf_row, txf_values, txp, txp_row, txp_values, mcf, mcf_row, mcf_values, lgf, lgf_row, lgf_values}
 use Rattle.mib_model.specs.ParameterTables.{pcf, pcf_row, pcf_values, ocf, ocf_row, ocf_values, ocp, ocp_row, ocp_values}
 use Rattle.mib_model.specs.Attempts.{made_into}
 use Rattle.mib_model.specs.Fitting.{FitsRow, FitsValues}
-use Rattle.mib_model.specs.Lines.{fields, field_at, trimmed}
+use Rattle.mib_model.specs.Lines.{fields}
 use Rattle.mib_model.specs.RowTexts.{row_of, line_of, kind_in, has_states, is_of_states, names_states}
 use Rattle.mib_model.specs.Writing.{line_by}
-use Rattle.mib_rows.proofs.AgainFacts.{AreColumns, among_visible, one_plain}
+use Rattle.mib_rows.proofs.AgainFacts.{among_visible, one_plain}
 use Rattle.mib_rows.proofs.PlainFacts.{trimmed-plain, IsPlain}
 use Rattle.mib_rows.proofs.RowAgainFacts.{IsTable, made_by-again, fields-line_by}
 

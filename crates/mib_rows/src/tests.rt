@@ -38,12 +38,14 @@ fn the_first_fault_is_told(rt: HostRuntime) -> Result<(), Fail> {
 
 #[test]
 fn a_row_is_written_and_read_again(rt: HostRuntime) -> Result<(), Fail> {
-    let line = b"T1\t1\tS\t1.50\t\t\t007";
-    let row = read_row(rt.alloc(), Kind::Ocp, line)?;
-    let written = write_row(rt.alloc(), &row)?;
-    assert_eq!(rt; written.as_slice(), b"T1\t1\tS\t15E-1\t\t\t7".as_slice());
-    let again = read_row(rt.alloc(), Kind::Ocp, &written)?;
-    assert!(rt; again == row);
+    let rows = read_table(rt.alloc(), Kind::Ocp, b"T1\t1\tS\t1.50\t\t\t007")?;
+    assert_eq!(rt; rows.len(), 1);
+    let line = write_row(rt.alloc(), &rows[0])?;
+    assert_eq!(rt; line.as_slice(), b"T1\t1\tS\t15E-1\t\t\t7".as_slice());
+    let again = read_table(rt.alloc(), Kind::Ocp, &line)?;
+    assert_eq!(rt; again.len(), 1);
+    assert!(rt; again[0] == rows[0]);
+    assert!(rt; read_row(rt.alloc(), Kind::Ocp, &line).is_ok());
     Ok(())
 }
 

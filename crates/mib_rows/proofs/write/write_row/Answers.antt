@@ -1,4 +1,3 @@
-use Rattle.std.proofs.Common.{List, ℕ, Vec}
 use Rattle.mib_rows.proofs.LawFacts.{again_if}
 use Rattle.mib_rows.proofs.write.write_row.Goals as goal
 

@@ -1,0 +1,3 @@
+pub mod DecimalFacts
+pub mod FitFacts
+pub mod RowFitFacts
