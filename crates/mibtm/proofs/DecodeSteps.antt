@@ -1,20 +1,17 @@
 -- What a run says is what a call says.
-use Rattle.std.proofs.Common.{◌≡◌, ℕ, Bool, true, false, List, [], ◌∷◌, ◌++◌, Option, Some, None, IfSome, is_some, length, refl, sym, ap, ◌∙◌, append_assoc, append-nil, subst, inl, inr, ◌⊎◌}
+use Rattle.std.proofs.Common.{◌≡◌, ℕ, Bool, true, false, List, ◌++◌, Option, Some, None, IfSome, is_some, length, refl, sym, ap, ◌∙◌, append_assoc, subst, inl, inr}
 use Rattle.std.specs.List.{All, concat}
-use Rattle.std.proofs.KnownBytes.{Appends-nil}
 use Rattle.std.proofs.lemmas.List.Folds.{concat-append}
 use Rattle.std.proofs.lemmas.List.{take_at}
 use Rattle.std.proofs.lemmas.List.Elements.{All-take}
 use Rattle.mib_model.specs.declared.code.Code.{Code}
 use Rattle.mib_model.specs.declared.code.Code.TheVariants as code
-use Rattle.mib_model.specs.declared.code.Input.{Input}
 use Rattle.mib_model.specs.declared.code.Input.TheVariants as input
 use Rattle.mib_model.specs.declared.database.Database.{Database}
 use Rattle.mib_model.specs.Packets.{IsPacket, IsCut}
-use Rattle.mibtm.specs.Causes.{Failed}
 use Rattle.mibtm.specs.Run.{Ran, Ends, IsRunCode}
 use Rattle.mibtm.specs.Sources.{Files}
-use Rattle.mibtm.specs.Tool.{IsFeedCode, IsBeforeRun, Decodes, DecodesSome, DecodesNone, Standing, RanSo, MissesFeed, PrintsFront}
+use Rattle.mibtm.specs.Tool.{IsFeedCode, IsBeforeRun, Decodes, DecodesSome, Standing, RanSo, MissesFeed, PrintsFront}
 
 All-front : (xs ys : List (List ℕ)) → All IsPacket (xs ++ ys) → All IsPacket xs
 All-front xs ys all = subst (All IsPacket) (take_at xs ys (length xs) refl) (All-take IsPacket (length xs) (xs ++ ys) all)
@@ -30,8 +27,11 @@ ran-prints : (db : Database) (octets : List ℕ) (s : Standing) (left : Option (
     → PrintsFront db octets s.old s.new
 ran-prints db octets s None is ran = absurd ran
 ran-prints db octets s (Some left) is (read, packets, rest, whole, cut, (few, printed, more, parted, wrote)) = (
-  printed, concat more ++ (rest ++ left), front-of octets read left rest packets printed more whole cut parted,
-  All-front printed more (subst (All IsPacket) parted cut.each), wrote,
+  printed,
+  concat more ++ (rest ++ left),
+  front-of octets read left rest packets printed more whole cut parted,
+  All-front printed more (subst (All IsPacket) parted cut.each),
+  wrote,
 )
 
 -- a code that no run ends with

@@ -1,8 +1,8 @@
 -- The tables of a folder, table by table.
-use Rattle.std.proofs.Common.{◌≡◌, ◌≤◌, ℕ, Bool, true, false, List, [], ◌∷◌, length, Option, Some, None, Result, Ok, Err, IfSome, IfOk, IfErr, refl, sym, ap, ◌∙◌, inl, inr, arith, not, subst, filter_map, drop}
+use Rattle.std.proofs.Common.{◌≡◌, ◌≤◌, ℕ, Bool, false, List, [], ◌∷◌, length, Option, Some, None, Result, Ok, Err, IfSome, IfOk, IfErr, refl, sym, ap, ◌∙◌, inl, inr, arith, subst, filter_map, drop}
 use Rattle.std.specs.Prelude.{option_map, position, nat_lt}
 use Rattle.std.specs.List.{All, position_or_len}
-use Rattle.std.proofs.lemmas.Bool.{cases_Bool, ltb-false, le-ltb}
+use Rattle.std.proofs.lemmas.Bool.{cases_Bool, ltb-false}
 use Rattle.std.proofs.lemmas.List.Elements.{All-nil, All-cons}
 use Rattle.mib_model.specs.declared.code.Code.{Code}
 use Rattle.mib_model.specs.declared.code.Code.TheVariants as code
@@ -22,7 +22,7 @@ use Rattle.mib_model.specs.Kinds.{kinds}
 use Rattle.mib_model.specs.Lines.{lines_of}
 use Rattle.mib_model.specs.Match.{first_of_two}
 use Rattle.mib_model.specs.Reading.{table_of, rows_from}
-use Rattle.mib_model.specs.Unbuilt.{unbuilt, unbuilt_in, is_unbuilt_pcf, is_unbuilt_pid}
+use Rattle.mib_model.specs.Unbuilt.{unbuilt, is_unbuilt_pcf, is_unbuilt_pid}
 use Rattle.mibtm.specs.Readings.{IsBuilt}
 use Rattle.mibtm.specs.Sources.{Files, Picks, Refuses, RefusesTable, RefusesFolder, database_in, if_built, table_text, texts_read, three_tables}
 
@@ -134,8 +134,23 @@ all-rows : (files : Files) (folder : List ℕ) (pcf pid plf : List Row) → tabl
     → table_of kind.Pid (table_text files folder kind.Pid) ≡ Ok pid → table_of kind.Plf (table_text files folder kind.Plf) ≡ Ok plf
     → database_by (λ k. rows_in (reading files folder k)) ≡ three_tables (filter_map as_pcf pcf) (filter_map as_pid pid) (filter_map as_plf plf)
 all-rows files folder pcf pid plf first second third =
-    simp (first, second, third, empty-rows kind.Pic, empty-rows kind.Tpcf, empty-rows kind.Vpd, empty-rows kind.Cur, empty-rows kind.Caf, empty-rows kind.Cap, empty-rows kind.Txf,
-    empty-rows kind.Txp, empty-rows kind.Mcf, empty-rows kind.Lgf, empty-rows kind.Ocf, empty-rows kind.Ocp) refl
+    simp (
+      first,
+      second,
+      third,
+      empty-rows kind.Pic,
+      empty-rows kind.Tpcf,
+      empty-rows kind.Vpd,
+      empty-rows kind.Cur,
+      empty-rows kind.Caf,
+      empty-rows kind.Cap,
+      empty-rows kind.Txf,
+      empty-rows kind.Txp,
+      empty-rows kind.Mcf,
+      empty-rows kind.Lgf,
+      empty-rows kind.Ocf,
+      empty-rows kind.Ocp,
+    ) refl
 
 all-read : (files : Files) (folder : List ℕ) (pcf pid plf : List Row) → table_of kind.Pcf (table_text files folder kind.Pcf) ≡ Ok pcf
     → table_of kind.Pid (table_text files folder kind.Pid) ≡ Ok pid → table_of kind.Plf (table_text files folder kind.Plf) ≡ Ok plf

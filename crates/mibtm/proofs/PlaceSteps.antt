@@ -1,13 +1,13 @@
 -- The places of the rows, row by row.
-use Rattle.std.proofs.Common.{◌≡◌, ◌<◌, ◌≤◌, ◌+◌, ◌-◌, ℕ, Bool, true, false, List, [], ◌∷◌, ◌++◌, Option, Some, None, suc, length, get_or, drop, map, refl, sym, ap, ◌∙◌, eq-eqb, arith, add-one, drop-cons, ◌==◌}
-use Rattle.std.specs.List.{flat_map, filter, range_with_len}
+use Rattle.std.proofs.Common.{◌≡◌, ◌<◌, ◌≤◌, ◌+◌, ◌-◌, ℕ, List, [], ◌∷◌, ◌++◌, Option, suc, length, get_or, drop, map, refl, sym, ap, eq-eqb, arith, add-one, drop-cons}
+use Rattle.std.specs.List.{range_with_len}
 use Rattle.std.proofs.lemmas.Bool.{ne_eqb}
 use Rattle.std.proofs.lemmas.List.{drop_all}
 use Rattle.mib_model.specs.declared.database.Database.{Database}
 use Rattle.mib_model.specs.declared.rows.PcfRow.{PcfRow}
 use Rattle.mib_model.specs.declared.rows.PlfRow.{PlfRow}
 use Rattle.mib_model.specs.Encodings.{Encoding}
-use Rattle.mib_model.specs.Fixed.{Place, places, occurrence, occurrences}
+use Rattle.mib_model.specs.Fixed.{places, occurrence, occurrences}
 use Rattle.mib_model.specs.Parameters.{parameter, measured_encoding}
 use Rattle.mibtm.specs.Readings.{places_in}
 

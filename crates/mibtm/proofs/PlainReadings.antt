@@ -1,9 +1,8 @@
 -- The values of a packet, as the definitions give them, have the text that is written place by place.
-use Rattle.std.proofs.Common.{◌≡◌, ◌≤◌, ◌+◌, ◌-◌, ℕ, zero, suc, Bool, true, false, List, [], ◌∷◌, ◌++◌, length, take, drop, map, refl, sym, ap, ◌∙◌, inl, inr, eq-eqb, append_assoc, arith, zero-add}
+use Rattle.std.proofs.Common.{◌≡◌, ◌+◌, ℕ, zero, suc, true, false, List, [], ◌∷◌, ◌++◌, length, take, drop, map, refl, sym, ap, ◌∙◌, inl, inr, eq-eqb, append_assoc, arith, zero-add}
 use Rattle.std.specs.List.{flat_map, take_while, prefix_len}
 use Rattle.std.proofs.lemmas.Bool.{cases_Bool, ne_eqb}
 use Rattle.mib_model.specs.declared.packet.Value.{Value}
-use Rattle.mib_model.specs.declared.packet.Ended.TheVariants.{Short, Many}
 use Rattle.mib_model.specs.Fixed.{Place, most_values, holds_place, places_inside, value_at, values_at, ended_before}
 use Rattle.mib_model.specs.Tails.{Plain}
 use Rattle.mib_model.specs.Texts.{ended_text, value_text}

@@ -1,7 +1,6 @@
 -- What the interpreter prints of packets of one edition is their plain records.
-use Rattle.std.proofs.Common.{◌≡◌, ◌+◌, ℕ, suc, Bool, true, false, List, [], ◌∷◌, ◌++◌, Option, Some, None, length, map, refl, sym, ap, ◌∙◌, inl, inr, append-nil, append_assoc, cond, arith, not, int_lt, pos, eq-eqb, ◌==◌}
-use Rattle.std.specs.List.{All, flat_map, find, zip, range_with_len}
-use Rattle.std.proofs.lemmas.Bool.{cases_Bool}
+use Rattle.std.proofs.Common.{◌≡◌, ◌+◌, ℕ, suc, Bool, true, false, List, [], ◌∷◌, ◌++◌, Option, Some, None, length, refl, sym, ap, ◌∙◌, append-nil, append_assoc, cond, arith, not, int_lt, pos, eq-eqb, ◌==◌}
+use Rattle.std.specs.List.{All, flat_map, find}
 use Rattle.mib_model.specs.declared.database.Database.{Database}
 use Rattle.mib_model.specs.declared.packet.Found.{Found}
 use Rattle.mib_model.specs.declared.packet.Found.TheVariants as found
@@ -9,7 +8,7 @@ use Rattle.mib_model.specs.declared.rows.PidRow.{PidRow}
 use Rattle.mib_model.specs.Finish.{all_finished}
 use Rattle.mib_model.specs.Fixed.{places, values_at}
 use Rattle.mib_model.specs.Headers.{header_of}
-use Rattle.mib_model.specs.Interpreter.{Course, Stamped, start, values_of, title_of, record_for, course_after, interpret, records_text, memory_for}
+use Rattle.mib_model.specs.Interpreter.{Course, start, values_of, title_of, record_for, course_after, interpret, records_text}
 use Rattle.mib_model.specs.Kept.{Memory, all_entered}
 use Rattle.mib_model.specs.Match.{match_of, found_with, found_by, agrees, lacks_service, discriminants, criterion, idle_apid}
 use Rattle.mib_model.specs.Output.{stamped_first, stamped_from, output_of_one}
@@ -18,8 +17,8 @@ use Rattle.mib_model.specs.Unbuilt.{is_unbuilt_pid}
 use Rattle.mibtm.specs.Readings.{IsBuilt, plain_record, found_values_text, readings_text}
 use Rattle.mibtm.proofs.ListFacts.{All-find}
 use Rattle.mibtm.proofs.PlaceSteps.{places-all}
-use Rattle.mibtm.proofs.PlainReadings.{plain_line, readings-values}
-use Rattle.mibtm.proofs.PlainValues.{HasBareRow, finished-lines, values-bare}
+use Rattle.mibtm.proofs.PlainReadings.{readings-values}
+use Rattle.mibtm.proofs.PlainValues.{finished-lines, values-bare}
 
 -- a packet that is found has no structure
 abbrev IsFixed : Found → Type 0

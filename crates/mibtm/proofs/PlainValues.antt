@@ -1,6 +1,6 @@
 -- A value of a parameter without a curve, a condition and a check is finished with nothing behind it.
-use Rattle.std.proofs.Common.{◌≡◌, ◌+◌, ℕ, Bool, true, false, List, [], ◌∷◌, ◌++◌, Option, Some, None, length, take, map, refl, sym, ap, ◌∙◌, inl, inr, append-nil, ◌==◌, ◌&&◌, not, is_some}
-use Rattle.std.specs.List.{All, flat_map, filter, find}
+use Rattle.std.proofs.Common.{◌≡◌, ℕ, Bool, true, false, List, [], ◌∷◌, ◌++◌, Option, Some, None, refl, ap, inl, inr, append-nil, ◌==◌, ◌&&◌, not, is_some}
+use Rattle.std.specs.List.{All, flat_map, filter}
 use Rattle.std.specs.Str.{bytes_eq}
 use Rattle.std.proofs.lemmas.Bool.{cases_Bool}
 use Rattle.std.proofs.lemmas.List.Elements.{All-head, All-tail, All-take, All-nil, All-append, All-map}
@@ -8,7 +8,6 @@ use Rattle.mib_model.specs.declared.database.Database.{Database}
 use Rattle.mib_model.specs.declared.packet.Value.{Value}
 use Rattle.mib_model.specs.declared.rows.PcfRow.{PcfRow}
 use Rattle.mib_model.specs.declared.rows.PlfRow.{PlfRow}
-use Rattle.mib_model.specs.Carry.{check_of}
 use Rattle.mib_model.specs.Curves.{curve_of, selections}
 use Rattle.mib_model.specs.Orders.{sorted_by}
 use Rattle.mib_model.specs.Encodings.{Encoding}

@@ -1,10 +1,10 @@
 -- The text of the values, place by place.
-use Rattle.std.proofs.Common.{◌≡◌, ◌≢◌, ◌+◌, ◌*◌, ℕ, Bool, true, false, List, [], ◌∷◌, ◌++◌, Option, Some, None, length, cond, refl, sym, ap, ◌∙◌, inl, inr, eq-eqb, append_assoc, append-nil, leb}
+use Rattle.std.proofs.Common.{◌≡◌, ◌+◌, ℕ, List, [], ◌∷◌, ◌++◌, Some, None, cond, refl, ap, inl, inr, eq-eqb, append-nil}
 use Rattle.std.specs.Prelude.{codes, decimal}
 use Rattle.std.proofs.lemmas.Bool.{cases_Bool, ne_eqb}
 use Rattle.mib_model.specs.declared.packet.Ended.TheVariants.{Many, Short}
 use Rattle.mib_model.specs.Bits.{bits, is_inside, raw_number}
-use Rattle.mib_model.specs.Fixed.{Place, value_at}
+use Rattle.mib_model.specs.Fixed.{Place}
 use Rattle.mib_model.specs.RawTexts.{raw_text}
 use Rattle.mib_model.specs.Texts.{ended_text, value_text}
 use Rattle.mibtm.specs.Readings.{plain_value_text, readings_text, reading_text, unsigned_of}

@@ -1,5 +1,5 @@
 -- The values of a row's occurrences, one by one.
-use Rattle.std.proofs.Common.{◌≡◌, ◌<◌, ◌+◌, ◌-◌, ◌*◌, ◌++◌, ◌∷◌, ◌∙◌, ℕ, Bool, true, false, List, map, ap, sym, subst}
+use Rattle.std.proofs.Common.{◌≡◌, ◌<◌, ◌+◌, ◌-◌, ◌*◌, ◌++◌, ◌∙◌, ℕ, Bool, true, false, List, map, ap, sym, subst}
 use Rattle.std.specs.List.{range_with_len}
 use Rattle.mib_model.specs.declared.rows.PlfRow.{PlfRow}
 use Rattle.mib_model.specs.Encodings.{Encoding}

@@ -1,5 +1,5 @@
 -- A run, packet by packet.
-use Rattle.std.proofs.Common.{◌≡◌, ◌≤◌, ◌<◌, ◌+◌, ◌-◌, ℕ, zero, suc, List, [], ◌∷◌, ◌++◌, Option, Some, None, length, take, refl, sym, ap, ◌∙◌, append_assoc, append-nil, arith, subst, zero-add}
+use Rattle.std.proofs.Common.{◌≡◌, ◌<◌, ◌+◌, ℕ, zero, suc, List, [], ◌∷◌, ◌++◌, Option, Some, None, length, take, refl, sym, ap, ◌∙◌, append_assoc, append-nil, arith, subst, zero-add}
 use Rattle.std.specs.List.{All, concat}
 use Rattle.std.proofs.lemmas.List.{length_push, take_at}
 use Rattle.std.proofs.lemmas.List.Elements.{All-push, All-nil}
@@ -16,7 +16,7 @@ use Rattle.mib_model.specs.Packets.{IsPacket, BeginsNoPacket, IsCut}
 use Rattle.mib_model.specs.Texts.{cut_text, rest_text}
 use Rattle.mibtm.specs.Causes.{code_of_stop, HasFeedCause}
 use Rattle.mibtm.specs.Readings.{IsBuilt, plain_record}
-use Rattle.mibtm.specs.Run.{Ran, Ends, Going, Writes, WritesPart, StopsWriting, StopsAt, most_packets}
+use Rattle.mibtm.specs.Run.{Ran, Ends, Going, Writes, WritesPart, StopsWriting, StopsAt}
 use Rattle.mibtm.specs.declared.run.Stop.{Stop}
 use Rattle.mibtm.specs.declared.run.Stop.TheVariants as stop
 use Rattle.mibtm.proofs.PlainRecords.{plain_records, output-plain, plain_records-push, plain_records-append, plain_records-nil}
@@ -132,13 +132,21 @@ ran_stopped s db number before now (Some octets) None after old mid new packet b
 ran_stopped s db number before now (Some octets) (Some left) None old mid new packet built few is given stopped so_far = absurd given
 ran_stopped stop.Memory db number before now (Some octets) (Some left) (Some after) old mid new packet built few is given stopped so_far =
     let (packets, whole, each, count, wrote) = so_far in (
-      concat (packets ++ packet ∷ []), packets ++ packet ∷ [], [], whole-push octets left after packet packets whole given, packets-cut (packets ++ packet ∷ []) (All-push IsPacket packets packet each is),
+      concat (packets ++ packet ∷ []),
+      packets ++ packet ∷ [],
+      [],
+      whole-push octets left after packet packets whole given,
+      packets-cut (packets ++ packet ∷ []) (All-push IsPacket packets packet each is),
       (rw (length_push packets packet) (omega (arith, count, few)), packets, packet ∷ [], refl, writes-none db packets old mid new wrote stopped),
     )
 ran_stopped stop.Out db number before now (Some octets) (Some left) (Some after) old mid new packet built few is given stopped so_far =
     let (packets, whole, each, count, wrote) = so_far in
     let part = part-push db number packets packet old mid new built count wrote stopped in (
-      concat (packets ++ packet ∷ []), packets ++ packet ∷ [], [], whole-push octets left after packet packets whole given, packets-cut (packets ++ packet ∷ []) (All-push IsPacket packets packet each is),
+      concat (packets ++ packet ∷ []),
+      packets ++ packet ∷ [],
+      [],
+      whole-push octets left after packet packets whole given,
+      packets-cut (packets ++ packet ∷ []) (All-push IsPacket packets packet each is),
       (rw (length_push packets packet) (omega (arith, count, few)), record { whole = λ same. part; fault = λ more. part }),
     )
 
@@ -172,7 +180,11 @@ ran_cut db number cut before now (Some octets) (Some left) None old mid new buil
 ran_cut db number cut before now (Some octets) (Some left) (Some after) old mid new built few took printed so_far =
     let (packets, whole, each, count, wrote) = so_far in
     let (rest, size, some, none, taken, end) = took in (
-      concat packets ++ rest, packets, rest, read_whole octets left rest after packets whole taken, rest-cut packets rest each none,
+      concat packets ++ rest,
+      packets,
+      rest,
+      read_whole octets left rest after packets whole taken,
+      rest-cut packets rest each none,
       (size, some, end, omega (arith, count, few), writes-tail db packets (cut_text cut) old mid new built wrote printed),
     )
 
@@ -185,18 +197,29 @@ ran_stopped_at_rest s db number cut before now (Some octets) (Some left) None ol
 ran_stopped_at_rest stop.Memory db number cut before now (Some octets) (Some left) (Some after) old mid new built few took same stopped so_far =
     let (packets, whole, each, count, wrote) = so_far in
     let (rest, size, some, none, taken, end) = took in (
-      concat packets ++ rest, packets, rest, read_whole octets left rest after packets whole taken, rest-cut packets rest each none,
+      concat packets ++ rest,
+      packets,
+      rest,
+      read_whole octets left rest after packets whole taken,
+      rest-cut packets rest each none,
       (omega (arith, count, few), packets, [], sym (append-nil packets), writes-none db packets old mid new wrote stopped),
     )
 ran_stopped_at_rest stop.Out db number cut before now (Some octets) (Some left) (Some after) old mid new built few took same stopped so_far =
     let (packets, whole, each, count, wrote) = so_far in
     let (rest, size, some, none, taken, end) = took in
     let part = part-behind (output_of_one db packets []) (cut_text cut) old mid new wrote stopped in (
-      concat packets ++ rest, packets, rest, read_whole octets left rest after packets whole taken, rest-cut packets rest each none,
-      (omega (arith, count, few), record {
-        whole = λ e. subst (AppendsPrefix old new) (sym (output-tail db packets (rest_text rest) built ∙ ap (λ t. output_of_one db packets [] ++ t) (rest_text-some rest cut size some))) part;
-        fault = λ more. absurd (omega (arith, more, same));
-      }),
+      concat packets ++ rest,
+      packets,
+      rest,
+      read_whole octets left rest after packets whole taken,
+      rest-cut packets rest each none,
+      (
+        omega (arith, count, few),
+        record {
+          whole = λ e. subst (AppendsPrefix old new) (sym (output-tail db packets (rest_text rest) built ∙ ap (λ t. output_of_one db packets [] ++ t) (rest_text-some rest cut size some))) part;
+          fault = λ more. absurd (omega (arith, more, same));
+        },
+      ),
     )
 
 -- nothing was read and nothing written
@@ -243,11 +266,13 @@ ends-unflushed : (c : Code) (db : Database) (packets : List (List ℕ)) (rest le
     → HasFeedCause c before now → Ends c db packets rest left before now old new → Ends code.OutFault db packets rest left before now old new
 ends-unflushed code.Ok db packets rest left before now old new built cause (none, end, few, wrote) =
     (omega (arith, few), stops-with db packets rest before now old new (λ tail. part-tail db packets tail old new built wrote))
-ends-unflushed (code.Cut cut) db packets rest left before now old new built cause (size, some, end, few, wrote) =
-    (omega (arith, few), record {
-      whole = λ same. subst (λ (tail : List ℕ). WritesPart db packets tail old new) (sym (rest_text-some rest cut size some)) (part-same db packets (cut_text cut) old new wrote);
-      fault = λ more. absurd (omega (arith, more, cause));
-    })
+ends-unflushed (code.Cut cut) db packets rest left before now old new built cause (size, some, end, few, wrote) = (
+  omega (arith, few),
+  record {
+    whole = λ same. subst (λ (tail : List ℕ). WritesPart db packets tail old new) (sym (rest_text-some rest cut size some)) (part-same db packets (cut_text cut) old new wrote);
+    fault = λ more. absurd (omega (arith, more, cause));
+  },
+)
 ends-unflushed code.FeedFault db packets rest left before now old new built cause (few, wrote) =
     (omega (arith, few), stops-with db packets rest before now old new (λ tail. part-tail db packets tail old new built wrote))
 ends-unflushed code.OutFault db packets rest left before now old new built cause ends = ends

@@ -1,5 +1,5 @@
 -- The rows of a text are at most 100,000, and a text that is read in part is refused as the whole is.
-use Rattle.std.proofs.Common.{◌≡◌, ◌≤◌, ◌<◌, ◌+◌, ◌-◌, ℕ, suc, min, Bool, true, false, List, [], ◌∷◌, ◌++◌, length, take, Result, Ok, Err, Option, Some, None, IfSome, IfOk, IfErr, Vec, refl, sym, ap, ◌∙◌, inl, inr, arith, length-take, filter_map, subst}
+use Rattle.std.proofs.Common.{◌≡◌, ◌≤◌, ◌+◌, ℕ, min, true, List, [], ◌∷◌, length, Result, Ok, Err, Option, Some, None, IfSome, IfOk, IfErr, Vec, refl, sym, ap, ◌∙◌, inl, inr, arith, filter_map, subst}
 use Rattle.std.specs.Prelude.{nat_lt}
 use Rattle.std.proofs.lemmas.Bool.{cases_Bool}
 use Rattle.std.specs.List.{cons_option}

@@ -1,18 +1,16 @@
 -- What is said of a feed where the tables were not accepted.
-use Rattle.std.proofs.Common.{◌≡◌, ℕ, List, [], ◌++◌, Option, Some, None, Result, Ok, Err, IfSome, IfOk, IsOk, refl, sym, ap, ◌∙◌, subst}
+use Rattle.std.proofs.Common.{◌≡◌, ℕ, List, [], Option, Some, None, Result, Ok, Err, IfSome, IfOk, refl, sym, subst}
 use Rattle.std.specs.Io.KnownBytes.{Appends}
 use Rattle.std.proofs.lemmas.List.Elements.{All-nil}
 use Rattle.mib_model.specs.declared.code.Code.{Code}
 use Rattle.mib_model.specs.declared.code.Code.TheVariants as code
-use Rattle.mib_model.specs.declared.code.Input.TheVariants as input
 use Rattle.mib_model.specs.declared.database.Database.{Database}
 use Rattle.mib_model.specs.declared.fault.MibFault.{MibFault}
 use Rattle.mib_model.specs.Interpreter.{interpret}
 use Rattle.mib_model.specs.Output.{output_of_one, stamped_from}
 use Rattle.mib_model.specs.Packets.{IsPacket}
-use Rattle.mibtm.specs.Causes.{HasTablesCause, HasFeedCause, HasOutCause, IsLoadStop}
 use Rattle.mibtm.specs.Sources.{Files, Refuses, RefusesFolder, database_in}
-use Rattle.mibtm.specs.Tool.{AnswersTables, Decodes, Standing, PrintsFront, IsDecodeCode, IsFeedCode, IsBeforeFeed}
+use Rattle.mibtm.specs.Tool.{Decodes, Standing, PrintsFront}
 
 -- no packet gives no text
 output-nothing : (db : Database) → output_of_one db [] [] ≡ []

@@ -1,5 +1,5 @@
 -- The text of a packet's record, place by place, where no value has a curve or a check. [This profile.]
-use Rattle.std.specs.Prelude.{◌≡◌, ℕ, ◌+◌, Bool, false, List, [], ◌∷◌, ◌++◌, codes, decimal, Option, Some, None, option_map, MatchOption, ◌==◌, if◌then◌else◌}
+use Rattle.std.specs.Prelude.{◌≡◌, ℕ, ◌+◌, Bool, false, List, [], ◌∷◌, ◌++◌, codes, decimal, Option, None, MatchOption, ◌==◌, if◌then◌else◌}
 use Rattle.std.specs.Bool.{MatchBool}
 use Rattle.std.specs.List.{All, filter, flat_map}
 use Rattle.mib_model.specs.declared.packet.Ended.TheVariants.{Many, Short}

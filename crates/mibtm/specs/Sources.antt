@@ -1,5 +1,5 @@
 -- Where the tables are read from, and which database is accepted. [This profile.]
-use Rattle.std.specs.Prelude.{◌≡◌, ℕ, ◌≤◌, List, [], ◌++◌, codes, take, filter_map, length, Option, Some, None, unwrap_or, Result, Ok, Err, ⊤}
+use Rattle.std.specs.Prelude.{◌≡◌, ℕ, List, [], ◌++◌, codes, take, filter_map, Option, Some, None, unwrap_or, Result, Ok, Err, ⊤}
 use Rattle.mib_model.specs.declared.code.Code.{Code}
 use Rattle.mib_model.specs.declared.code.Code.TheVariants as code
 use Rattle.mib_model.specs.declared.database.Database.{Database}

@@ -12,12 +12,7 @@ use std::alloc::Global;
 use tm_io::Shelf;
 
 // The tables that have these rows, and no others.
-fn assemble(
-    alloc: Global,
-    pcf: Vec<PcfRow>,
-    pid: Vec<PidRow>,
-    plf: Vec<PlfRow>,
-) -> Tables
+fn assemble(alloc: Global, pcf: Vec<PcfRow>, pid: Vec<PidRow>, plf: Vec<PlfRow>) -> Tables
     ensures rows { database_of result ≡ three_tables pcf.items pid.items plf.items }
     ensures parameters { vec_len result.pcf ≡ vec_len pcf }
     ensures packets { vec_len result.pid ≡ vec_len pid }

@@ -1,7 +1,13 @@
-//! The monitoring half of a spacecraft control system: tables and a feed of packets in, decoded values out.
+//! The monitoring half of a spacecraft control system in the manner of SCOS-2000: `decode DIR FEED` reads the tables
+//! of a monitoring database from a folder, cuts a feed into space packets, and prints the values of each.
+//!
+//! The call `tool` promises what is printed for these tables and this feed, and with which status it ends; `main`
+//! hands it real files and streams. It stands on `tm_io` for these, on `mib_rows` for tables, on `packet_feed` for
+//! packets, and on `mib_model` for all definitions.
 #![tactic(auto)]
 
 mod bits;
+mod code_text;
 mod decode;
 mod kinds;
 mod load;
@@ -15,4 +21,52 @@ mod unbuilt;
 mod values;
 mod words;
 
-fn main() {}
+use crate::code_text::add_code;
+use crate::tool::tool;
+use mib_model::{Code, Line};
+use std::env;
+use std::process::ExitCode;
+use tm_io::{FileShelf, NoGate, StdSink, write_all};
+
+// The words behind the program's name; None where memory runs out.
+fn arguments(rt: HostRuntime) -> Option<Vec<String>> {
+    let mut words = Vec::new(rt.alloc());
+    for word in env::args(&rt).ok()?.skip(1) {
+        words.push(word).ok()?;
+    }
+    Some(words)
+}
+
+// Tells on standard error how the call ended, unless all is well.
+fn tell(rt: HostRuntime, code: &Code) {
+    let mut line = Line::new();
+    add_code(&mut line, code);
+    if line.bytes().is_empty() {
+        return;
+    }
+    line.add(b"\n");
+    // Nothing is left to tell a failure to.
+    let _ = write_all(&mut StdSink::new(rt.stderr()), line.bytes());
+}
+
+fn main(rt: HostRuntime) -> ExitCode {
+    let code = match arguments(rt) {
+        Some(words) => {
+            tool(
+                &rt,
+                rt.alloc(),
+                &words,
+                &mut FileShelf::new(rt),
+                &mut FileShelf::new(rt),
+                &mut FileShelf::new(rt),
+                &mut StdSink::new(rt.stdout()),
+                &mut StdSink::new(rt.stderr()),
+                &NoGate,
+            )
+            .code
+        }
+        None => Code::Want,
+    };
+    tell(rt, &code);
+    ExitCode::from(code.number())
+}

@@ -91,7 +91,9 @@ impl TableRow for PlfRow {
 fn rows_of<R: TableRow>(alloc: Global, rows: &[Row]) -> Result<Vec<R>, AllocError>
     ensures { IfOk result (λ kept. kept.items ≡ filter_map R.from_row rows.now) }
 {
-    rows.iter().filter_map(|row| R::from_row(row)).collect(alloc)
+    rows.iter()
+        .filter_map(|row| R::from_row(row))
+        .collect(alloc)
 }
 
 // The name of a table's file.

@@ -1,4 +1,3 @@
-use Rattle.std.proofs.Common.{◌≡◌, ap, ◌∙◌, sym, rules, arith}
 use Rattle.mib_model.specs.Database.{database_of}
 use Rattle.mibtm.proofs.DecodeSteps.{fed, run-is_feed, run-not_before}
 use Rattle.mibtm.proofs.decode.decode_feed.Goals as goal

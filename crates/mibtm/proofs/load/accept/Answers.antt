@@ -1,4 +1,4 @@
-use Rattle.std.proofs.Common.{◌≡◌, ◌∙◌, sym, ap, subst}
+use Rattle.std.proofs.Common.{◌∙◌, sym, ap, subst}
 use Rattle.mib_model.specs.Unbuilt.{unbuilt}
 use Rattle.mibtm.specs.Readings.{IsBuilt}
 use Rattle.mibtm.proofs.LoadSteps.{three-built}

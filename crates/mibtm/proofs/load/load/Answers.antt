@@ -1,4 +1,4 @@
-use Rattle.std.proofs.Common.{◌≡◌, ◌∙◌, subst, Option, IfSome}
+use Rattle.std.proofs.Common.{◌∙◌, subst, Option, IfSome}
 use Rattle.mib_model.specs.declared.kind.Kind.TheVariants as kind
 use Rattle.mib_model.specs.DatabaseTexts.{as_pid, as_plf}
 use Rattle.mibtm.specs.Sources.{Files, Picks}

@@ -1,4 +1,4 @@
-use Rattle.std.proofs.Common.{◌≡◌, ◌≤◌, length, arith, ap, ◌∙◌, sym}
+use Rattle.std.proofs.Common.{◌≤◌, length, arith}
 use Rattle.mibtm.proofs.TableTexts.{table_of-few, length-filter_map}
 use Rattle.mibtm.proofs.tables.read_rows.Goals as goal
 

@@ -1,8 +1,5 @@
-use Rattle.std.proofs.Common.{◌≡◌, ap, ◌∙◌, sym, subst, List, Result, Ok, IfOk, IfErr, IfSome, filter_map}
-use Rattle.mib_model.specs.declared.fault.MibFault.{MibFault}
-use Rattle.mib_model.specs.declared.rows.Row.{Row}
-use Rattle.mib_model.specs.Attempts.{made_into}
-use Rattle.mibtm.specs.Sources.{Picks, Refuses, RefusesTable, table_file}
+use Rattle.std.proofs.Common.{ap, ◌∙◌}
+use Rattle.mibtm.specs.Sources.{table_file}
 use Rattle.mibtm.proofs.TableTexts.{ok_of_file, err_of_file}
 use Rattle.mibtm.proofs.tables.table.Goals as goal
 

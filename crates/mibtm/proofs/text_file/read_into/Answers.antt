@@ -1,6 +1,4 @@
-use Rattle.std.proofs.Common.{◌≡◌, ◌≤◌, ◌<◌, length, arith, length-take}
-use Rattle.std.specs.Io.KnownBytes.{Consumes}
-use Rattle.std.proofs.KnownBytes.{Consumes-all, Consumes-trans}
+use Rattle.std.proofs.Common.{◌≤◌, ◌<◌, length, arith, length-take}
 use Rattle.mibtm.proofs.TextFiles.{read_to_end, read_full, taken_none}
 use Rattle.mibtm.proofs.text_file.read_into.Goals as goal
 

@@ -1,4 +1,4 @@
-use Rattle.std.proofs.Common.{◌≤◌, ◌+◌, arith}
+use Rattle.std.proofs.Common.{arith}
 use Rattle.mibtm.specs.Readings.{unsigned_of}
 use Rattle.mibtm.proofs.RowSteps.{row-more, row-ends}
 use Rattle.mibtm.proofs.values.add_row.Goals as goal

@@ -1,4 +1,4 @@
-use Rattle.std.proofs.Common.{◌≡◌, ◌+◌, ◌∙◌, ap, sym, ◌++◌, append_assoc}
+use Rattle.std.proofs.Common.{◌+◌, ◌∙◌, ap, sym, ◌++◌, append_assoc}
 use Rattle.mibtm.specs.Readings.{plain_value_text, readings_text}
 use Rattle.mibtm.proofs.ReadingSteps.{readings_text-many, readings_text-short, readings_text-more}
 use Rattle.mibtm.proofs.values.add_value.Goals as goal

@@ -1,4 +1,4 @@
-use Rattle.std.proofs.Common.{◌≡◌, ◌≤◌, ◌+◌, ◌++◌, ◌∙◌, List, drop, ap, sym, arith, append-nil}
+use Rattle.std.proofs.Common.{◌+◌, ◌++◌, ◌∙◌, drop, ap, sym, append-nil}
 use Rattle.mibtm.specs.Readings.{readings_text, places_in}
 use Rattle.mibtm.proofs.ReadingSteps.{readings_text-none}
 use Rattle.mibtm.proofs.PlaceSteps.{places_in-none, places_in-other, places_in-row}

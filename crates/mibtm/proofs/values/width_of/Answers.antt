@@ -1,4 +1,4 @@
-use Rattle.std.proofs.Common.{◌≡◌, false, ap, ◌∙◌, sym}
+use Rattle.std.proofs.Common.{◌≡◌, false, sym}
 use Rattle.std.specs.Str.{bytes_eq}
 use Rattle.mib_model.specs.Unbuilt.{is_unbuilt_pcf}
 use Rattle.mibtm.proofs.ListFacts.{All-find}
