@@ -3,3 +3,4 @@ pub mod ShelfFacts
 pub mod PlaceFacts
 pub mod SharedFacts
 pub mod ListedFacts
+pub mod ReadFacts

@@ -6,10 +6,12 @@
 
 mod book;
 mod kinds;
+mod laws;
 mod shared;
 mod table_row;
 #[cfg(test)]
 mod tests;
 
 pub use book::Book;
+pub use laws::rows_read_are_of_their_table;
 pub use shared::{NoRow, Put, ROWS_MOST};
