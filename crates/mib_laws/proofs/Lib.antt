@@ -3,7 +3,6 @@ mod Choices
 pub mod RunFacts
 pub mod PlainRunFacts
 pub mod RegisterFacts
-mod SamenessFacts
 mod Nesting
 mod WalkFacts
 mod Sorting

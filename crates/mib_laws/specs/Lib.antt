@@ -1,4 +1,3 @@
 pub mod Runs
 pub mod Registers
-pub mod Samenesses
 pub mod Walks

@@ -6,10 +6,8 @@
 
 mod interpreter;
 mod register;
-mod sameness;
 mod walk;
 
 pub use interpreter::{plain_runs, runs_in_parts};
 pub use register::{editions_only_grow, stamps_count_up, what_is_stamped_stays};
-pub use sameness::sameness_decides;
 pub use walk::walks_end;
