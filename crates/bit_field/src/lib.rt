@@ -19,3 +19,6 @@ pub use laws::bits_are_a_sum;
 pub use mib_model::{Ended, Endian, Order, Shape, Sort, Value};
 pub use value::take;
 pub use values::{MOST_VALUES, Values};
+
+#[cfg(test)]
+mod tests;

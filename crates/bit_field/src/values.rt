@@ -4,6 +4,7 @@ use mib_model::Value;
 pub const MOST_VALUES: u32 = 8192;
 
 /// The values of a packet: the front of some slots, of which so many are in use.
+#[derive(Drop)]
 pub struct Values<'a> {
     pub slots: &'a mut [Value],
     pub used: u32,
