@@ -25,7 +25,8 @@ use Rattle.mib_model.specs.Reading.{row_at, rows_from, table_of, row_read, key_r
 use Rattle.mib_model.specs.RowTexts.{row_of, key_of, line_of}
 use Rattle.mib_model.specs.Sameness.{same_values}
 use Rattle.mib_model.specs.Texts.{head_text, value_text, record_body, record_text}
-use Rattle.mib_model.specs.Walk.{structure, deduced, step, walked, structure_values}
+use Rattle.mib_model.specs.Structures.{structure, deduced}
+use Rattle.mib_model.specs.Walk.{step, walked, structure_values}
 use Rattle.mib_model.specs.WholeNumbers.{decimal_whole, whole_number}
 use Rattle.mib_examples.specs.Given.{decoded}
 use Rattle.mib_examples.specs.LayoutsRuns.{LayoutsRuns}

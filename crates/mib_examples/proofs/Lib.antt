@@ -1,5 +1,7 @@
+mod Derived
 mod ComputedRuns
 mod ComputedNumbers
 mod ComputedTables
 mod ComputedRegisters
+mod ComputedPackets
 mod ComputedTools

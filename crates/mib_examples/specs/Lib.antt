@@ -2,6 +2,7 @@ pub mod Given
 pub mod NumberExamples
 pub mod TableExamples
 pub mod RegisterExamples
+pub mod PacketExamples
 pub mod ToolExamples
 pub mod LayoutsRuns
 pub mod StructuresRuns

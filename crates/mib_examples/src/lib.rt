@@ -5,6 +5,7 @@
 #![tactic(auto)]
 
 mod numbers;
+mod packets;
 mod registers;
 mod runs;
 mod tables;
@@ -13,6 +14,7 @@ mod tools;
 pub use numbers::{
     bit_examples, count_examples, decimal_examples, encoding_examples, whole_number_examples,
 };
+pub use packets::{end_examples, packet_examples, state_examples};
 pub use registers::{
     carry_examples, desk_examples, edition_examples, plan_examples, reply_examples,
 };

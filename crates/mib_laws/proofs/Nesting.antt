@@ -1,9 +1,9 @@
 -- Rows whose groups are nested, and how many rows with FIXREP stand in a row.
-use Rattle.std.proofs.Common.{◌≡◌, ◌≢◌, ℕ, zero, suc, ◌+◌, ◌-◌, ◌<◌, ◌≤◌, Bool, true, false, not, cond, if◌then◌else◌, ◌==◌, List, [], ◌∷◌, ◌++◌, length, take, drop, refl, sym, ap, subst, ◌∙◌, nat_eq, append_assoc, arith}
+use Rattle.std.proofs.Common.{◌≡◌, ◌≢◌, ℕ, zero, suc, ◌+◌, ◌<◌, ◌≤◌, cond, if◌then◌else◌, ◌==◌, List, [], ◌∷◌, ◌++◌, length, take, drop, refl, sym, ap, subst, ◌∙◌, nat_eq, append_assoc, arith}
 use Rattle.std.proofs.Math.Dec.{eqb-suc-zero}
 use Rattle.std.specs.List.{repeat}
 use Rattle.mib_model.specs.declared.rows.VpdRow.{VpdRow}
-use Rattle.mib_model.specs.Walk.{group_repeated}
+use Rattle.mib_model.specs.Structures.{group_repeated}
 
 -- the groups of the first n rows end among these
 abbrev pub Fits : ℕ → List VpdRow → Type 0
@@ -39,7 +39,7 @@ fits-append (suc n) (x ∷ xs) ys fits = (fits.0, fits-append n xs ys fits.1)
 pub nested-append : (xs ys : List VpdRow) → Nested xs → Nested ys → Nested (xs ++ ys)
 nested-append [] ys nested more = more
 nested-append (x ∷ xs) ys nested more =
-    (record { repeats = nested.0.repeats; fits = fits-append x.grpsize xs ys nested.0.fits; }, nested-append xs ys nested.1 more)
+    (record { repeats = nested.0.repeats; fits = fits-append x.grpsize xs ys nested.0.fits }, nested-append xs ys nested.1 more)
 
 pub nested-drop : (n : ℕ) (xs : List VpdRow) → Nested xs → Nested (drop n xs)
 nested-drop zero xs nested = nested
@@ -58,7 +58,7 @@ pub nested-take : (n : ℕ) (xs : List VpdRow) → Fits n xs → Nested xs → N
 nested-take zero xs fits nested = tt
 nested-take (suc n) [] fits nested = tt
 nested-take (suc n) (x ∷ xs) fits nested =
-    (record { repeats = nested.0.repeats; fits = fits-take x.grpsize n xs fits.0 nested.0.fits; }, nested-take n xs fits.1 nested.1)
+    (record { repeats = nested.0.repeats; fits = fits-take x.grpsize n xs fits.0 nested.0.fits }, nested-take n xs fits.1 nested.1)
 
 pub nested-repeat : (n : ℕ) (xs : List VpdRow) → Nested xs → Nested (repeat n xs)
 nested-repeat zero xs nested = tt
@@ -129,7 +129,7 @@ good-group d size n rest fits good =
     record {
       nested = nested-append (repeat n front) (drop size rest) again (nested-drop size rest good.nested);
       short =
-        short-append d (repeat n front) (drop size rest) again
+          short-append d (repeat n front) (drop size rest) again
           (short-repeat d n front nested (short-take d size rest fits good.nested good.short)) (short-drop d size rest good.short);
     }
 
@@ -142,7 +142,7 @@ lead-group (suc size) (suc n) (x ∷ xs) some again fits nested =
     let front = take (suc size) (x ∷ xs) in
     let behind = drop (suc size) (x ∷ xs) in
     ap lead (append_assoc front (repeat n front) behind) ∙
-      (lead-append x (take size xs) (repeat n front ++ behind) (nested-take (suc size) (x ∷ xs) fits nested) ∙ lead-take size x xs fits nested)
+    (lead-append x (take size xs) (repeat n front ++ behind) (nested-take (suc size) (x ∷ xs) fits nested) ∙ lead-take size x xs fits nested)
 
 -- rows that are nested, d of them at most
 pub good-rows : (d : ℕ) (rows : List VpdRow) → Nested rows → length rows ≤ d → Short d rows

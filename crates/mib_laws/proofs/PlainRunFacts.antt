@@ -1,7 +1,7 @@
 -- Databases whose rows ask for nothing that decoding doesn't do yet: their packets' values have no tails and no changes.
-use Rattle.std.proofs.Common.{◌≡◌, ℕ, zero, suc, ◌+◌, pos, int_lt, nat_eq, Bool, true, false, not, cond, ◌&&◌, if◌then◌else◌, List, [], ◌∷◌, ◌++◌, map, filter, take, length, Option, Some, None, option_map, sym, refl, ap, subst, ◌∙◌, arith}
+use Rattle.std.proofs.Common.{◌≡◌, ℕ, zero, suc, ◌+◌, pos, int_lt, nat_eq, Bool, true, false, not, cond, ◌&&◌, List, [], ◌∷◌, ◌++◌, map, filter, take, Option, Some, None, refl, ap, subst}
 use Rattle.std.proofs.lemmas.Option.{none-some}
-use Rattle.std.specs.List.{AllByRecursion, find, list_any, flat_map, take_while, prefix_len, position, range_with_len, zip}
+use Rattle.std.specs.List.{AllByRecursion, find, list_any, flat_map, take_while, prefix_len, position, range_with_len}
 use Rattle.std.specs.Option.{is_some}
 use Rattle.std.specs.Str.{bytes_eq}
 use Rattle.mib_model.specs.declared.database.Database.{Database}
@@ -11,25 +11,23 @@ use Rattle.mib_model.specs.declared.kind.Kind.TheVariants as kind
 use Rattle.mib_model.specs.declared.packet.Found.{Found}
 use Rattle.mib_model.specs.declared.packet.Found.TheVariants as found
 use Rattle.mib_model.specs.declared.packet.Value.{Value}
-use Rattle.mib_model.specs.declared.rows.OcfRow.{OcfRow}
 use Rattle.mib_model.specs.declared.rows.PcfRow.{PcfRow}
 use Rattle.mib_model.specs.declared.rows.PidRow.{PidRow}
 use Rattle.mib_model.specs.declared.rows.PlfRow.{PlfRow}
 use Rattle.mib_model.specs.Calibrated.{Calibrated}
-use Rattle.mib_model.specs.Carry.{check_of}
 use Rattle.mib_model.specs.Curves.{curve_of, selections}
 use Rattle.mib_model.specs.Encodings.{Encoding}
-use Rattle.mib_model.specs.Finish.{finished, finished_by, all_finished}
-use Rattle.mib_model.specs.Fixed.{Place, places, occurrence, occurrences, places_inside, value_at, values_at, fixed_values, holds_place, most_values}
+use Rattle.mib_model.specs.Finish.{finished, all_finished}
+use Rattle.mib_model.specs.Fixed.{places, occurrence, occurrences, places_inside, value_at, values_at, fixed_values, holds_place, most_values}
 use Rattle.mib_model.specs.Headers.{header_of}
-use Rattle.mib_model.specs.Interpreter.{Course, Stamped, values_of, title_of, start, interpret, record_for, course_after}
+use Rattle.mib_model.specs.Interpreter.{Course, Stamped, values_of, start, interpret, record_for, course_after}
 use Rattle.mib_model.specs.Kept.{Memory, empty_memory, all_entered, has_number}
 use Rattle.mib_model.specs.Match.{first_of_two, match_of, agrees, found_by, found_with, idle_apid, lacks_service, discriminants, criterion}
 use Rattle.mib_model.specs.Orders.{sorted_by}
 use Rattle.mib_model.specs.Output.{stamped_from}
 use Rattle.mib_model.specs.Parameters.{parameter, is_measured, measured_encoding, parameter_encoding}
 use Rattle.mib_model.specs.Unbuilt.{unbuilt, unbuilt_in, is_plain, is_unbuilt_pcf, is_unbuilt_pid, is_unbuilt_plf, any_row}
-use Rattle.mib_laws.proofs.Options.{first_of_two-none, option_map-none, or-false, position-none, find-fails}
+use Rattle.mib_laws.proofs.Options.{first_of_two-none, option_map-none, position-none, find-fails}
 use Rattle.mib_laws.specs.Runs.{plainly, plain_record, plain_records}
 
 -- no check and no selection stands, and each measured parameter is plain

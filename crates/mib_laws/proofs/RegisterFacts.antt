@@ -1,14 +1,13 @@
 -- What an entry changes of the register.
-use Rattle.std.proofs.Common.{◌≡◌, ℕ, ◌+◌, ◌<◌, ◌≤◌, Bool, true, false, not, cond, List, [], ◌∷◌, ◌++◌, map, filter, filter_map, length, Option, Some, None, unwrap_or, sym, refl, ap, subst, ◌∙◌, arith, nat_lt, nat_le, nat_eq}
+use Rattle.std.proofs.Common.{◌≡◌, ℕ, ◌+◌, ◌<◌, Bool, true, false, not, cond, List, [], ◌∷◌, ◌++◌, map, filter, length, Some, None, unwrap_or, sym, refl, ap, subst, ◌∙◌, arith, nat_lt, nat_le, nat_eq}
 use Rattle.std.proofs.lemmas.List.{append-nil}
 use Rattle.std.proofs.lemmas.Bool.{ltb-false}
 use Rattle.std.proofs.lemmas.List.Elements.{filter-append}
 use Rattle.std.specs.List.{range_with_len, last_or, cons_option}
-use Rattle.histories.specs.declared.history.Move.{Move}
 use Rattle.histories.specs.History.{IsLegal}
 use Rattle.mib_model.specs.declared.database.Database.{Database}
 use Rattle.mib_model.specs.declared.register.Answer.{Answer}
-use Rattle.mib_model.specs.declared.register.Answer.TheVariants.{Stamped, Added, FullEditions, Stale, Used, NoEdition, Late, Disorder, FullPending, Drawn}
+use Rattle.mib_model.specs.declared.register.Answer.TheVariants.{Added, FullEditions, Stale, Used, NoEdition, Late, Disorder, FullPending, Drawn}
 use Rattle.mib_model.specs.declared.register.Entry.{Entry}
 use Rattle.mib_model.specs.declared.register.Entry.TheVariants.{Stamp, Add, AddOn, Use, UseFrom, Newest, Look}
 use Rattle.mib_model.specs.declared.register.Intake.{Intake}

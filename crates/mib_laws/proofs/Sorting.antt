@@ -1,9 +1,9 @@
 -- Rows of a structure in order of POS: what sorting keeps, and how many stand before one.
-use Rattle.std.proofs.Common.{◌≡◌, ◌≢◌, ℕ, zero, suc, ◌+◌, ◌<◌, ◌≤◌, Bool, true, false, not, cond, ◌&&◌, if◌then◌else◌, List, [], ◌∷◌, ◌++◌, length, filter, refl, sym, ap, subst, ◌∙◌, nat_eq, nat_lt, nat_le, inl, inr, arith}
+use Rattle.std.proofs.Common.{◌≡◌, ◌≢◌, ℕ, suc, ◌<◌, Bool, true, false, cond, List, [], ◌∷◌, ◌++◌, length, filter, refl, sym, ap, ◌∙◌, nat_lt, nat_le, arith}
 use Rattle.std.proofs.lemmas.Bool.{leb-true, leb-false, ltb-true, ltb-false, lt-ltb, le-ltb}
 use Rattle.std.specs.List.{AllByRecursion}
 use Rattle.mib_model.specs.declared.rows.VpdRow.{VpdRow}
-use Rattle.mib_model.specs.Orders.{insert_by, sorted_by, sorted_by_number}
+use Rattle.mib_model.specs.Orders.{insert_by, sorted_by}
 
 -- the order of a structure
 abbrev pub by_pos : VpdRow → VpdRow → Bool
@@ -96,6 +96,6 @@ pub count-before : (front : List VpdRow) (r : VpdRow) (back : List VpdRow) → A
 count-before [] r back asc = rw (le-ltb r.pos r.pos (omega arith), none-below r.pos back asc.0) refl
 count-before (x ∷ xs) r back asc =
     rw (lt-ltb x.pos r.pos (member-below x.pos xs r back asc.0)) (ap suc (count-before xs r back asc.1)) where
-  member-below : (p : ℕ) (xs : List VpdRow) (r : VpdRow) (back : List VpdRow) → AllByRecursion (λ o. p < o.pos) (xs ++ r ∷ back) → p < r.pos
-  member-below p [] r back all = all.0
-  member-below p (x ∷ xs) r back all = member-below p xs r back all.1
+      member-below : (p : ℕ) (xs : List VpdRow) (r : VpdRow) (back : List VpdRow) → AllByRecursion (λ o. p < o.pos) (xs ++ r ∷ back) → p < r.pos
+      member-below p [] r back all = all.0
+      member-below p (x ∷ xs) r back all = member-below p xs r back all.1

@@ -1,17 +1,17 @@
 -- Walks over nested structures end.
-use Rattle.std.proofs.Common.{◌≡◌, ◌≢◌, ℕ, zero, suc, ◌+◌, ◌-◌, ◌*◌, ◌<◌, ◌≤◌, ℤ, pos, ◌+ℤ◌, Bool, true, false, not, cond, List, [], ◌∷◌, ◌++◌, length, Option, Some, None, option_and_then, refl, sym, ap, subst, ◌∙◌, nat_eq, nat_abs, length-append, arith}
+use Rattle.std.proofs.Common.{◌≡◌, ◌≢◌, ℕ, zero, suc, ◌+◌, ◌-◌, ◌*◌, ◌<◌, ◌≤◌, ℤ, ◌+ℤ◌, Bool, true, false, not, cond, List, [], ◌∷◌, length, Option, Some, None, option_and_then, refl, sym, ap, subst, ◌∙◌, nat_eq, nat_abs, length-append, arith}
 use Rattle.std.proofs.lemmas.Bool.{eqb-false}
 use Rattle.std.proofs.lemmas.Option.{none-some}
 use Rattle.std.proofs.Math.Nat.{suc-mul}
 use Rattle.mib_model.specs.declared.database.Database.{Database}
 use Rattle.mib_model.specs.declared.packet.Ended.TheVariants as ended
-use Rattle.mib_model.specs.declared.packet.Value.{Value}
 use Rattle.mib_model.specs.declared.rows.VpdRow.{VpdRow}
 use Rattle.mib_model.specs.Bits.{raw_number}
 use Rattle.mib_model.specs.Fixed.{most_values}
-use Rattle.mib_model.specs.Walk.{Extracted, Walking, Step, Goes, Ends, Typed, typed, subject, structure, step, step_from, on_row, on_subject, try_value, give_value, after_value, with_value, chosen, group_repeated, times, is_yes, lies_outside, walked, on_step}
+use Rattle.mib_model.specs.Structures.{Typed, typed, subject, structure, group_repeated, times, is_yes}
+use Rattle.mib_model.specs.Walk.{Extracted, Walking, Step, Goes, Ends, step, step_from, on_row, on_subject, try_value, after_value, with_value, chosen, lies_outside, walked, on_step}
 use Rattle.mib_laws.proofs.Choices.{choice}
-use Rattle.mib_laws.proofs.Nesting.{lead, Nested, Good, good-group, lead-group, good-rows}
+use Rattle.mib_laws.proofs.Nesting.{lead, Good, good-group, lead-group}
 
 module _ (db : Database) (packet : List ℕ) (d : ℕ) where
   -- with more steps a walk that ended ends as it did
@@ -55,11 +55,13 @@ module _ (db : Database) (packet : List ℕ) (d : ℕ) where
   -- a walk that goes on behind a value
   valued : (k v : ℕ) (on : Walking) → length on.values ≡ v + 1 → lead on.todo < d → Finishes on → Leads k v (Goes on)
   unfolding Leads
-  valued k v on same short (e, le, walks) =
-      (e, omega (arith, same, le),
-        walked-more (lead on.todo + 1 + (length e.0 - length on.values) * d) (k + (length e.0 - v) * d) on e
-          (fewer k (lead on.todo) ((length e.0 - length on.values) * d) ((length e.0 - v) * d) short (one_less (length e.0) v (length on.values) same le))
-          walks)
+  valued k v on same short (e, le, walks) = (
+    e,
+    omega (arith, same, le),
+    walked-more (lead on.todo + 1 + (length e.0 - length on.values) * d) (k + (length e.0 - v) * d) on e
+        (fewer k (lead on.todo) ((length e.0 - length on.values) * d) ((length e.0 - v) * d) short (one_less (length e.0) v (length on.values) same le))
+        walks,
+  )
 
   -- walks with one value more finish
   Below : ℕ → Type 0
@@ -77,23 +79,23 @@ module _ (db : Database) (packet : List ℕ) (d : ℕ) where
   -- after a value the walk goes on in the rows behind, in a group, or in another structure
   after-leads : (k v : ℕ) → 1 ≤ d → ((tpsd : ℤ) → Good d (structure db tpsd)) → Below v → (r : VpdRow) (rest : List VpdRow) → Good d (r ∷ rest) → (raw : ℤ) (on : Walking) → on.todo ≡ rest → length on.values ≡ v + 1 → Leads k v (after_value db r rest raw on)
   after-leads k v some all below r rest good raw on is same =
-      let behind : Good d rest = record { nested = good.nested.1; short = good.short.1; } in
+      let behind : Good d rest = record { nested = good.nested.1; short = good.short.1 } in
       let here : Good d on.todo = subst (λ rows. Good d rows) (sym is) behind in
       choice (Leads k v) (is_yes r.choice) (chosen on raw (structure db raw)) _ (λ h. chosen-leads k v some below on same raw (structure db raw) (all raw)) (λ h.
-        choice (Leads k v) (not (nat_eq r.grpsize 0)) (Goes (record on { todo = group_repeated r.grpsize (times raw) rest })) _
-          (λ i. goes k v some below (record on { todo = group_repeated r.grpsize (times raw) rest }) same (good-group d r.grpsize (times raw) rest good.nested.0.fits behind)) (λ i.
-            choice (Leads k v) (is_yes r.pidref) (Goes (record on { last = raw })) (Goes on)
-              (λ j. goes k v some below (record on { last = raw }) same here) (λ j. goes k v some below on same here)))
+      choice (Leads k v) (not (nat_eq r.grpsize 0)) (Goes (record on { todo = group_repeated r.grpsize (times raw) rest })) _
+      (λ i. goes k v some below (record on { todo = group_repeated r.grpsize (times raw) rest }) same (good-group d r.grpsize (times raw) rest good.nested.0.fits behind)) (λ i.
+      choice (Leads k v) (is_yes r.pidref) (Goes (record on { last = raw })) (Goes on)
+      (λ j. goes k v some below (record on { last = raw }) same here) (λ j. goes k v some below on same here)))
 
   -- a row that gives a value of a parameter
   value-leads : (k : ℕ) → 1 ≤ d → ((tpsd : ℤ) → Good d (structure db tpsd)) → (r : VpdRow) (rest : List VpdRow) → Good d (r ∷ rest) → (w : Walking) → (length w.values ≢ most_values → Below (length w.values)) → (t : Typed) → Leads k (length w.values) (try_value db packet r rest w t)
   unfolding Leads
   value-leads k some all r rest good w below t =
       choice (Leads k (length w.values)) (nat_eq (length w.values) most_values) (Ends ended.Many w.values) _ (λ h. omega arith) (λ h.
-        choice (Leads k (length w.values)) (lies_outside packet w.cursor t.1.width) (Ends (ended.Short t.0.name) w.values) _ (λ i. omega arith) (λ i.
-          after-leads k (length w.values) some all (below (eqb-false (length w.values) most_values h)) r rest good
-            (raw_number t.1 packet (nat_abs w.cursor)) (with_value rest w (raw_number t.1 packet (nat_abs w.cursor)) (nat_abs w.cursor) t) refl
-            (length-append w.values _)))
+      choice (Leads k (length w.values)) (lies_outside packet w.cursor t.1.width) (Ends (ended.Short t.0.name) w.values) _ (λ i. omega arith) (λ i.
+      after-leads k (length w.values) some all (below (eqb-false (length w.values) most_values h)) r rest good
+      (raw_number t.1 packet (nat_abs w.cursor)) (with_value rest w (raw_number t.1 packet (nat_abs w.cursor)) (nat_abs w.cursor) t) refl
+      (length-append w.values _)))
 
   subject-leads : (k : ℕ) → 1 ≤ d → ((tpsd : ℤ) → Good d (structure db tpsd)) → (r : VpdRow) (rest : List VpdRow) → Good d (r ∷ rest) → (w : Walking) → (length w.values ≢ most_values → Below (length w.values)) → (o : Option Typed) → Leads k (length w.values) (on_subject db packet r rest w o)
   unfolding Leads
@@ -120,7 +122,7 @@ module _ (db : Database) (packet : List ℕ) (d : ℕ) where
   fixed-leads r rest h good w again =
       let on : Walking = record w { todo = group_repeated r.grpsize r.fixrep rest } in
       let some : r.fixrep ≢ 0 = eqb-false r.fixrep 0 h in
-      let behind : Good d rest = record { nested = good.nested.1; short = good.short.1; } in
+      let behind : Good d rest = record { nested = good.nested.1; short = good.short.1 } in
       let same : lead on.todo ≡ lead rest = lead-group r.grpsize r.fixrep rest (good.nested.0.repeats some) some good.nested.0.fits good.nested.1 in
       let all : lead (r ∷ rest) ≡ 1 + lead on.todo = lead-fixed r rest h ∙ ap (λ n. 1 + n) (sym same) in
       let (e, le, walks) = again on refl (omega (arith, all)) (good-group d r.grpsize r.fixrep rest good.nested.0.fits behind) in
@@ -129,8 +131,8 @@ module _ (db : Database) (packet : List ℕ) (d : ℕ) where
   row-leads : 1 ≤ d → ((tpsd : ℤ) → Good d (structure db tpsd)) → (r : VpdRow) (rest : List VpdRow) → Good d (r ∷ rest) → (w : Walking) → (length w.values ≢ most_values → Below (length w.values)) → Again (length w.values) (lead (r ∷ rest)) → Leads (lead (r ∷ rest)) (length w.values) (on_row db packet r rest w)
   row-leads some all r rest good w below again =
       choice (Leads (lead (r ∷ rest)) (length w.values)) (not (nat_eq r.fixrep 0)) (Goes (record w { todo = group_repeated r.grpsize r.fixrep rest })) _
-        (λ h. fixed-leads r rest (not-false (nat_eq r.fixrep 0) h) good w again)
-        (λ h. subject-leads (lead (r ∷ rest)) some all r rest good w below (option_and_then typed (subject db w.last r)))
+      (λ h. fixed-leads r rest (not-false (nat_eq r.fixrep 0) h) good w again)
+      (λ h. subject-leads (lead (r ∷ rest)) some all r rest good w below (option_and_then typed (subject db w.last r)))
 
   step-leads : 1 ≤ d → ((tpsd : ℤ) → Good d (structure db tpsd)) → (rows : List VpdRow) → Good d rows → (w : Walking) → (length w.values ≢ most_values → Below (length w.values)) → Again (length w.values) (lead rows) → Leads (lead rows) (length w.values) (step_from db packet w rows)
   unfolding Leads

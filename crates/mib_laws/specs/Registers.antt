@@ -1,5 +1,5 @@
 -- Laws of the register of editions.
-use Rattle.std.specs.Prelude.{◌≡◌, ℕ, ◌<◌, ◌≤◌, List, ◌++◌, map, length}
+use Rattle.std.specs.Prelude.{◌≡◌, ℕ, ◌<◌, List, ◌++◌, map, length}
 use Rattle.std.specs.List.{range_with_len}
 use Rattle.mib_model.specs.declared.register.Entry.{Entry}
 use Rattle.mib_model.specs.declared.register.Intake.{Intake}

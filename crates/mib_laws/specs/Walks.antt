@@ -1,8 +1,9 @@
 -- The law of walks over structures.
-use Rattle.std.specs.Prelude.{◌≡◌, ◌≢◌, ℕ, ◌+◌, ◌*◌, ◌≤◌, ℤ, List, [], length, Some}
+use Rattle.std.specs.Prelude.{◌≡◌, ℕ, ◌+◌, ◌*◌, ◌≤◌, ℤ, List, length, Some}
 use Rattle.mib_model.specs.declared.database.Database.{Database}
 use Rattle.mib_model.specs.Soundness.{IsSound}
-use Rattle.mib_model.specs.Walk.{Extracted, structure, walk_start, walked}
+use Rattle.mib_model.specs.Structures.{structure}
+use Rattle.mib_model.specs.Walk.{Extracted, walk_start, walked}
 
 -- no structure has more rows
 abbrev pub IsLargest : Database → ℕ → Type 0

@@ -36,6 +36,7 @@ number_of_sort Unsigned width n = pos n
 number_of_sort Signed width n = signed_number width n
 number_of_sort other width n = pos 0
 
+-- the raw number of a value of an encoding
 unfoldable pub raw_number : Encoding → List ℕ → ℕ → ℤ
 raw_number e octets at = number_of_sort e.sort e.width (field_number e.order octets at e.width)
 

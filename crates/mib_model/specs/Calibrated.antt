@@ -16,6 +16,7 @@ pub data Calibrated : Type 0 where
 abbrev pub is_wide : ℤ → Bool
 is_wide z = nat_le (10 ^ 37) (nat_abs z)
 
+-- a result that reaches 10^36
 abbrev pub is_wide_result : ℤ → Bool
 is_wide_result z = nat_le (10 ^ 36) (nat_abs z)
 
@@ -23,6 +24,7 @@ is_wide_result z = nat_le (10 ^ 36) (nat_abs z)
 abbrev pub bounded : Bool → ℤ → Result ℤ Over
 bounded has_wide_step y = if has_wide_step || is_wide_result y then Err (record {}) else Ok y
 
+-- a result as a number, or that it is too large
 abbrev pub calibrated : Result ℤ Over → Calibrated
 calibrated (Ok count) = Counted count
 calibrated (Err over) = TooLarge

@@ -25,12 +25,15 @@ pub data Sample : Type 0 where
 abbrev pub is_hard : OcpRow → Bool
 is_hard row = row.sort == 72
 
+-- a soft limit
 abbrev pub is_soft : OcpRow → Bool
 is_soft row = row.sort == 83
 
+-- a limit of the step from the sample before
 abbrev pub is_delta : OcpRow → Bool
 is_delta row = row.sort == 68
 
+-- an expected state
 abbrev pub is_status : OcpRow → Bool
 is_status row = row.sort == 67
 
@@ -43,6 +46,7 @@ abbrev pub is_met : Memory → Option (List ℕ) → ℤ → Bool
 is_met memory None number = true
 is_met memory (Some name) number = holds memory name number
 
+-- a check applies where it has no condition, or where its condition holds
 abbrev pub applies : Memory → OcpRow → Bool
 applies memory row = is_met memory row.rlchk row.valpar
 
@@ -51,10 +55,12 @@ abbrev pub is_below : Bound → ℤ → Bool
 is_below (bound.Number d) count = int_lt count (count_of d)
 is_below other count = false
 
+-- a count above a bound
 abbrev pub is_above : Bound → ℤ → Bool
 is_above (bound.Number d) count = int_lt (count_of d) count
 is_above other count = false
 
+-- a count below the low bound or above the high one
 abbrev pub is_out : OcpRow → ℤ → Bool
 is_out row count = is_below row.lvalu count || is_above row.hvalu count
 
@@ -68,6 +74,7 @@ abbrev pub is_out_from : Option ℤ → ℤ → OcpRow → Bool
 is_out_from None count row = false
 is_out_from (Some previous) count row = is_out row (count -ℤ previous)
 
+-- a delta is violated by a number too far from the one before, and by no text
 abbrev pub violates_delta : Option ℤ → Sample → OcpRow → Bool
 violates_delta previous (Numbered count) row = is_out_from previous count row
 violates_delta previous (Worded text) row = false
@@ -77,6 +84,7 @@ abbrev pub is_count_of : ℤ → Result Dec DecFault → Bool
 is_count_of count (Ok d) = int_eq count (count_of d)
 is_count_of count (Err fault) = false
 
+-- a sample agrees with a state: a text by its octets, a number by its count
 abbrev pub agrees_with : Sample → Bound → Bool
 agrees_with (Numbered count) (bound.Words text) = is_count_of count (dec_of text)
 agrees_with (Worded words) (bound.Words text) = bytes_eq words text

@@ -52,13 +52,16 @@ abbrev pub points_named : Database → List ℕ → Option CurveRows
 points_named db name =
     option_map (λ caf. Points caf (filter (λ cap. bytes_eq cap.numbr name) db.cap)) (find (λ caf. bytes_eq caf.numbr name) db.caf)
 
+-- the curve by texts of a name
 abbrev pub texts_named : Database → List ℕ → Option CurveRows
 texts_named db name =
     option_map (λ txf. Texts txf (filter (λ txp. bytes_eq txp.numbr name) db.txp)) (find (λ txf. bytes_eq txf.numbr name) db.txf)
 
+-- the polynomial of a name
 abbrev pub poly_named : Database → List ℕ → Option CurveRows
 poly_named db name = option_map (λ mcf. Poly mcf) (find (λ mcf. bytes_eq mcf.ident name) db.mcf)
 
+-- the logarithmic curve of a name
 abbrev pub log_named : Database → List ℕ → Option CurveRows
 log_named db name = option_map (λ lgf. Log lgf) (find (λ lgf. bytes_eq lgf.ident name) db.lgf)
 

@@ -7,12 +7,15 @@ use Rattle.mib_model.specs.declared.number.DecFault.{DecFault}
 use Rattle.mib_model.specs.declared.number.DecFault.TheVariants.{Form, Digits, Exponent}
 use Rattle.mib_model.specs.Digits.{digits_value, are_digits, decimal_of_width}
 
+-- a minus sign
 abbrev pub is_minus : ℕ → Bool
 is_minus octet = octet == 45
 
+-- a minus or a plus sign
 abbrev pub is_sign : ℕ → Bool
 is_sign octet = is_minus octet || (octet == 43)
 
+-- a decimal point
 abbrev pub is_point : ℕ → Bool
 is_point octet = octet == 46
 
@@ -20,6 +23,7 @@ is_point octet = octet == 46
 abbrev pub is_exponent_mark : ℕ → Bool
 is_exponent_mark octet = (octet == 69) || (octet == 101)
 
+-- the digit 0
 abbrev pub is_zero_digit : ℕ → Bool
 is_zero_digit octet = octet == 48
 
@@ -47,6 +51,7 @@ exponent_part text = after_first is_exponent_mark (unsigned_part text)
 abbrev pub whole_digits : List ℕ → List ℕ
 whole_digits text = before_first is_point (mantissa text)
 
+-- the digits after the point
 abbrev pub fraction_digits : List ℕ → List ℕ
 fraction_digits text = after_first is_point (mantissa text)
 
@@ -54,6 +59,7 @@ fraction_digits text = after_first is_point (mantissa text)
 abbrev pub has_exponent_form : List ℕ → Bool
 has_exponent_form text = not (list_any is_exponent_mark text) || are_digits 1 9 (unsigned_part (exponent_part text))
 
+-- the exponent that a text gives
 abbrev pub exponent_value : List ℕ → ℤ
 exponent_value text = with_sign (has_minus (exponent_part text)) (digits_value (unsigned_part (exponent_part text)))
 
@@ -67,6 +73,7 @@ has_decimal_form text =
 abbrev pub without_leading : List ℕ → List ℕ
 without_leading digits = drop (prefix_len is_zero_digit digits) digits
 
+-- digits without the zeros at the end
 abbrev pub without_trailing : List ℕ → List ℕ
 without_trailing digits = take (length digits - suffix_len is_zero_digit digits) digits
 
@@ -116,6 +123,7 @@ abbrev pub pointed : ℕ → ℕ → List ℕ
 pointed zero n = decimal n
 pointed (suc d) n = decimal (n / 10 ^ (d + 1)) ++ codes "." ++ decimal_of_width (d + 1) (n % 10 ^ (d + 1))
 
+-- a number with its sign, with a point before so many decimals
 abbrev pub signed_pointed : ℕ → ℤ → List ℕ
 signed_pointed d n = if int_lt n (pos 0) then codes "-" ++ pointed d (nat_abs n) else pointed d (nat_abs n)
 

@@ -39,6 +39,7 @@ pub data Turn : Type 0 where
   Done : (reply : Option DeskReply) (state : DeskState) → Turn
   Ask : (entry : Entry) (on : Answer → Turn) → Turn
 
+-- a line that is done, with a reply
 abbrev pub says : DeskState → Reply → Turn
 says s r = Done (Some (Plain r)) s
 
@@ -46,6 +47,7 @@ says s r = Done (Some (Plain r)) s
 abbrev pub put_reply : Bool → Reply
 put_reply held = if held then reply.Replaced else reply.Added
 
+-- the way of `put`, by the row that was read
 abbrev pub put_turn : DeskState → Kind → Result Row MibFault → Turn
 put_turn s table (Err f) = says s (reply.BadRow f.code f.column)
 put_turn s table (Ok r) =
@@ -66,9 +68,11 @@ saved s (answer.Added e) = says (record { draft = s.draft; base = s.draft; editi
 saved s (answer.Stale newest) = Done (Some (Stale newest)) s
 saved s other = says s reply.FullEditions
 
+-- the entry of `save`
 abbrev pub save_entry : Bool → DeskState → Entry
 save_entry several s = if several then entry.AddOn s.edition s.draft else entry.Add s.draft
 
+-- the way of `save`, by the first flaw of the draft
 abbrev pub save_turn : Bool → DeskState → Option MibFault → Turn
 save_turn several s (Some f) = says s (reply.Unsound f)
 save_turn several s None = Ask (save_entry several s) (saved s)
@@ -81,13 +85,16 @@ use_reply e (answer.Late next) = reply.Late next
 use_reply e (answer.Disorder last) = reply.Disorder last
 use_reply e other = reply.FullPending
 
+-- the way of `use`
 abbrev pub use_turn : DeskState → ℕ → Entry → Turn
 use_turn s e activation = Ask activation (λ a. says s (use_reply e a))
 
+-- the way of `use` once the edition was looked at
 abbrev pub looked : DeskState → ℕ → Entry → Answer → Turn
 looked s e activation (answer.NoEdition count) = says s (reply.NoEdition count)
 looked s e activation other = use_turn s e activation
 
+-- the way of `use` at a single desk and at one of several
 abbrev pub use_by : Bool → DeskState → ℕ → Entry → Turn
 use_by several s e activation = if several then Ask (entry.Look e) (looked s e activation) else use_turn s e activation
 

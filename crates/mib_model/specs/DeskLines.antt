@@ -32,6 +32,7 @@ is_comment (c ∷ cs) = c == 35
 abbrev pub most_octets : ℕ
 most_octets = 4096
 
+-- a space
 abbrev pub is_blank : ℕ → Bool
 is_blank octet = octet == 32
 
@@ -47,6 +48,7 @@ edition_in word = option_map (λ n. if nat_lt n (2 ^ 32) then n else 0) (number_
 abbrev pub is_word : List ℕ → Bool
 is_word word = nat_le 1 (length word) && not (list_any is_blank word)
 
+-- a request, or that the line has no form
 abbrev pub or_bad_line : Option Request → Request
 or_bad_line None = BadLine
 or_bad_line (Some request) = request
@@ -67,6 +69,7 @@ table_request make rest =
 abbrev pub words_of : List ℕ → List (List ℕ)
 words_of line = slice_split is_blank line
 
+-- the forms of `use`
 abbrev pub use_request : List (List ℕ) → Option Request
 use_request (edition ∷ []) = option_map Use (edition_in edition)
 use_request (edition ∷ word ∷ number ∷ []) =

@@ -34,6 +34,7 @@ only_looks entry.Newest = true
 only_looks (entry.Look e) = true
 only_looks other = false
 
+-- what entries want of memory may leave
 abbrev pub LeavesNothing : Bool → Calls → Type 0
 LeavesNothing several [] = Unit {0}
 LeavesNothing several (call ∷ []) = (several ≡ true) × (only_looks call.0 ≡ true)

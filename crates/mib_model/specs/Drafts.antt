@@ -48,6 +48,7 @@ abbrev pub taken_at : List Row → Option ℕ → List Row
 taken_at rows None = rows
 taken_at rows (Some i) = remove rows i
 
+-- the rows without the first that has a key
 unfoldable pub without_key : Key → List Row → List Row
 without_key key rows = taken_at rows (position (has_key key) rows)
 

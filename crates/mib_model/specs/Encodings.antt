@@ -18,6 +18,7 @@ pub record Encoding : Type 0 where
 abbrev pub width_if : Bool → ℕ → Option ℕ
 width_if holds width = if holds then Some width else None
 
+-- from a least to a greatest number
 abbrev pub is_from_to : ℕ → ℕ → ℕ → Bool
 is_from_to low high n = nat_le low n && nat_le n high
 
@@ -46,9 +47,11 @@ sorted_as sort = option_map (λ width. (sort, width))
 abbrev pub coarse_and_fine : ℕ → ℕ → Option (Sort × ℕ)
 coarse_and_fine coarse fine = Some (Cuc coarse fine, 8 * (coarse + fine))
 
+-- a time in coarse and fine octets, for PFC 3 to 18
 abbrev pub unsegmented_time : ℕ → Option (Sort × ℕ)
 unsegmented_time pfc = if is_from_to 3 18 pfc then coarse_and_fine ((pfc + 1) / 4) ((pfc + 1) % 4) else None
 
+-- an absolute time: days and milliseconds, or coarse and fine octets
 abbrev pub absolute_time : ℕ → Option (Sort × ℕ)
 absolute_time pfc =
     if pfc == 1 then Some (Cds, 48)

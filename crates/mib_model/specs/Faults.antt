@@ -58,10 +58,12 @@ unfoldable pub fault_text : MibFault → List ℕ
 fault_text f =
     kind_name f.table ++ codes " " ++ decimal f.row ++ codes " " ++ fault_word f.code ++ number_behind f.column ++ number_behind f.first
 
+-- the line of a misuse
 abbrev pub misuse_text : Misuse → List ℕ
 misuse_text misuse.Command = codes "USAGE COMMAND"
 misuse_text misuse.Words = codes "USAGE WORDS"
 
+-- the line of an input that isn't there
 abbrev pub input_text : Input → List ℕ
 input_text input.Feed = codes "NOFILE FEED"
 input_text input.Desk = codes "NOFILE DESK"

@@ -25,6 +25,7 @@ is_valid memory row = is_met memory row.valid row.valpar
 abbrev pub given_for : Database → PcfRow → Memory → Value → Option Calibrated
 given_for db row memory v = if has_number v.shape.sort then option_map (λ rows. calibration rows v.raw) (curve_of db row memory) else None
 
+-- the tail of a valid value
 abbrev pub tail_for : ℕ → Option Calibrated → Tail
 tail_for decimals None = Plain
 tail_for decimals (Some given) = Given given decimals
@@ -53,6 +54,7 @@ kept_after kept sample watch = record kept { spoken = watch.0; run = watch.1; pr
 abbrev pub Checked : Type 0
 Checked = Memory × Option Change
 
+-- what is kept and told after a step of the alarm
 abbrev pub with_alarm : Memory → List ℕ → Sample → Watch × Option Change → Checked
 with_alarm memory name sample step = (keeping memory name (kept_after (memory name) sample step.0), step.1)
 
@@ -73,6 +75,7 @@ checked_by db memory v given (Some check) =
 abbrev pub Finished : Type 0
 Finished = Memory × Told
 
+-- a value with its tail and what its check tells
 abbrev pub told : Value → Tail → Checked → Finished
 told v tail checked = (checked.0, record { value = v; tail = tail; change = checked.1 })
 
@@ -84,6 +87,7 @@ finished_by db memory v (Some row) =
     then told v (tail_for row.decim (given_for db row memory v)) (checked_by db memory v (given_for db row memory v) (check_of db v.name))
     else told v Invalid (memory, None)
 
+-- what is kept after a value, and what is told of it
 unfoldable pub finished : Database → Memory → Value → Finished
 finished db memory v = finished_by db memory v (parameter db.pcf v.name)
 
@@ -91,6 +95,7 @@ finished db memory v = finished_by db memory v (parameter db.pcf v.name)
 abbrev pub in_front : Told → Memory × List Told → Memory × List Told
 in_front first others = (others.0, first ∷ others.1)
 
+-- what is kept after the values of a packet, and what is told of each
 unfoldable pub all_finished : Database → Memory → List Value → Memory × List Told
 all_finished db memory [] = (memory, [])
 all_finished db memory (v ∷ vs) = in_front (finished db memory v).1 (all_finished db (finished db memory v).0 vs)

@@ -12,7 +12,7 @@ use Rattle.mib_model.specs.Flaws.{Rule, flaw_if, twice, missing}
 use Rattle.mib_model.specs.Kept.{has_number}
 use Rattle.mib_model.specs.Parameters.{parameter, is_measured, parameter_encoding}
 use Rattle.mib_model.specs.References.{has_parameter}
-use Rattle.mib_model.specs.Walk.{structure, is_yes}
+use Rattle.mib_model.specs.Structures.{structure, is_yes}
 
 -- the parameter is there and isn't measured
 abbrev pub is_unmeasured : Option PcfRow → Bool
@@ -24,10 +24,12 @@ abbrev pub counts_by : Option Encoding → Bool
 counts_by None = false
 counts_by (Some e) = has_number e.sort
 
+-- a parameter whose values have numbers
 abbrev pub counts : Option PcfRow → Bool
 counts None = false
 counts (Some r) = counts_by (parameter_encoding r)
 
+-- a row with a group
 abbrev pub has_group : VpdRow → Bool
 has_group r = not (r.grpsize == 0)
 
@@ -59,11 +61,13 @@ abbrev pub passes_end : List VpdRow → ℕ → ℕ → Bool
 passes_end rows place size =
     nat_lt (length rows) (place + size + 1) || list_any (passes_group place size) (enumerate_from 0 (take place rows))
 
+-- a row whose group, choice or reference breaks a rule
 abbrev pub is_bad_group : Database → List VpdRow → VpdRow → Bool
 is_bad_group db earlier r =
     does_too_much r || repeats_nothing r || passes_end (structure db (pos r.tpsd)) (place_of db earlier r) r.grpsize ||
     (needs_number r && not (counts (parameter db.pcf r.name)))
 
+-- the rules of vpd
 abbrev pub vpd_rules : Database → List (Rule VpdRow)
 vpd_rules db =
     twice row.Vpd ∷

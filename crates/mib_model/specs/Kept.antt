@@ -15,6 +15,7 @@ pub record Kept : Type 0 where
   pub run : ℕ
   pub previous : Option ℤ
 
+-- what is kept of a name of which no value was seen
 abbrev pub nothing_kept : Kept
 nothing_kept = record { latest = None; spoken = None; run = 0; previous = None }
 

@@ -17,6 +17,7 @@ pub mod PacketTables
 pub mod CurveTables
 pub mod Writing
 pub mod RowTexts
+pub mod Fitting
 pub mod Reading
 pub mod DatabaseTexts
 pub mod Parameters
@@ -25,6 +26,7 @@ pub mod Headers
 pub mod Packets
 pub mod Match
 pub mod Fixed
+pub mod Structures
 pub mod Walk
 pub mod Kept
 pub mod Calibrated
@@ -55,6 +57,7 @@ pub mod DeskLines
 pub mod Drafts
 pub mod Desk
 pub mod DeskRuns
+pub mod Summaries
 pub mod Output
 pub mod Codes
 pub mod Endings

@@ -3,9 +3,11 @@ use Rattle.std.specs.Prelude.{ℕ, ◌-◌, Bool, List, [], ◌∷◌, length, r
 use Rattle.std.specs.List.{slice_split}
 use Rattle.std.specs.Str.Lines.{strip_carriage_return}
 
+-- an LF
 abbrev pub is_feed : ℕ → Bool
 is_feed octet = octet == 10
 
+-- a TAB
 abbrev pub is_tab : ℕ → Bool
 is_tab octet = octet == 9
 

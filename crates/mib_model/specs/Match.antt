@@ -22,6 +22,7 @@ idle_apid = 2047
 abbrev pub service_of : List ℕ → ℕ
 service_of packet = if (header_of packet).secondary then slice_index packet 7 else 0
 
+-- the service subtype: octet 8 behind a secondary header, else 0
 abbrev pub subtype_of : List ℕ → ℕ
 subtype_of packet = if (header_of packet).secondary then slice_index packet 8 else 0
 
@@ -38,6 +39,7 @@ abbrev pub first_of_two : {A : Type 0} → Option A → Option A → Option A
 first_of_two (Some x) other = Some x
 first_of_two None other = other
 
+-- the criterion of a packet: that for its APID, else that for none
 unfoldable pub criterion : List PicRow → List ℕ → Option PicRow
 criterion pics packet =
     first_of_two (find (is_criterion (service_of packet) (subtype_of packet) (Some (header_of packet).apid)) pics)
@@ -68,6 +70,7 @@ agrees packet values row =
     (row.apid == (header_of packet).apid) && (row.service == service_of packet) && (row.subtype == subtype_of packet) &&
     (row.pi1_val == values.0) && (row.pi2_val == values.1)
 
+-- what a packet is by the row that agrees with it
 abbrev pub found_by : List ℕ → Option PidRow → Found
 found_by packet None = Unknown (service_of packet) (subtype_of packet)
 found_by packet (Some row) = Spid row.spid (service_of packet) (subtype_of packet) row.tpsd row.dfhsize

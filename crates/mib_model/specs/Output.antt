@@ -23,6 +23,7 @@ output first packets history tail = records_text (interpret (start first) (stamp
 abbrev pub stamped_first : Database → ℕ × List ℕ → Stamped
 stamped_first first pair = record { number = pair.0; packet = pair.1; edition = 1; tables = first }
 
+-- packets numbered from a number on, each of edition 1
 unfoldable pub stamped_from : Database → ℕ → List (List ℕ) → List Stamped
 stamped_from first number packets = map (stamped_first first) (zip (range_with_len number (length packets)) packets)
 

@@ -20,7 +20,7 @@ use Rattle.mib_model.specs.Curves.{CurveRows, curve_named, selections}
 use Rattle.mib_model.specs.Database.{Database}
 use Rattle.mib_model.specs.Orders.{sorted_by, sorted_by_number}
 use Rattle.mib_model.specs.Parameters.{parameter, is_measured, endian_of}
-use Rattle.mib_model.specs.Walk.{structure, is_deduced}
+use Rattle.mib_model.specs.Structures.{structure, is_deduced}
 
 -- the rows that a plan depends on
 pub data Slice : Type 0 where
@@ -46,6 +46,7 @@ abbrev pub curve_names : Option (List ℕ) → List CurRow → List (List ℕ)
 curve_names (Some name) curs = name ∷ []
 curve_names None curs = map (λ cur. cur.curve) curs
 
+-- the curves of a parameter, one for each name
 abbrev pub curves_for : Database → PcfRow → List (Option CurveRows)
 curves_for db row = map (curve_named db row.categ) (curve_names row.curtx (selections db row.name))
 
@@ -53,13 +54,16 @@ curves_for db row = map (curve_named db row.categ) (curve_names row.curtx (selec
 abbrev pub has_plan : PcfRow → Bool
 has_plan row = is_measured row && not (is_deduced row)
 
+-- the plan of a parameter
 abbrev pub param_plan : Database → PcfRow → Plan
 param_plan db row =
     (plan.Param row.name, ParamSlice row (selections db row.name) (curves_for db row) (check_of db row.name) (checks_of db row.name))
 
+-- names in the order of their octets
 abbrev pub may_precede : List ℕ → List ℕ → Bool
 may_precede x y = is_le (slice_cmp nat_cmp x y)
 
+-- the plans of parameters, by name
 unfoldable pub param_plans : Database → List Plan
 param_plans db = map (param_plan db) (sorted_by (λ x y. may_precede x.name y.name) (filter has_plan db.pcf))
 
@@ -67,13 +71,16 @@ param_plans db = map (param_plan db) (sorted_by (λ x y. may_precede x.name y.na
 abbrev pub has_layout : PidRow → Bool
 has_layout row = int_lt row.tpsd (pos 1)
 
+-- the places of a packet
 abbrev pub layout_rows : Database → ℕ → List PlfRow
 layout_rows db spid = filter (λ row. row.spid == spid) db.plf
 
+-- the plan of a fixed layout
 abbrev pub layout_plan : Database → PidRow → Plan
 layout_plan db row =
     (plan.Layout row.spid, LayoutSlice row (layout_rows db row.spid) (type_items db (map (λ plf. plf.name) (layout_rows db row.spid))))
 
+-- the plans of fixed layouts, by SPID
 unfoldable pub layout_plans : Database → List Plan
 layout_plans db = map (layout_plan db) (sorted_by_number (λ row. row.spid) (filter has_layout db.pid))
 
@@ -82,10 +89,12 @@ abbrev pub distinct : List ℕ → List ℕ
 distinct [] = []
 distinct (n ∷ ns) = if list_any (λ m. m == n) ns then distinct ns else n ∷ distinct ns
 
+-- the plan of a structure
 abbrev pub structure_plan : Database → ℕ → Plan
 structure_plan db tpsd =
     (plan.Structure tpsd, StructureSlice (structure db (pos tpsd)) (type_items db (map (λ row. row.name) (structure db (pos tpsd)))))
 
+-- the plans of structures, by TPSD
 unfoldable pub structure_plans : Database → List Plan
 structure_plans db = map (structure_plan db) (sorted_by_number (λ n. n) (distinct (map (λ row. row.tpsd) db.vpd)))
 

@@ -33,6 +33,7 @@ abbrev pub first_of : {A : Type 0} → List A → Option A
 first_of [] = None
 first_of (x ∷ xs) = Some x
 
+-- the last item, if there is one
 abbrev pub last_of : {A : Type 0} → List A → Option A
 last_of xs = last_or None xs
 
@@ -48,6 +49,7 @@ is_beyond raw pair = int_lt raw pair.0.x || int_lt pair.1.x raw
 abbrev pub product_of : Knot → Knot → ℤ → ℤ
 product_of p q raw = (raw -ℤ p.x) *ℤ (q.y -ℤ p.y)
 
+-- the value of a raw number on the line through two points, or that it leaves the bounds
 unfoldable pub interpolated : Knot → Knot → ℤ → Result ℤ Over
 interpolated p q raw =
     bounded (is_wide (q.y -ℤ p.y) || is_wide (product_of p q raw)) (p.y +ℤ half (product_of p q raw) (nat_abs (q.x -ℤ p.x)))
@@ -56,10 +58,12 @@ interpolated p q raw =
 abbrev pub goes_on : ℕ → Bool
 goes_on inter = inter == 80
 
+-- what two points make of a raw number
 abbrev pub on_pair : ℕ → ℤ → Option (Knot × Knot) → Calibrated
 on_pair inter raw None = Outside
 on_pair inter raw (Some pair) =
     if is_beyond raw pair && not (goes_on inter) then Outside else calibrated (interpolated pair.0 pair.1 raw)
 
+-- what a curve by points makes of a raw number
 unfoldable pub by_points : CafRow → List CapRow → ℤ → Calibrated
 by_points caf caps raw = on_pair caf.inter raw (pair_for raw (neighbours (knots caf caps)))

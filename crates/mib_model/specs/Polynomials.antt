@@ -24,6 +24,7 @@ scale_of decs = fold (λ scale d. max scale (behind_point d.e)) 0 decs
 abbrev pub at_scale : ℕ → List Dec → List ℤ
 at_scale scale decs = map (λ d. times_power d.m (d.e +ℤ pos scale)) decs
 
+-- the number 0
 abbrev pub is_zero : ℤ → Bool
 is_zero z = nat_abs z == 0
 

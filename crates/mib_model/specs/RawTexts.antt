@@ -16,9 +16,11 @@ abbrev pub hex_text : ℕ → ℕ → List ℕ
 hex_text zero n = []
 hex_text (suc digits) n = hex_text digits (n / 16) ++ hex_digit (n % 16) ∷ []
 
+-- the octet of a quote
 abbrev pub quote_mark : ℕ
 quote_mark = 34
 
+-- the octet of a backslash
 abbrev pub backslash : ℕ
 backslash = 92
 
@@ -26,6 +28,7 @@ backslash = 92
 abbrev pub stands_as_itself : ℕ → Bool
 stands_as_itself octet = nat_le 0x20 octet && nat_le octet 0x7E && not (octet == quote_mark) && not (octet == backslash)
 
+-- an octet in quotes: itself, or its two hexadecimal digits
 abbrev pub quoted_octet : ℕ → List ℕ
 quoted_octet octet = if stands_as_itself octet then octet ∷ [] else backslash ∷ codes "x" ++ hex_text 2 octet
 
@@ -60,5 +63,6 @@ sort_text (Cuc coarse fine) v packet =
     codes "TIME:" ++ decimal (bits packet v.at (8 * coarse)) ++ fine_text packet (v.at + 8 * coarse) fine
 sort_text Deduced v packet = []
 
+-- the raw text of a value
 unfoldable pub raw_text : Value → List ℕ → List ℕ
 raw_text v packet = sort_text v.shape.sort v packet

@@ -5,27 +5,35 @@ use Rattle.std.specs.Ordering.{int_eq}
 use Rattle.std.specs.Str.{bytes_eq}
 use Rattle.mib_model.specs.Database.{Database}
 
+-- a pcf row of this name is there
 abbrev pub has_parameter : Database → List ℕ → Bool
 has_parameter db name = list_any (λ row. bytes_eq row.name name) db.pcf
 
+-- a pid row of this SPID is there
 abbrev pub has_packet : Database → ℕ → Bool
 has_packet db spid = list_any (λ row. row.spid == spid) db.pid
 
+-- a vpd row of this TPSD is there
 abbrev pub has_structure : Database → ℤ → Bool
 has_structure db tpsd = list_any (λ row. int_eq (pos row.tpsd) tpsd) db.vpd
 
+-- a caf row of this name is there
 abbrev pub has_points : Database → List ℕ → Bool
 has_points db name = list_any (λ row. bytes_eq row.numbr name) db.caf
 
+-- a txf row of this name is there
 abbrev pub has_texts : Database → List ℕ → Bool
 has_texts db name = list_any (λ row. bytes_eq row.numbr name) db.txf
 
+-- an mcf row of this name is there
 abbrev pub has_polynomial : Database → List ℕ → Bool
 has_polynomial db name = list_any (λ row. bytes_eq row.ident name) db.mcf
 
+-- an lgf row of this name is there
 abbrev pub has_logarithm : Database → List ℕ → Bool
 has_logarithm db name = list_any (λ row. bytes_eq row.ident name) db.lgf
 
+-- an ocf row of this name is there
 abbrev pub has_check : Database → List ℕ → Bool
 has_check db name = list_any (λ row. bytes_eq row.name name) db.ocf
 

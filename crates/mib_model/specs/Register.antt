@@ -13,6 +13,7 @@ use Rattle.mib_model.specs.Database.{Database, no_rows}
 abbrev pub most_editions : ℕ
 most_editions = 64
 
+-- the most activations that are pending
 abbrev pub most_pending : ℕ
 most_pending = 16
 
@@ -24,6 +25,7 @@ opening first = record { next = 1; editions = first ∷ []; schedule = record { 
 abbrev pub count_of_editions : Intake → ℕ
 count_of_editions s = length s.editions
 
+-- an edition of this number stands
 abbrev pub has_edition : Intake → ℕ → Bool
 has_edition s e = nat_le 1 e && nat_le e (count_of_editions s)
 
@@ -39,6 +41,7 @@ edition_for s n = unwrap_or (last_or None (map (λ pair. pair.edition) (filter (
 abbrev pub is_pending : Intake → Scheduled → Bool
 is_pending s pair = nat_le s.next pair.from
 
+-- the activations that are pending
 abbrev pub pending : Intake → List Scheduled
 pending s = filter (is_pending s) s.schedule
 

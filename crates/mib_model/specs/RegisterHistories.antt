@@ -22,6 +22,7 @@ IsRegister first history = IsLegal reply after (opening first) history
 abbrev pub register_after : Database → Register → Intake
 register_after first history = state_after after (opening first) history
 
+-- the entry of a packet
 abbrev pub is_stamp : Entry → Bool
 is_stamp Stamp = true
 is_stamp other = false

@@ -33,6 +33,7 @@ reply_words reply.Limit = codes "LIMIT"
 abbrev pub reply_text : Reply → List ℕ
 reply_text r = reply_words r ++ codes "\n"
 
+-- the text of a desk's reply
 abbrev pub desk_reply_words : DeskReply → List ℕ
 desk_reply_words (Plain r) = reply_words r
 desk_reply_words (Stale newest) = codes "STALE " ++ decimal newest
@@ -43,6 +44,7 @@ abbrev pub desk_prefix : Option ℕ → List ℕ
 desk_prefix None = []
 desk_prefix (Some desk) = codes "DESK " ++ decimal desk ++ codes " "
 
+-- the line of a desk's reply
 abbrev pub desk_line : Option ℕ → DeskReply → List ℕ
 desk_line desk r = desk_prefix desk ++ desk_reply_words r ++ codes "\n"
 

@@ -23,7 +23,7 @@ use Rattle.mib_model.specs.Encodings.{Encoding}
 use Rattle.mib_model.specs.Flaws.{Rule, flaw_if, twice, twice_by, missing}
 use Rattle.mib_model.specs.Parameters.{parameter, is_measured, parameter_encoding}
 use Rattle.mib_model.specs.References.{has_parameter, has_packet, has_structure, has_points, has_texts, has_check, has_curve, if_given}
-use Rattle.mib_model.specs.Walk.{is_deduced}
+use Rattle.mib_model.specs.Structures.{is_deduced}
 use Rattle.mib_model.specs.WholeNumbers.{whole_number, decimal_whole}
 
 -- PCF: references of measured parameters, their types, their widths, and curve beside selections
@@ -32,13 +32,16 @@ pcf_references db r =
     (8, not (is_measured r) || if_given r.valid (has_parameter db)) ∷
     (12, not (is_measured r) || if_given r.curtx (has_curve db r.categ)) ∷ []
 
+-- a width that is given and below that of the type
 abbrev pub is_narrow : ℕ → Option Encoding → Bool
 is_narrow width None = false
 is_narrow width (Some e) = not (width == 0) && nat_lt width e.width
 
+-- a parameter has selections of curves
 abbrev pub has_selections : Database → List ℕ → Bool
 has_selections db name = list_any (λ cur. bytes_eq cur.pname name) db.cur
 
+-- the rules of pcf
 abbrev pub pcf_rules : Database → List (Rule PcfRow)
 pcf_rules db =
     twice row.Pcf ∷
@@ -53,6 +56,7 @@ same_packet x y =
     (x.spid == y.spid) ||
     ((x.apid == y.apid) && (x.service == y.service) && (x.subtype == y.subtype) && (x.pi1_val == y.pi1_val) && (x.pi2_val == y.pi2_val))
 
+-- the rules of pid
 abbrev pub pid_rules : Database → List (Rule PidRow)
 pid_rules db =
     twice_by same_packet ∷
@@ -63,6 +67,7 @@ abbrev pub is_measured_deduced : Option PcfRow → Bool
 is_measured_deduced None = false
 is_measured_deduced (Some r) = is_measured r && is_deduced r
 
+-- the rules of plf
 abbrev pub plf_rules : Database → List (Rule PlfRow)
 plf_rules db =
     twice row.Plf ∷
@@ -74,6 +79,7 @@ abbrev pub has_curve_of : Database → Option PcfRow → List ℕ → Bool
 has_curve_of db None name = true
 has_curve_of db (Some r) name = has_curve db r.categ name
 
+-- the rules of cur
 abbrev pub cur_rules : Database → List (Rule CurRow)
 cur_rules db =
     twice row.Cur ∷
@@ -83,22 +89,27 @@ cur_rules db =
 abbrev pub points_in : Database → List ℕ → List CapRow
 points_in db name = filter (λ cap. bytes_eq cap.numbr name) db.cap
 
+-- the rules of caf
 abbrev pub caf_rules : Database → List (Rule CafRow)
 caf_rules db =
     twice row.Caf ∷
     (λ earlier r. flaw_if Points (not (is_real_format r.rawfmt) && nat_lt (length (points_in db r.numbr)) 2)) ∷ []
 
+-- an earlier point of the curve at the same whole number
 abbrev pub is_same_x : ℕ → ℤ → CapRow → CapRow → Bool
 is_same_x radix x r other = bytes_eq other.numbr r.numbr && option_eq int_eq (whole_number radix other.xvals) (Some x)
 
+-- a text that is no whole number, or the x of an earlier point
 abbrev pub is_bad_x : ℕ → List CapRow → CapRow → Option ℤ → Bool
 is_bad_x radix earlier r None = true
 is_bad_x radix earlier r (Some x) = list_any (is_same_x radix x r) earlier
 
+-- a point of a curve over whole numbers whose x is bad
 abbrev pub is_bad_point : Option CafRow → List CapRow → CapRow → Bool
 is_bad_point None earlier r = false
 is_bad_point (Some caf) earlier r = not (is_real_format caf.rawfmt) && is_bad_x caf.radix earlier r (whole_number caf.radix r.xvals)
 
+-- the rules of cap
 abbrev pub cap_rules : Database → List (Rule CapRow)
 cap_rules db =
     twice row.Cap ∷
@@ -110,6 +121,7 @@ abbrev pub is_bad_range : Option TxfRow → TxpRow → Bool
 is_bad_range None r = false
 is_bad_range (Some txf) r = not (is_real_format txf.rawfmt) && (is_none (decimal_whole r.low) || is_none (decimal_whole r.high))
 
+-- the rules of txp
 abbrev pub txp_rules : Database → List (Rule TxpRow)
 txp_rules db =
     twice row.Txp ∷
@@ -120,6 +132,7 @@ txp_rules db =
 abbrev pub ocf_rules : Database → List (Rule OcfRow)
 ocf_rules db = twice row.Ocf ∷ (λ earlier r. missing ((1, has_parameter db r.name) ∷ [])) ∷ []
 
+-- the rules of ocp
 abbrev pub ocp_rules : Database → List (Rule OcpRow)
 ocp_rules db =
     twice row.Ocp ∷ (λ earlier r. missing ((1, has_check db r.name) ∷ (6, if_given r.rlchk (has_parameter db)) ∷ [])) ∷ []

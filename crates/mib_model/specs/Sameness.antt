@@ -13,6 +13,7 @@ use Rattle.mib_model.specs.Columns.{Form, Named, Natural, Integer, Letter, Capit
 abbrev pub same_decimal : Dec → Dec → Bool
 same_decimal x y = int_eq x.m y.m && int_eq x.e y.e
 
+-- the same bound
 abbrev pub same_bound : Bound → Bound → Bool
 same_bound bound.Empty bound.Empty = true
 same_bound (bound.Number x) (bound.Number y) = same_decimal x y
@@ -30,6 +31,7 @@ same_content Decimal x y = same_decimal x y
 same_content AnyText x y = bytes_eq x y
 same_content (Bounding states) x y = same_bound x y
 
+-- the same in a column
 abbrev pub same_value : (column : Column) → Value column → Value column → Bool
 same_value (Must number form) x y = same_content form x y
 same_value (Optional number form) x y = option_eq (same_content form) x y

@@ -8,6 +8,7 @@ use Rattle.mib_model.specs.Lines.{is_feed}
 abbrev pub most_script : ℕ
 most_script = 2 ^ 30
 
+-- the most lines of a script that are taken
 abbrev pub most_lines : ℕ
 most_lines = 1000000
 
@@ -15,6 +16,7 @@ most_lines = 1000000
 abbrev pub whole_pieces : List ℕ → List (List ℕ)
 whole_pieces octets = take (length (slice_split is_feed octets) - 1) (slice_split is_feed octets)
 
+-- what stands behind the last LF
 abbrev pub last_piece : List ℕ → List ℕ
 last_piece octets = unwrap_or (last_or None (slice_split is_feed octets)) []
 

@@ -24,6 +24,7 @@ use Rattle.mib_model.specs.Tails.{Tail, Plain, Given, Invalid, Told, Record}
 abbrev pub type_text : ℕ → ℕ → List ℕ
 type_text service subtype = codes " TYPE " ++ decimal service ++ codes "/" ++ decimal subtype
 
+-- why a packet is bad
 abbrev pub why_text : BadWhy → List ℕ
 why_text why.Version = codes " BAD VERSION"
 why_text why.Telecommand = codes " BAD TELECOMMAND"
@@ -35,6 +36,7 @@ title_text None = []
 title_text (Some []) = []
 title_text (Some (c ∷ cs)) = codes " NAME " ++ quoted (c ∷ cs)
 
+-- what a packet is
 abbrev pub found_text : Found → Option (List ℕ) → List ℕ
 found_text (found.Spid spid service subtype tpsd dfhsize) title =
     type_text service subtype ++ codes " SPID " ++ decimal spid ++ title_text title
@@ -58,11 +60,13 @@ given_text TooLarge decimals = codes " ! OVER"
 given_text LogCurve decimals = codes " ! LOGCURVE"
 given_text RealCurve decimals = codes " ! REALCURVE"
 
+-- the text of a tail
 abbrev pub tail_text : Tail → List ℕ
 tail_text Plain = []
 tail_text (Given given decimals) = given_text given decimals
 tail_text Invalid = codes " ? INVALID"
 
+-- the line of a value
 unfoldable pub value_text : Value → List ℕ → Tail → List ℕ
 value_text v packet tail = codes "  " ++ v.name ++ codes " " ++ raw_text v packet ++ tail_text tail ++ codes "\n"
 
@@ -79,6 +83,7 @@ abbrev pub change_text : List ℕ → Change → List ℕ
 change_text name (change.Alarm c) = codes "  ALARM " ++ name ++ codes " " ++ class_text c ++ codes "\n"
 change_text name (change.Clear c) = codes "  CLEAR " ++ name ++ codes " " ++ class_text c ++ codes "\n"
 
+-- the line of a change, where there is one
 abbrev pub change_text_of : List ℕ → Option Change → List ℕ
 change_text_of name None = []
 change_text_of name (Some c) = change_text name c
@@ -95,6 +100,7 @@ ended_text (ended.NoParameter pid) = codes "  NOPARAMETER " ++ signed_decimal pi
 abbrev pub edition_text : ℕ → List ℕ
 edition_text edition = codes "EDITION " ++ decimal edition ++ codes "\n"
 
+-- the line of an edition, where it is told
 abbrev pub edition_text_of : Option ℕ → List ℕ
 edition_text_of None = []
 edition_text_of (Some edition) = edition_text edition
@@ -108,6 +114,7 @@ unfoldable pub record_body : Record → List ℕ
 record_body r =
     head_text r.number (header_of r.packet) r.found r.title ++ flat_map (told_text r.packet) r.values ++ ended_text r.ended
 
+-- the record of a packet, its edition first
 unfoldable pub record_text : Record → List ℕ
 record_text r = edition_text_of r.edition ++ record_body r
 

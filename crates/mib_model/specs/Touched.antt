@@ -14,6 +14,7 @@ use Rattle.mib_model.specs.Plans.{Plan, Slice, ParamSlice, LayoutSlice, Structur
 use Rattle.mib_model.specs.Sameness.{same_list}
 use Rattle.mib_model.specs.SameRows.{same_pcf, same_pid, same_pic, same_plf, same_vpd, same_cur, same_caf, same_cap, same_txf, same_txp, same_mcf, same_lgf, same_ocf, same_ocp}
 
+-- the same name of a plan
 abbrev pub same_plan_name : PlanName → PlanName → Bool
 same_plan_name (plan.Param x) (plan.Param y) = bytes_eq x y
 same_plan_name (plan.Layout x) (plan.Layout y) = x == y
@@ -21,16 +22,19 @@ same_plan_name (plan.Structure x) (plan.Structure y) = x == y
 same_plan_name plan.Ident plan.Ident = true
 same_plan_name x y = false
 
+-- the same octet order
 abbrev pub same_endian : Endian → Endian → Bool
 same_endian endian.B endian.B = true
 same_endian endian.L endian.L = true
 same_endian x y = false
 
+-- the same type item
 abbrev pub same_type_item : TypeItem → TypeItem → Bool
 same_type_item x y =
     bytes_eq x.name y.name && (x.ptc == y.ptc) && (x.pfc == y.pfc) && (x.width == y.width) && (x.natur == y.natur) &&
     same_endian x.endian y.endian
 
+-- the same curve: its row and its points or texts, in their order
 abbrev pub same_curve : CurveRows → CurveRows → Bool
 same_curve (Points caf caps) (Points caf2 caps2) = same_caf caf caf2 && same_list same_cap caps caps2
 same_curve (Texts txf txps) (Texts txf2 txps2) = same_txf txf txf2 && same_list same_txp txps txps2
@@ -54,10 +58,12 @@ same_slice x y = false
 abbrev pub plan_named : List Plan → PlanName → Option Plan
 plan_named old name = find (λ p. same_plan_name p.0 name) old
 
+-- an old plan of the name is there, with the same rows
 abbrev pub has_same_slice : Plan → Option Plan → Bool
 has_same_slice new None = false
 has_same_slice new (Some old) = same_slice old.1 new.1
 
+-- a plan that is new, or whose rows differ
 abbrev pub is_touched : List Plan → Plan → Bool
 is_touched old new = not (has_same_slice new (plan_named old new.0))
 

@@ -16,6 +16,7 @@ abbrev pub is_plain : PcfRow → Bool
 is_plain row =
     (row.ptc == 3) && not (row.endian == 76) && is_some (parameter_encoding row) && not (is_some row.curtx) && not (is_some row.valid)
 
+-- a measured parameter that isn't plain
 abbrev pub is_unbuilt_pcf : PcfRow → Bool
 is_unbuilt_pcf row = is_measured row && not (is_plain row)
 

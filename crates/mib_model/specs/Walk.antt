@@ -1,46 +1,14 @@
 -- The values of a packet of variable structure, as a walk over the structure's rows.
 -- [SCOS-2000 Database Import ICD, vpd; the order of the tests and the ends are this profile's.]
-use Rattle.std.specs.Prelude.{ℕ, zero, suc, ◌+◌, ◌*◌, ℤ, pos, negsuc, ◌+ℤ◌, nat_abs, Bool, true, List, [], ◌∷◌, ◌++◌, length, take, drop, filter, nat_lt, ◌==◌, ◌&&◌, not, if◌then◌else◌, Option, Some, None, option_map, option_and_then, unwrap_or}
-use Rattle.std.specs.List.{find, repeat}
-use Rattle.std.specs.Option.{option_eq}
-use Rattle.std.specs.Ordering.{int_eq}
+use Rattle.std.specs.Prelude.{ℕ, zero, suc, ◌+◌, ◌*◌, ℤ, pos, negsuc, ◌+ℤ◌, nat_abs, Bool, true, List, [], ◌∷◌, ◌++◌, length, nat_lt, ◌==◌, not, if◌then◌else◌, Option, Some, None, option_and_then, unwrap_or}
 use Rattle.mib_model.specs.declared.packet.Ended.{Ended}
 use Rattle.mib_model.specs.declared.packet.Ended.TheVariants.{Whole, Short, Many, NoStructure, NoParameter}
 use Rattle.mib_model.specs.declared.packet.Value.{Value}
-use Rattle.mib_model.specs.declared.rows.PcfRow.{PcfRow}
 use Rattle.mib_model.specs.declared.rows.VpdRow.{VpdRow}
 use Rattle.mib_model.specs.Bits.{raw_number}
 use Rattle.mib_model.specs.Database.{Database}
-use Rattle.mib_model.specs.Encodings.{Encoding}
 use Rattle.mib_model.specs.Fixed.{most_values}
-use Rattle.mib_model.specs.Orders.{sorted_by_number}
-use Rattle.mib_model.specs.Parameters.{parameter, is_measured, parameter_encoding}
-
--- the rows of a structure by POS; none where there is no such structure
-unfoldable pub structure : Database → ℤ → List VpdRow
-structure db tpsd = sorted_by_number (λ row. row.pos) (filter (λ row. int_eq (pos row.tpsd) tpsd) db.vpd)
-
--- a parameter whose type is that of another: PTC 11
-abbrev pub is_deduced : PcfRow → Bool
-is_deduced row = row.ptc == 11
-
--- the first measured parameter of a PCF_PID, deduced ones left out
-unfoldable pub deduced : Database → ℤ → Option PcfRow
-deduced db pid = find (λ row. is_measured row && not (is_deduced row) && option_eq int_eq (option_map pos row.pid) (Some pid)) db.pcf
-
--- the parameter that a row gives a value of: its own, or the deduced one where its own has PTC 11
-abbrev pub own_or_deduced : Database → ℤ → PcfRow → Option PcfRow
-own_or_deduced db last row = if is_deduced row then deduced db last else Some row
-
-abbrev pub subject : Database → ℤ → VpdRow → Option PcfRow
-subject db last row = option_and_then (own_or_deduced db last) (parameter db.pcf row.name)
-
--- a parameter beside what its bits are
-abbrev pub Typed : Type 0
-Typed = PcfRow × Encoding
-
-abbrev pub typed : PcfRow → Option Typed
-typed row = option_map (λ e. (row, e)) (parameter_encoding row)
+use Rattle.mib_model.specs.Structures.{structure, subject, Typed, typed, is_yes, times, group_repeated, moved_by}
 
 -- a walk: the rows still to walk, the bit that it stands at, the last PIDREF value, and the values so far
 pub record Walking : Type 0 where
@@ -53,23 +21,6 @@ pub record Walking : Type 0 where
 pub data Step : Type 0 where
   Goes : (on : Walking) → Step
   Ends : (ended : Ended) (values : List Value) → Step
-
--- a code `Y`
-abbrev pub is_yes : ℕ → Bool
-is_yes letter = letter == 89
-
--- how often a raw value says that a group is walked
-abbrev pub times : ℤ → ℕ
-times (pos n) = n
-times (negsuc n) = 0
-
--- the next rows, so many of them, walked some times, and then the rows behind them
-abbrev pub group_repeated : ℕ → ℕ → List VpdRow → List VpdRow
-group_repeated size n rest = repeat n (take size rest) ++ drop size rest
-
--- how far a value moves the walk: by its parameter's WIDTH where that is given, else by its type's width
-abbrev pub moved_by : Typed → ℕ
-moved_by t = if t.0.width == 0 then t.1.width else t.0.width
 
 -- whether so many bits from a place on lie before the packet or pass its end
 abbrev pub lies_outside : List ℕ → ℤ → ℕ → Bool
@@ -126,6 +77,7 @@ abbrev pub step_from : Database → List ℕ → Walking → List VpdRow → Ste
 step_from db packet w [] = Ends Whole w.values
 step_from db packet w (row ∷ rest) = on_row db packet row rest (record w { cursor = w.cursor +ℤ row.offset })
 
+-- one step of a walk: the next row, or the end
 unfoldable pub step : Database → List ℕ → Walking → Step
 step db packet w = step_from db packet w w.todo
 
@@ -133,6 +85,7 @@ step db packet w = step_from db packet w w.todo
 abbrev pub Extracted : Type 0
 Extracted = List Value × Ended
 
+-- what a step gives: the walk goes on, or its values
 abbrev pub on_step : (Walking → Option Extracted) → Step → Option Extracted
 on_step go (Goes on) = go on
 on_step go (Ends ended values) = Some (values, ended)

@@ -11,9 +11,11 @@ use Rattle.mib_model.specs.Lines.{trimmed}
 abbrev pub least_raw : ℤ
 least_raw = negsuc (2 ^ 63 - 1)
 
+-- the greatest raw number
 abbrev pub greatest_raw : ℤ
 greatest_raw = pos (2 ^ 64 - 1)
 
+-- a number, where it is a raw number
 abbrev pub if_raw : ℤ → Option ℤ
 if_raw z = if int_le least_raw z && int_le z greatest_raw then Some z else None
 
@@ -22,10 +24,12 @@ abbrev pub whole_of : ℤ → ℤ → Option ℤ
 whole_of m (pos e) = if_raw (m *ℤ pos (10 ^ e))
 whole_of m (negsuc e) = None
 
+-- the whole number of a text that reads as a decimal
 abbrev pub whole_in : Result Dec DecFault → Option ℤ
 whole_in (Err fault) = None
 whole_in (Ok d) = whole_of d.m d.e
 
+-- the whole number that a text is in radix `D`
 unfoldable pub decimal_whole : List ℕ → Option ℤ
 decimal_whole text = whole_in (dec_of (trimmed text))
 
@@ -33,18 +37,23 @@ decimal_whole text = whole_in (dec_of (trimmed text))
 abbrev pub is_hex_letter : ℕ → ℕ → Bool
 is_hex_letter first octet = nat_le first octet && nat_lt octet (first + 6)
 
+-- a digit of radix `H`
 abbrev pub is_hex_digit : ℕ → Bool
 is_hex_digit octet = is_ascii_digit octet || is_hex_letter 65 octet || is_hex_letter 97 octet
 
+-- what a digit of radix `H` stands for
 abbrev pub hex_digit_value : ℕ → ℕ
 hex_digit_value octet = if nat_le 97 octet then octet - 87 else if nat_le 65 octet then octet - 55 else octet - 48
 
+-- the number that digits of radix `H` spell
 abbrev pub hex_value : List ℕ → ℕ
 hex_value digits = fold (λ value digit. 16 * value + hex_digit_value digit) 0 digits
 
+-- a digit of radix `O`
 abbrev pub is_octal_digit : ℕ → Bool
 is_octal_digit octet = nat_le 48 octet && nat_le octet 55
 
+-- the number that digits of radix `O` spell
 abbrev pub octal_value : List ℕ → ℕ
 octal_value digits = fold (λ value digit. 8 * value + (digit - 48)) 0 digits
 

@@ -26,15 +26,19 @@ pub record Parted : Type 0 where
   pub positional : List (List ℕ)
   pub workers : List (List ℕ)
 
+-- a positional word more
 abbrev pub with_positional : List ℕ → Parted → Parted
 with_positional word p = record p { positional = word ∷ p.positional }
 
+-- a number of workers more
 abbrev pub with_workers : List ℕ → Parted → Parted
 with_workers number p = record p { workers = number ∷ p.workers }
 
+-- the option with its number in the next word
 abbrev pub workers_option : List ℕ
 workers_option = codes "--workers"
 
+-- the option with its number behind it
 abbrev pub workers_prefix : List ℕ
 workers_prefix = codes "--workers="
 
@@ -73,15 +77,18 @@ abbrev pub check_of_words : List (List ℕ) → Option Command
 check_of_words (folder ∷ []) = Some (Check folder)
 check_of_words other = None
 
+-- `decode`: a folder and a feed
 abbrev pub decode_of_words : ℕ → List (List ℕ) → Option Command
 decode_of_words workers (folder ∷ feed ∷ []) = Some (Decode folder feed workers)
 decode_of_words workers other = None
 
+-- `live`: a folder, a feed and a desk, of which one may be standard input
 abbrev pub live_of_words : ℕ → List (List ℕ) → Option Command
 live_of_words workers (folder ∷ feed ∷ desk ∷ []) =
     if is_standard feed && is_standard desk then None else Some (Live folder feed desk workers)
 live_of_words workers other = None
 
+-- `drill`: a seed
 abbrev pub drill_of_words : List (List ℕ) → Option Command
 drill_of_words (seed ∷ []) = option_map Drill (seed_in seed)
 drill_of_words other = None
@@ -90,10 +97,12 @@ drill_of_words other = None
 abbrev pub with_options : (ℕ → List (List ℕ) → Option Command) → List (List ℕ) → Option Command
 with_options make words = option_and_then (λ p. option_and_then (λ n. make n p.positional) (workers_of p.workers)) (parted words)
 
+-- a command, where nothing stands that it doesn't take
 abbrev pub if_none : {A : Type 0} → List A → Option Command → Option Command
 if_none [] command = command
 if_none (x ∷ xs) command = None
 
+-- the words of a command that takes no options
 abbrev pub without_options : (List (List ℕ) → Option Command) → List (List ℕ) → Option Command
 without_options make words = option_and_then (λ p. if_none p.workers (make p.positional)) (parted words)
 

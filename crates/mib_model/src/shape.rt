@@ -75,7 +75,8 @@ impl Shape {
 
     /// Its width in bits: 1 to 8,192, and 0 for the sort `Deduced`.
     pub fn width(self) -> u16
-        ensures { result ≡ self.width }
+        ensures value { result ≡ self.width }
+        ensures encoding { IsEncoding self }
     {
         self.width
     }

@@ -1,3 +1,9 @@
+pub mod AgainFacts
 pub mod CutFacts
 pub mod FieldFacts
+pub mod LawFacts
+pub mod NumberFacts
+pub mod PlainFacts
+pub mod RowAgainFacts
+pub mod RowFacts
 pub mod TableFacts

@@ -3,8 +3,8 @@
 ghost use Rattle.std.specs.Prelude.{◌≡◌, ◌≤◌, ◌≤ℤ◌, IfOk, IfSome, true, false};
 ghost use Rattle.mib_model.specs.Columns.{value_of, fault_in, Must, Optional, Filled, Named, Natural, Integer, Letter, Capital, Decimal, AnyText, Bounding, zero_decimal, no_bound};
 
-use crate::forms::{capital, code, number, trim};
-use dec_num::read_dec;
+use crate::forms::{capital, code, number};
+use dec_num::{read_dec, trim};
 use mib_model::{Bound, Dec, LineFault, MibCode, Name, Text};
 
 /// The least number of the form `int`, -2^63.

@@ -1,39 +1,8 @@
 // Numbers and letters as fields have them.
-ghost use Rattle.std.specs.Prelude.{◌≡◌, ◌≤ℤ◌, reverse, IfSome};
-ghost use Rattle.mib_model.specs.Lines.{trimmed, without_front};
+ghost use Rattle.std.specs.Prelude.{◌≡◌, ◌≤ℤ◌, IfSome};
 ghost use Rattle.mib_model.specs.Numbers.{magnitude_of, signed_of, number_of, code_of, capital_of};
 
 use dec_num::{are_digits, digits_number};
-
-// The octets without the spaces in front of them.
-fn trim_front(octets: &[u8]) -> &[u8]
-    ensures { result.now ≡ without_front octets.now }
-{
-    let mut rest = octets;
-    while let [b' ', after @ ..] = rest {
-        rest = after;
-    }
-    rest
-}
-
-// The octets without the spaces at their end.
-fn trim_end(octets: &[u8]) -> &[u8]
-    ensures { result.now ≡ reverse (without_front (reverse octets.now)) }
-{
-    let mut rest = octets;
-    while let [before @ .., b' '] = rest {
-        rest = before;
-    }
-    rest
-}
-
-/// The octets without the spaces at both ends.
-#[tactic(auto, unfolding(mib_model::specs::Lines::trimmed))]
-pub fn trim(octets: &[u8]) -> &[u8]
-    ensures { result.now ≡ trimmed octets.now }
-{
-    trim_end(trim_front(octets))
-}
 
 // The number that 1 to 20 digits are.
 fn magnitude(octets: &[u8]) -> Option<i128>

@@ -5,16 +5,28 @@
 #![tactic(auto)]
 
 mod curves;
+mod curves_lines;
 mod field;
 mod fields;
 mod forms;
+mod keys;
+mod laws;
+mod line_writer;
 mod lines;
 mod packets;
+mod packets_lines;
 mod parameters;
+mod parameters_lines;
 mod read_fault;
 mod row;
 mod rows;
 mod table;
+mod write;
 
+pub use laws::written_is_read;
 pub use read_fault::ReadFault;
-pub use table::read_table;
+pub use table::{read_key, read_row, read_table};
+pub use write::write_row;
+
+#[cfg(test)]
+mod tests;

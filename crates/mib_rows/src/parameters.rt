@@ -9,7 +9,7 @@ use crate::field::{
     natural, natural_or, natural_or_none,
 };
 use crate::fields::Fields;
-use crate::forms::trim;
+use dec_num::trim;
 use mib_model::{LineFault, MibCode, OcfRow, OcpRow, PcfRow};
 
 /// A row of parameters.

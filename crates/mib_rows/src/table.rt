@@ -1,14 +1,15 @@
 // The rows of a table's text.
 ghost use Rattle.std.specs.Prelude.{◌≡◌};
-ghost use Rattle.mib_model.specs.Reading.{fault_at, row_at, table_of, is_marked};
+ghost use Rattle.mib_model.specs.Reading.{fault_at, row_at, table_of, is_marked, row_read, key_read};
 ghost use Rattle.mib_rows.specs.Answers.{Gives};
 
 use crate::field::fault;
 use crate::fields::Fields;
+use crate::keys::key;
 use crate::read_fault::ReadFault;
 use crate::row::row;
 use crate::rows::{ROWS_MOST, ReadsRows, rows};
-use mib_model::{Kind, LineFault, MibCode, MibFault, Row};
+use mib_model::{Key, Kind, LineFault, MibCode, MibFault, Row};
 use std::alloc::Global;
 
 // The octets of the greatest text and of the longest row.
@@ -82,4 +83,33 @@ pub fn read_table(alloc: Global, kind: Kind, text: &[u8]) -> Result<Vec<Row>, Re
         return Err(ReadFault::Mib(fault_in_row(kind, 0, mark)));
     }
     rows(alloc, &TableReader { alloc, kind }, text)
+}
+
+/// The row that a line apart from a text is. Its faults have the row 0 and a code from FewFields to BadName.
+#[tactic(auto, unfolding(mib_model::specs::Reading::row_read))]
+pub fn read_row(alloc: Global, kind: Kind, line: &[u8]) -> Result<Row, ReadFault>
+    ensures { Gives (λ row. row) result (row_read kind line.now) }
+{
+    let Ok(fields) = Fields::cut(alloc, line) else {
+        return Err(ReadFault::Memory);
+    };
+    match row(kind, &fields) {
+        Ok(row) => Ok(row),
+        Err(e) => Err(ReadFault::Mib(fault_in_row(kind, 0, e))),
+    }
+}
+
+/// The key that a line is: the fields of the table's key in their order, parted by tabs. Its faults have the row 0,
+/// the column of the table, and a code from FewFields to BadName.
+#[tactic(auto, unfolding(mib_model::specs::Reading::key_read))]
+pub fn read_key(alloc: Global, kind: Kind, line: &[u8]) -> Result<Key, ReadFault>
+    ensures { Gives (λ key. key) result (key_read kind line.now) }
+{
+    let Ok(fields) = Fields::cut(alloc, line) else {
+        return Err(ReadFault::Memory);
+    };
+    match key(kind, &fields) {
+        Ok(key) => Ok(key),
+        Err(e) => Err(ReadFault::Mib(fault_in_row(kind, 0, e))),
+    }
 }

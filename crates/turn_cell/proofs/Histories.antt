@@ -1,12 +1,12 @@
 -- Fronts of one history, and how long it can be.
-use Rattle.std.proofs.Common.{◌≡◌, ◌≢◌, ℕ, zero, suc, Bool, true, false, cond, ◌+◌, ◌*◌, ◌<◌, ◌≤◌, List, [], ◌∷◌, ◌++◌, length, refl, sym, ap, ◌∙◌, leb-true, leb-false, nat_le, length-append, append-nil, eq-eqb, ne_eqb, ◌==◌, arith}
+use Rattle.std.proofs.Common.{◌≡◌, ◌≢◌, ℕ, zero, suc, Bool, true, false, cond, ◌+◌, ◌*◌, ◌<◌, ◌≤◌, List, [], ◌∷◌, ◌++◌, length, refl, sym, ap, ◌∙◌, leb-true, leb-false, nat_le, length-append, append-nil, eq-eqb, ne_eqb, arith}
 use mathlib.Core.Logic.{dite}
 use native.Mathlib.Decide.{ℕ_discrete}
 use Rattle.histories.specs.declared.history.Move.{Move}
 use Rattle.histories.specs.History.{moves_of, IsOfSeatsBelow, StartsWith}
 use Rattle.histories.proofs.HistoryFacts.{IsOfSeatsBelow-rest}
 use Rattle.turn_cell.specs.declared.view.Holding.{Holding}
-use Rattle.turn_cell.specs.Views.{times, listed, longer, AreListed}
+use Rattle.turn_cell.specs.Views.{times, longer, AreListed}
 use Rattle.turn_cell.proofs.Holdings.{moves_of-append, moves_of_is}
 
 first_or : {M : Type 0} → M → List M → M
@@ -90,11 +90,11 @@ module _ {E A : Type 0} where
   count-one zero m ms lt = absurd (omega arith)
   count-one (suc k) m ms lt = dite (ℕ_discrete m.seat k)
       (λ is.
-          let e : length (moves_of k (m ∷ ms)) ≡ suc (length (moves_of k ms)) = ap (λ b. length (cond b (m ∷ moves_of k ms) (moves_of k ms))) (eq-eqb m.seat k is) in
-          omega (arith, e, count-past k m ms (omega arith)))
+      let e : length (moves_of k (m ∷ ms)) ≡ suc (length (moves_of k ms)) = ap (λ b. length (cond b (m ∷ moves_of k ms) (moves_of k ms))) (eq-eqb m.seat k is) in
+      omega (arith, e, count-past k m ms (omega arith)))
       (λ other.
-          let e : length (moves_of k (m ∷ ms)) ≡ length (moves_of k ms) = ap (λ b. length (cond b (m ∷ moves_of k ms) (moves_of k ms))) (ne_eqb m.seat k other) in
-          omega (arith, e, count-one k m ms (omega arith)))
+      let e : length (moves_of k (m ∷ ms)) ≡ length (moves_of k ms) = ap (λ b. length (cond b (m ∷ moves_of k ms) (moves_of k ms))) (ne_eqb m.seat k other) in
+      omega (arith, e, count-one k m ms (omega arith)))
 
   count-all : (k : ℕ) (log : List (Move E A)) → IsOfSeatsBelow k log → count k log ≡ length log
   count-all k [] below = count-none k [] refl

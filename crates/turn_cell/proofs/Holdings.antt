@@ -1,5 +1,5 @@
 -- The numbers of a seat, and the moves that are listed under them.
-use Rattle.std.proofs.Common.{◌≡◌, ◌≢◌, ◌⊎◌, ℕ, zero, suc, Bool, true, false, not, cond, ◌+◌, ◌<◌, ◌≤◌, ◌==◌, min, List, [], ◌∷◌, ◌++◌, length, map, refl, sym, ap, ◌∙◌, subst, ⊎_elim, inl, inr, eq-eqb, ne_eqb, append-nil, arith}
+use Rattle.std.proofs.Common.{◌≡◌, ◌≢◌, ◌⊎◌, ℕ, zero, suc, Bool, true, false, not, ◌&&◌, cond, ◌+◌, ◌<◌, ◌≤◌, ◌==◌, min, List, [], ◌∷◌, ◌++◌, length, refl, sym, ap, ◌∙◌, subst, ⊎_elim, inl, inr, eq-eqb, ne_eqb, append-nil, arith}
 use Rattle.std.specs.List.{AllByRecursion, filter}
 use Rattle.std.proofs.lemmas.List.Sums.{sum_by-cons, sum_by-append}
 use Rattle.std.proofs.lemmas.List.Filters.{sum_by-filter_both, length-filter_both}
@@ -9,7 +9,8 @@ use native.Mathlib.Decide.{ℕ_discrete}
 use Rattle.histories.specs.declared.history.Move.{Move}
 use Rattle.histories.specs.History.{move, moves_of}
 use Rattle.turn_cell.specs.declared.view.Holding.{Holding}
-use Rattle.turn_cell.specs.Views.{bit, holding, holdings_below, times, least, listed, AreListed, with_move, is_handed, handed, kept}
+use Rattle.turn_cell.specs.Standings.{bit}
+use Rattle.turn_cell.specs.Views.{holding, holdings_below, times, least, greatest, listed, AreListed, with_move, is_spare, is_handed, handed, kept}
 
 -- the least of two is one of them
 min_is : (x y : ℕ) → (min x y ≡ x) ⊎ (min x y ≡ y)
@@ -68,10 +69,10 @@ module _ {E A : Type 0} where
   pub AreListed-with_move : (log : List (Move E A)) (m : Move E A) (hs : List (Holding E A)) → AreListed log hs → AreListed (log ++ m ∷ []) (with_move m hs)
   AreListed-with_move log m [] all = tt
   AreListed-with_move log m (h ∷ hs) all = (
-      dite (ℕ_discrete h.number m.seat)
+    dite (ℕ_discrete h.number m.seat)
         (λ is. moves_of-own h.number log m (sym is) ∙ ap (λ l. l ++ m ∷ []) all.0 ∙ sym (ap (λ b. cond b (h.moves ++ m ∷ []) h.moves) (eq-eqb h.number m.seat is)))
         (λ other. moves_of-other h.number log m (λ e. other (sym e)) ∙ all.0 ∙ sym (ap (λ b. cond b (h.moves ++ m ∷ []) h.moves) (ne_eqb h.number m.seat other))),
-      AreListed-with_move log m hs all.1,
+    AreListed-with_move log m hs all.1,
   )
 
   pub AreListed-other : (log : List (Move E A)) (m : Move E A) (hs : List (Holding E A)) → times m.seat hs ≡ 0 → AreListed log hs → AreListed (log ++ m ∷ []) hs
@@ -101,9 +102,9 @@ module _ {E A : Type 0} where
       let after : Bool → List (Move E A) = λ b. cond b (cond b (h.moves ++ m ∷ []) h.moves) (listed m.seat (with_move m hs)) in
       let before : Bool → List (Move E A) = λ b. cond b h.moves (listed m.seat hs) ++ m ∷ [] in
       dite (ℕ_discrete h.number m.seat)
-        (λ is. let e = eq-eqb h.number m.seat is in ap after e ∙ sym (ap before e))
-        (λ other. let e = ne_eqb h.number m.seat other in
-            ap after e ∙ listed-with_move m hs (λ none. some_m (times-cons_other m.seat h hs other ∙ none)) ∙ sym (ap before e))
+      (λ is. let e = eq-eqb h.number m.seat is in ap after e ∙ sym (ap before e))
+      (λ other. let e = ne_eqb h.number m.seat other in
+      ap after e ∙ listed-with_move m hs (λ none. some_m (times-cons_other m.seat h hs other ∙ none)) ∙ sym (ap before e))
 
   -- the list of the least number after one more move under it
   pub own-with_move : (hs ks : List (Holding E A)) (event : E) (answer : A) → 1 ≤ length hs → ks ≡ with_move (move (least hs) event answer) hs → listed (least ks) ks ≡ listed (least hs) hs ++ move (least hs) event answer ∷ []
@@ -129,6 +130,71 @@ module _ {E A : Type 0} where
 
   pub length-split : (hs : List (Holding E A)) → length (handed hs) + length (kept hs) ≡ length hs
   length-split hs = length-filter_both (is_handed hs) (λ h. not (is_handed hs h)) (λ h. refl) hs
+
+  pub least-le : (k : ℕ) (hs : List (Holding E A)) → times k hs ≢ 0 → least hs ≤ k
+  least-le k [] some_k = absurd (some_k refl)
+  least-le k (h ∷ []) some_k = dite (ℕ_discrete h.number k) (λ is. omega arith) (λ other. absurd (some_k (times-cons_other k h [] other)))
+  least-le k (h ∷ j ∷ js) some_k = dite (ℕ_discrete h.number k)
+      (λ is. omega arith)
+      (λ other. let r = least-le k (j ∷ js) (λ none. some_k (times-cons_other k h (j ∷ js) other ∙ none)) in omega arith)
+
+  -- what a test takes out under a number that it never passes, or always
+  module _ (n : ℕ) (test : Holding E A → Bool) where
+    times-filter_none : ((h : Holding E A) → h.number ≡ n → test h ≡ false) → (hs : List (Holding E A)) → times n (filter test hs) ≡ 0
+    times-filter_none out [] = refl
+    times-filter_none out (h ∷ hs) = dite (ℕ_discrete h.number n)
+        (λ is. ap (λ b. times n (cond b (h ∷ filter test hs) (filter test hs))) (out h is) ∙ times-filter_none out hs)
+        (λ other. passed (test h) h (filter test hs) other ∙ times-filter_none out hs)
+      where
+        passed : (b : Bool) (h : Holding E A) (hs : List (Holding E A)) → h.number ≢ n → times n (cond b (h ∷ hs) hs) ≡ times n hs
+        passed true h hs other = times-cons_other n h hs other
+        passed false h hs other = refl
+
+    listed-filter : ((h : Holding E A) → h.number ≡ n → test h ≡ true) → (hs : List (Holding E A)) → listed n (filter test hs) ≡ listed n hs
+    listed-filter pass [] = refl
+    listed-filter pass (h ∷ hs) = dite (ℕ_discrete h.number n)
+        (λ is. let e = eq-eqb h.number n is in
+        ap (λ b. listed n (cond b (h ∷ filter test hs) (filter test hs))) (pass h is)
+        ∙ ap (λ b. cond b h.moves (listed n (filter test hs))) e
+        ∙ sym (ap (λ b. cond b h.moves (listed n hs)) e))
+        (λ other. let e = ne_eqb h.number n other in
+        passed (test h) h (filter test hs) e ∙ listed-filter pass hs ∙ sym (ap (λ b. cond b h.moves (listed n hs)) e))
+      where
+        passed : (b : Bool) (h : Holding E A) (hs : List (Holding E A)) → (h.number == n) ≡ false → listed n (cond b (h ∷ hs) hs) ≡ listed n hs
+        passed true h hs e = ap (λ b. cond b h.moves (listed n hs)) e
+        passed false h hs e = refl
+
+  least_stays : (hs : List (Holding E A)) (h : Holding E A) → h.number ≡ least hs → is_handed hs h ≡ false
+  least_stays hs h is = ap (λ b. (not b && (length h.moves == 0)) && (h.number == greatest (filter (is_spare hs) hs))) (eq-eqb h.number (least hs) is)
+
+  -- a split keeps the least number, with its list
+  times-kept_least : (hs : List (Holding E A)) → times (least hs) (kept hs) ≡ times (least hs) hs
+  times-kept_least hs = let none = times-filter_none (least hs) (is_handed hs) (least_stays hs) hs in omega (arith, none, times-split (least hs) hs)
+
+  pub length-kept : (hs : List (Holding E A)) → 1 ≤ length hs → 1 ≤ length (kept hs)
+  length-kept hs some_number = some_of (least hs) (kept hs) (λ none. least_held hs some_number (sym (times-kept_least hs) ∙ none))
+    where
+      some_of : (n : ℕ) (ks : List (Holding E A)) → times n ks ≢ 0 → 1 ≤ length ks
+      some_of n [] some_n = absurd (some_n refl)
+      some_of n (k ∷ ks) some_n = omega arith
+
+  pub least-kept : (hs : List (Holding E A)) → least (kept hs) ≡ least hs
+  least-kept [] = refl
+  least-kept (h ∷ hs) =
+      let all : List (Holding E A) = h ∷ hs in let some_number : 1 ≤ length all = omega arith in
+      let low = least-le (least all) (kept all) (λ none. least_held all some_number (sym (times-kept_least all) ∙ none)) in
+      let own = least_held (kept all) (length-kept all some_number) in
+      let high = least-le (least (kept all)) all (λ none. own (omega (arith, none, times-split (least (kept all)) all))) in
+      omega arith
+
+  pub listed-kept : (hs : List (Holding E A)) → listed (least (kept hs)) (kept hs) ≡ listed (least hs) hs
+  listed-kept hs = ap (λ n. listed n (kept hs)) (least-kept hs) ∙ listed-filter (least hs) (λ h. not (is_handed hs h)) (λ h is. ap not (least_stays hs h is)) hs
+
+  -- a seat with one number hands on none
+  pub split-alone : (hs : List (Holding E A)) → length hs ≤ 1 → (kept hs ≡ hs) × (handed hs ≡ [])
+  split-alone [] le = (refl, refl)
+  split-alone (h ∷ []) le = let e = least_stays (h ∷ []) h refl in (ap (λ b. cond (not b) (h ∷ []) []) e, ap (λ b. cond b (h ∷ []) []) e)
+  split-alone (h ∷ k ∷ ks) le = absurd (omega arith)
 
 module _ (E A : Type 0) where
   pub length-below : (n : ℕ) → length (holdings_below {E = E} {A = A} n) ≡ n

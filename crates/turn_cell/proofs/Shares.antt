@@ -16,7 +16,8 @@ use Rattle.turn_cell.specs.declared.slot.Slot.{Slot}
 use Rattle.turn_cell.specs.declared.slot.Slot.TheVariants.{Home}
 use Rattle.turn_cell.specs.declared.view.Standing.TheVariants.{Idle}
 use Rattle.turn_cell.specs.declared.view.View.{View}
-use Rattle.turn_cell.specs.Views.{bit, has_ticket, has_turn, ticket_of, times, least, AreListed, handed, kept, is_handed, longer, newcomer, split_left, split_right, joined, spent}
+use Rattle.turn_cell.specs.Standings.{bit, has_ticket, has_turn}
+use Rattle.turn_cell.specs.Views.{times, least, AreListed, is_handed, longer, newcomer, split_left, split_right, joined, spent}
 use Rattle.turn_cell.specs.Rule.{Fits, Free, Busy, Kept}
 use Rattle.turn_cell.proofs.Sums.{sum_by-set_at}
 use Rattle.turn_cell.proofs.Holdings.{least_held, times-append, times-split, length-split, times-below_none, times-below_one, length-below, AreListed-append, AreListed-filter, AreListed-below}
@@ -68,9 +69,9 @@ module _ {S C E A : Type 0} (N : Type 0) (mean : S → C) (reply : C → E → A
           within = AreListed-below E A callers;
           all = AreListed-below E A callers;
           fronts = tt;
-          room = (λ e _. absurd (true≢false (sym e)))
+          room = (λ e _. absurd (true≢false (sym e)));
         });
-        desk = inl ((λ i y at. ap (λ (a : V). has_turn a.standing) (sym (first_of_one v i y at).1)), refl, (x, refl, is))
+        desk = inl ((λ i y at. ap (λ (a : V). has_turn a.standing) (sym (first_of_one v i y at).1)), refl, (x, refl, is));
       }
 
   pub begins_so : (x : S) (n : ℕ) (slots : List (Slot S N)) → n ≡ callers → slots ≡ Home x ∷ [] → callers ≤ 255 → mean x ≡ opening → K (table.opening (0 ∷ 0 ∷ 0 ∷ n ∷ []) slots (newcomer opening callers))
@@ -81,13 +82,13 @@ module _ {S C E A : Type 0} (N : Type 0) (mean : S → C) (reply : C → E → A
   all_home s k id v at standing all = ⊎_elim
       (λ free. free)
       (λ (busy : Busy mean reply after may k.serving k.log s.homes s.views).
-        let j : ℕ = busy.0 in let u : V = busy.1 in let f = k.each j u busy.2 in
-        let has = turn_has_ticket u.standing busy.3 in
-        dite (ℕ_discrete j id)
-          (λ same. absurd (no_true (has_turn v.standing) (ap has_turn standing) (ap (λ (a : V). has_turn a.standing) (sym (at_same s.views j id u v busy.2 at same)) ∙ busy.3)))
-          (λ other. let own = least_held u.holdings (f.ticket has).2 in
-              let lt = in_callers N mean reply after may opening callers s k j (least u.holdings) u busy.2 own in
-              absurd (all (least u.holdings) lt (apart_numbers N mean reply after may opening callers s k j id (least u.holdings) u v busy.2 at other own))))
+      let j : ℕ = busy.0 in let u : V = busy.1 in let f = k.each j u busy.2 in
+      let has = turn_has_ticket u.standing busy.3 in
+      dite (ℕ_discrete j id)
+      (λ same. absurd (no_true (has_turn v.standing) (ap has_turn standing) (ap (λ (a : V). has_turn a.standing) (sym (at_same s.views j id u v busy.2 at same)) ∙ busy.3)))
+      (λ other. let own = least_held u.holdings (f.ticket has).2 in
+      let lt = in_callers N mean reply after may opening callers s k j (least u.holdings) u busy.2 own in
+      absurd (all (least u.holdings) lt (apart_numbers N mean reply after may opening callers s k j id (least u.holdings) u v busy.2 at other own))))
       k.desk
 
   pub ends : (id : ℕ) (v : V) (words : List ℕ) (xs : List (Slot S N)) (y : Slot S N) (c : C) → Final (Seen K id v) words xs → v.opening ≡ Some c → v.standing ≡ Idle → ((n : ℕ) → n < callers → times n v.holdings ≢ 0) → get_elem? xs 0 ≡ some y
@@ -98,8 +99,7 @@ module _ {S C E A : Type 0} (N : Type 0) (mean : S → C) (reply : C → E → A
       let x : S = free.2.0 in
       let home = final.4 0 (Home x) (ap (λ (hs : Homes). get_elem? hs 0) free.2.1) in
       let is : k.log ≡ v.seen = f.seen.1 ∙ whole_front callers v.holdings v.seen f.seen.0 (subst (IsOfSeatsBelow callers) f.seen.1 k.seats) all (subst (λ (l : L). AreListed l v.holdings) f.seen.1 f.all) f.within in
-      let same : opening ≡ c = some_same opening c (sym (known_opening opening k.tickets k.serving k.log v f c c_is) ∙ c_is) in
-      (
+      let same : opening ≡ c = some_same opening c (sym (known_opening opening k.tickets k.serving k.log v f c c_is) ∙ c_is) in (
         x,
         some-injective y (Home x) (sym there ∙ home),
         free.2.2 ∙ ap (λ (p : C × L). state_after after p.0 p.1) (λ i. (same i, is i)),
@@ -131,7 +131,7 @@ module _ {S C E A : Type 0} (N : Type 0) (mean : S → C) (reply : C → E → A
         within = AreListed-filter v.seen (λ h. not (is_handed v.holdings h)) v.holdings ok.within;
         all = AreListed-filter k.log (λ h. not (is_handed v.holdings h)) v.holdings ok.all;
         fronts = tt;
-        room = (λ e _. absurd (true≢false (sym e)))
+        room = (λ e _. absurd (true≢false (sym e)));
       } in
       let fits_right : Fits opening k.tickets k.serving k.log r = record {
         known = inl known;
@@ -141,12 +141,12 @@ module _ {S C E A : Type 0} (N : Type 0) (mean : S → C) (reply : C → E → A
         within = AreListed-filter v.seen (is_handed v.holdings) v.holdings ok.within;
         all = AreListed-filter k.log (is_handed v.holdings) v.holdings ok.all;
         fronts = tt;
-        room = (λ e _. absurd (true≢false (sym e)))
+        room = (λ e _. absurd (true≢false (sym e)));
       } in
       let waiter : (i : ℕ) (y : V) → get_elem? (vs ++ r ∷ []) i ≡ some y → has_ticket y.standing ≡ true → get_elem? s.views i ≡ some y =
-          λ i y here has. ⊎_elim (λ x. absurd (⊎_elim (λ (e : l ≡ y). true≢false (sym has ∙ sym (ap (λ (a : V). has_ticket a.standing) e))) (λ (e : r ≡ y). true≢false (sym has ∙ sym (ap (λ (a : V). has_ticket a.standing) e))) x)) (λ x. x.1) (view_of_split s.views id l r i y here) in
+      λ i y here has. ⊎_elim (λ x. absurd (⊎_elim (λ (e : l ≡ y). true≢false (sym has ∙ sym (ap (λ (a : V). has_ticket a.standing) e))) (λ (e : r ≡ y). true≢false (sym has ∙ sym (ap (λ (a : V). has_ticket a.standing) e))) x)) (λ x. x.1) (view_of_split s.views id l r i y here) in
       let sums : (f : V → ℕ) → sum_by f (vs ++ r ∷ []) + f v ≡ sum_by f s.views + f l + f r =
-          λ f. let t = sum_by-set_at f s.views id v l at in let u = sum_by_push f vs r in omega arith in
+      λ f. let t = sum_by-set_at f s.views id v l at in let u = sum_by_push f vs r in omega arith in
       record {
         tickets = k.tickets;
         serving = k.serving;
@@ -164,11 +164,11 @@ module _ {S C E A : Type 0} (N : Type 0) (mean : S → C) (reply : C → E → A
         never = (λ n le. let t = sums (λ (y : V). times n y.holdings) in let a = k.never n le in let p = times-split n v.holdings in omega arith);
         each = (λ i y here. ⊎_elim (λ x. ⊎_elim (λ (e : l ≡ y). subst (Fits opening k.tickets k.serving k.log) e fits_left) (λ (e : r ≡ y). subst (Fits opening k.tickets k.serving k.log) e fits_right) x) (λ x. k.each i y x.1) (view_of_split s.views id l r i y here));
         desk = (⊎_elim
-          (λ free. inl ((λ i y here. ⊎_elim (λ z. ⊎_elim (λ (e : l ≡ y). ap (λ (a : V). has_turn a.standing) (sym e)) (λ (e : r ≡ y). ap (λ (a : V). has_turn a.standing) (sym e)) z) (λ z. free.0 i y z.1) (view_of_split s.views id l r i y here)), free.1, free.2))
-          (λ busy.
+            (λ free. inl ((λ i y here. ⊎_elim (λ z. ⊎_elim (λ (e : l ≡ y). ap (λ (a : V). has_turn a.standing) (sym e)) (λ (e : r ≡ y). ap (λ (a : V). has_turn a.standing) (sym e)) z) (λ z. free.0 i y z.1) (view_of_split s.views id l r i y here)), free.1, free.2))
+            (λ busy.
             let other : busy.0 ≢ id = λ e. no_true (has_turn v.standing) off (ap (λ (a : V). has_turn a.standing) (at_same s.views id busy.0 v busy.1 at busy.2 (sym e)) ∙ busy.3) in
             inr (busy.0, busy.1, at_longer vs (r ∷ []) busy.0 busy.1 (set_else s.views id busy.0 l other ∙ busy.2), busy.3, busy.4, busy.5))
-          k.desk)
+            k.desk);
       }
 
   pub joins : (id : ℕ) (v : V) (other : ℕ) (w : V) (c : C) → v.standing ≡ Idle → v.opening ≡ Some c → w.standing ≡ Idle → Joins K id v other w (joined v w) spent
@@ -190,7 +190,7 @@ module _ {S C E A : Type 0} (N : Type 0) (mean : S → C) (reply : C → E → A
             (AreListed-between k.log (longer v.seen w.seen) w.seen w.holdings front.0 front.2 ok'.all ok'.within);
         all = AreListed-append k.log v.holdings w.holdings ok.all ok'.all;
         fronts = (front.1, (front.2, tt));
-        room = (λ e _. absurd (true≢false (sym e)))
+        room = (λ e _. absurd (true≢false (sym e)));
       } in
       let fits_gone : Fits opening k.tickets k.serving k.log gone = record {
         known = inr refl;
@@ -200,16 +200,16 @@ module _ {S C E A : Type 0} (N : Type 0) (mean : S → C) (reply : C → E → A
         within = tt;
         all = tt;
         fronts = tt;
-        room = (λ e _. absurd (true≢false (sym e)))
+        room = (λ e _. absurd (true≢false (sym e)));
       } in
       let at_now : (i : ℕ) (y : V) → get_elem? (set vs other gone) i ≡ some y → ((both ≡ y) ⊎ (gone ≡ y)) ⊎ ((i ≢ id) × (i ≢ other) × (get_elem? s.views i ≡ some y)) =
-          λ i y here. ⊎_elim (λ (x : (i ≡ other) × (gone ≡ y)). inl (inr x.1))
-              (λ (x : (i ≢ other) × (get_elem? vs i ≡ some y)). ⊎_elim (λ (z : (i ≡ id) × (both ≡ y)). inl (inl z.1)) (λ (z : (i ≢ id) × (get_elem? s.views i ≡ some y)). inr (z.0, x.0, z.1)) (at_set s.views id i both y x.1))
-              (at_set vs other i gone y here) in
+      λ i y here. ⊎_elim (λ (x : (i ≡ other) × (gone ≡ y)). inl (inr x.1))
+      (λ (x : (i ≢ other) × (get_elem? vs i ≡ some y)). ⊎_elim (λ (z : (i ≡ id) × (both ≡ y)). inl (inl z.1)) (λ (z : (i ≢ id) × (get_elem? s.views i ≡ some y)). inr (z.0, x.0, z.1)) (at_set s.views id i both y x.1))
+      (at_set vs other i gone y here) in
       let waiter : (i : ℕ) (y : V) → get_elem? (set vs other gone) i ≡ some y → has_ticket y.standing ≡ true → get_elem? s.views i ≡ some y =
-          λ i y here has. ⊎_elim (λ x. absurd (⊎_elim (λ (e : both ≡ y). true≢false (sym has ∙ sym (ap (λ (a : V). has_ticket a.standing) e))) (λ (e : gone ≡ y). true≢false (sym has ∙ sym (ap (λ (a : V). has_ticket a.standing) e))) x)) (λ x. x.2) (at_now i y here) in
+      λ i y here has. ⊎_elim (λ x. absurd (⊎_elim (λ (e : both ≡ y). true≢false (sym has ∙ sym (ap (λ (a : V). has_ticket a.standing) e))) (λ (e : gone ≡ y). true≢false (sym has ∙ sym (ap (λ (a : V). has_ticket a.standing) e))) x)) (λ x. x.2) (at_now i y here) in
       let sums : (f : V → ℕ) → sum_by f (set vs other gone) + f v + f w ≡ sum_by f s.views + f both + f gone =
-          λ f. let t = sum_by-set_at f s.views id v both at in let u = sum_by-set_at f vs other w gone at' in omega arith in
+      λ f. let t = sum_by-set_at f s.views id v both at in let u = sum_by-set_at f vs other w gone at' in omega arith in
       record {
         tickets = k.tickets;
         serving = k.serving;
@@ -227,10 +227,10 @@ module _ {S C E A : Type 0} (N : Type 0) (mean : S → C) (reply : C → E → A
         never = (λ n le. let t = sums (λ (y : V). times n y.holdings) in let a = k.never n le in let p = times-append n v.holdings w.holdings in omega arith);
         each = (λ i y here. ⊎_elim (λ x. ⊎_elim (λ (e : both ≡ y). subst (Fits opening k.tickets k.serving k.log) e fits_both) (λ (e : gone ≡ y). subst (Fits opening k.tickets k.serving k.log) e fits_gone) x) (λ x. k.each i y x.2) (at_now i y here));
         desk = (⊎_elim
-          (λ free. inl ((λ i y here. ⊎_elim (λ z. ⊎_elim (λ (e : both ≡ y). ap (λ (a : V). has_turn a.standing) (sym e)) (λ (e : gone ≡ y). ap (λ (a : V). has_turn a.standing) (sym e)) z) (λ z. free.0 i y z.2) (at_now i y here)), free.1, free.2))
-          (λ busy.
+            (λ free. inl ((λ i y here. ⊎_elim (λ z. ⊎_elim (λ (e : both ≡ y). ap (λ (a : V). has_turn a.standing) (sym e)) (λ (e : gone ≡ y). ap (λ (a : V). has_turn a.standing) (sym e)) z) (λ z. free.0 i y z.2) (at_now i y here)), free.1, free.2))
+            (λ busy.
             let not_me : busy.0 ≢ id = λ e. no_true (has_turn v.standing) (ap has_turn standing) (ap (λ (a : V). has_turn a.standing) (at_same s.views id busy.0 v busy.1 at busy.2 (sym e)) ∙ busy.3) in
             let not_other : busy.0 ≢ other = λ e. no_true (has_turn w.standing) (ap has_turn standing') (ap (λ (a : V). has_turn a.standing) (at_same s.views other busy.0 w busy.1 was busy.2 (sym e)) ∙ busy.3) in
             inr (busy.0, busy.1, set_else vs other busy.0 gone not_other ∙ (set_else s.views id busy.0 both not_me ∙ busy.2), busy.3, busy.4, busy.5))
-          k.desk)
+            k.desk);
       }

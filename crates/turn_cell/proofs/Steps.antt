@@ -1,25 +1,24 @@
 -- The steps of one seat keep the rule.
 use Rattle.std.proofs.Common.{◌≡◌, ◌≢◌, ◌⊎◌, ℕ, zero, suc, Bool, true, false, true≢false, ◌+◌, ◌%◌, ◌<◌, ◌≤◌, List, [], ◌∷◌, ◌++◌, length, set, Option, Some, None, is_some, sym, refl, ap, ◌∙◌, subst, ⊎_elim, inl, inr, arith, length-append, append-nil, append_assoc, slice_index}
 use Rattle.std.proofs.Math.Nat.{mod-eq_of_lt}
-use Rattle.std.specs.List.{AllByRecursion, sum_by}
 use mathlib.Core.Option.{some, some-ne-none, some-injective}
 use mathlib.Core.Option as maybe
 use mathlib.Core.Logic.{dite}
 use native.Mathlib.Decide.{ℕ_discrete, dec_lt}
 use lib.ListN.{get_elem?}
-use Rattle.atomic_table.specs.Table.{State, Me, Act, Valid, step, stepped, carried_after, put_back, keeps, takes, gives, Allows, rest}
+use Rattle.atomic_table.specs.Table.{State, Me, Act, Valid, stepped, carried_after, put_back, keeps, takes, gives, Allows, rest}
 use Rattle.atomic_table.proofs.Lists.{at_set, set_else, set_again}
 use Rattle.histories.specs.declared.history.Move.{Move}
-use Rattle.histories.specs.History.{move, moves_of, IsLegal, IsOfSeatsBelow, Permits, StartsWith, state_after}
+use Rattle.histories.specs.History.{move, moves_of, IsLegal, IsOfSeatsBelow, Permits, state_after}
 use Rattle.histories.proofs.HistoryFacts.{state_after-append, IsLegal-append, IsOfSeatsBelow-append, Permits-append}
 use Rattle.turn_cell.specs.declared.slot.Slot.{Slot}
 use Rattle.turn_cell.specs.declared.slot.Slot.TheVariants.{Home, Noted, Out}
-use Rattle.turn_cell.specs.declared.view.Holding.{Holding}
 use Rattle.turn_cell.specs.declared.view.Standing.{Standing}
 use Rattle.turn_cell.specs.declared.view.Standing.TheVariants.{Idle, Waiting, InTurn, Entered}
 use Rattle.turn_cell.specs.declared.view.View.{View}
-use Rattle.turn_cell.specs.Views.{bit, has_ticket, has_turn, has_entered, ticket_of, times, least, listed, AreListed, with_move, view, drawn, turned, entered, idle, spent}
-use Rattle.turn_cell.specs.Rule.{Fits, Free, Busy, Kept, Seizes, Looks, Makes, Settles}
+use Rattle.turn_cell.specs.Standings.{bit, has_ticket, has_turn, has_entered, ticket_of}
+use Rattle.turn_cell.specs.Views.{times, least, listed, view, drawn, turned, entered, idle}
+use Rattle.turn_cell.specs.Rule.{Fits, Free, Busy, Kept, Looks, Makes, Settles}
 use Rattle.turn_cell.proofs.Sums.{sum_by-set_at, one-le-sum_by, two-le-sum_by, sum_by-le_at}
 use Rattle.turn_cell.proofs.Holdings.{least_held, moves_of_is, moves_of-own, moves_of-other, AreListed-with_move, AreListed-other, times-with_move, length-with_move}
 use Rattle.turn_cell.proofs.Histories.{length-le}
@@ -93,7 +92,7 @@ module _ {C E A : Type 0} (opening : C) where
     within = ok.within;
     all = ok.all;
     fronts = tt;
-    room = (λ has _. room has)
+    room = (λ has _. room has);
   }
 
 -- the state after one more move
@@ -164,16 +163,16 @@ module _ {S C E A : Type 0} (N : Type 0) (mean : S → C) (reply : C → E → A
     each = (λ i y here. ⊎_elim (λ (x : (i ≡ id) × (w ≡ y)). subst (Fits opening tickets' serving' log') x.1 mine) (λ (x : (i ≢ id) × (get_elem? s.views i ≡ some y)). others i y x.0 x.1) (at_set s.views id i w y here));
     apart = (λ i j y z at_i at_j y_has z_has same_ticket.
         ⊎_elim
-          (λ (x : (i ≡ id) × (w ≡ y)). ⊎_elim
-              (λ (x' : (j ≡ id) × (w ≡ z)). x.0 ∙ sym x'.0)
-              (λ (x' : (j ≢ id) × (get_elem? s.views j ≡ some z)). absurd (alone j z x'.0 x'.1 z_has (ap (λ (a : V). has_ticket a.standing) x.1 ∙ y_has) (sym same_ticket ∙ sym (ap (λ (a : V). ticket_of a.standing) x.1))))
-              (at_set s.views id j w z at_j))
-          (λ (x : (i ≢ id) × (get_elem? s.views i ≡ some y)). ⊎_elim
-              (λ (x' : (j ≡ id) × (w ≡ z)). absurd (alone i y x.0 x.1 y_has (ap (λ (a : V). has_ticket a.standing) x'.1 ∙ z_has) (same_ticket ∙ sym (ap (λ (a : V). ticket_of a.standing) x'.1))))
-              (λ (x' : (j ≢ id) × (get_elem? s.views j ≡ some z)). k.apart i j y z x.1 x'.1 y_has z_has same_ticket)
-              (at_set s.views id j w z at_j))
-          (at_set s.views id i w y at_i));
-    desk = desk
+        (λ (x : (i ≡ id) × (w ≡ y)). ⊎_elim
+        (λ (x' : (j ≡ id) × (w ≡ z)). x.0 ∙ sym x'.0)
+        (λ (x' : (j ≢ id) × (get_elem? s.views j ≡ some z)). absurd (alone j z x'.0 x'.1 z_has (ap (λ (a : V). has_ticket a.standing) x.1 ∙ y_has) (sym same_ticket ∙ sym (ap (λ (a : V). ticket_of a.standing) x.1))))
+        (at_set s.views id j w z at_j))
+        (λ (x : (i ≢ id) × (get_elem? s.views i ≡ some y)). ⊎_elim
+        (λ (x' : (j ≡ id) × (w ≡ z)). absurd (alone i y x.0 x.1 y_has (ap (λ (a : V). has_ticket a.standing) x'.1 ∙ z_has) (same_ticket ∙ sym (ap (λ (a : V). ticket_of a.standing) x'.1))))
+        (λ (x' : (j ≢ id) × (get_elem? s.views j ≡ some z)). k.apart i j y z x.1 x'.1 y_has z_has same_ticket)
+        (at_set s.views id j w z at_j))
+        (at_set s.views id i w y at_i));
+    desk = desk;
   }
 
   -- who has the turn is the seat whose ticket is served
@@ -189,8 +188,8 @@ module _ {S C E A : Type 0} (N : Type 0) (mean : S → C) (reply : C → E → A
         free.2,
       ))
       (λ (busy : Busy mean reply after may k.serving k.log s.homes s.views).
-        let other : busy.0 ≢ id = λ e. no_true (has_turn v.standing) off (ap (λ (a : V). has_turn a.standing) (at_same s.views id busy.0 v busy.1 at busy.2 (sym e)) ∙ busy.3) in
-        inr (busy.0, busy.1, set_else s.views id busy.0 w other ∙ busy.2, busy.3, busy.4, busy.5))
+      let other : busy.0 ≢ id = λ e. no_true (has_turn v.standing) off (ap (λ (a : V). has_turn a.standing) (at_same s.views id busy.0 v busy.1 at busy.2 (sym e)) ∙ busy.3) in
+      inr (busy.0, busy.1, set_else s.views id busy.0 w other ∙ busy.2, busy.3, busy.4, busy.5))
       k.desk
 
   pub draws : (slots id : ℕ) (me : M) → me.0.standing ≡ Idle → 1 ≤ length me.0.holdings → length (listed (least me.0.holdings) me.0.holdings) < 4294967296
@@ -202,8 +201,7 @@ module _ {S C E A : Type 0} (N : Type 0) (mean : S → C) (reply : C → E → A
       let next : (n + 1) % 18446744073709551616 ≡ k.tickets + 1 = mod-eq_of_lt (omega arith) ∙ (omega arith) in
       let ok = k.each id v at in
       let off : has_turn v.standing ≡ false = ap has_turn standing in
-      let none : bit (has_ticket v.standing) ≡ 0 = ap (λ t. bit (has_ticket t)) standing in
-      (
+      let none : bit (has_ticket v.standing) ≡ 0 = ap (λ t. bit (has_ticket t)) standing in (
         w,
         keeps,
         tt,
@@ -211,9 +209,9 @@ module _ {S C E A : Type 0} (N : Type 0) (mean : S → C) (reply : C → E → A
             (ap (λ (ws : List ℕ). set ws 0 ((n + 1) % 18446744073709551616)) k.words ∙ ap (λ (t : ℕ). t ∷ k.serving ∷ length k.log ∷ callers ∷ []) next)
             k.legal k.permitted k.seats k.short (λ _. refl) refl (omega arith)
             (stand opening k.tickets k.serving (k.tickets + 1) k.serving k.log v (Waiting n) ok (holder_opening opening k.tickets k.serving k.log v ok some_number)
-              (λ _. ((let a = k.waiting in omega arith), (omega arith), some_number))
-              refl
-              (λ _. let e = ap (λ (l : L). length l) (moves_of_is k.log (least v.holdings) v.holdings ok.all (least_held v.holdings some_number)) in omega arith))
+            (λ _. ((let a = k.waiting in omega arith), (omega arith), some_number))
+            refl
+            (λ _. let e = ap (λ (l : L). length l) (moves_of_is k.log (least v.holdings) v.holdings ok.all (least_held v.holdings some_number)) in omega arith))
             (λ j u other there. let f = k.each j u there in record {
               known = f.known;
               ticket = (λ has. let x = f.ticket has in let a = x.1 in (x.0, (omega arith), x.2));
@@ -222,7 +220,7 @@ module _ {S C E A : Type 0} (N : Type 0) (mean : S → C) (reply : C → E → A
               within = f.within;
               all = f.all;
               fronts = f.fronts;
-              room = f.room
+              room = f.room;
             })
             (λ j u other there has _ same. let x = (k.each j u there).ticket has in let a = x.1 in absurd (omega arith))
             (desk_stays s k id v w at off refl),
@@ -233,10 +231,10 @@ module _ {S C E A : Type 0} (N : Type 0) (mean : S → C) (reply : C → E → A
   stays : (s : St) (k : K s) (id : ℕ) (v : V) → get_elem? s.views id ≡ some v → (word : ℕ) → word ≡ k.serving → K record { words = set s.words 1 word; homes = s.homes; views = set s.views id v }
   stays s k id v at word is =
       moved s k id v v at (set s.words 1 word) s.homes k.tickets k.serving k.log
-          (ap (λ (ws : List ℕ). set ws 1 word) k.words ∙ ap (λ (t : ℕ). k.tickets ∷ t ∷ length k.log ∷ callers ∷ []) is)
-          k.legal k.permitted k.seats k.short (λ _. refl) refl (omega arith) (k.each id v at) (λ j u other there. k.each j u there)
-          (λ j u other there u_has v_has same. other (k.apart j id u v there at u_has v_has same))
-          (subst (λ (vs : List V). Desk k.serving k.log s.homes vs) (sym (set_again s.views id v at)) k.desk)
+      (ap (λ (ws : List ℕ). set ws 1 word) k.words ∙ ap (λ (t : ℕ). k.tickets ∷ t ∷ length k.log ∷ callers ∷ []) is)
+      k.legal k.permitted k.seats k.short (λ _. refl) refl (omega arith) (k.each id v at) (λ j u other there. k.each j u there)
+      (λ j u other there u_has v_has same. other (k.apart j id u v there at u_has v_has same))
+      (subst (λ (vs : List V). Desk k.serving k.log s.homes vs) (sym (set_again s.views id v at)) k.desk)
 
   look_hit : (s : St) (k : K s) (id : ℕ) (me : M) → get_elem? s.views id ≡ some me.0 → has_ticket me.0.standing ≡ true → has_turn me.0.standing ≡ false → ticket_of me.0.standing ≡ k.serving
       → (found : ℕ) → found ≡ k.serving
@@ -246,54 +244,62 @@ module _ {S C E A : Type 0} (N : Type 0) (mean : S → C) (reply : C → E → A
       let known = holder_opening opening k.tickets k.serving k.log v ok (ok.ticket waits).2 in
       let fresh : has_entered v.standing ≡ false = not_true (has_entered v.standing) (λ e. no_true (has_turn v.standing) off (entered_has_turn v.standing e)) in
       ⊎_elim
-        (λ (free : Free mean reply after may opening k.serving k.log s.homes s.views). (
-          w,
-          takes 0 (Home free.2.0),
-          ap (λ (hs : Homes). get_elem? hs 0) free.2.1,
-          moved s k id v w at (set s.words 1 found) (set s.homes 0 maybe.none) k.tickets k.serving k.log
-              (ap (λ (ws : List ℕ). set ws 1 found) k.words ∙ ap (λ (t : ℕ). k.tickets ∷ t ∷ length k.log ∷ callers ∷ []) is)
-              k.legal k.permitted k.seats k.short (λ _. refl) refl (let a = ap bit waits in omega arith)
-              record {
-                known = inl known;
-                ticket = (λ _. ok.ticket waits);
-                turn = (λ _. (mine, refl));
-                seen = ([], sym (append-nil k.log));
-                within = ok.all;
-                all = ok.all;
-                fronts = tt;
-                room = (λ _ _. ok.room waits fresh)
-              }
-              (λ j u other there. k.each j u there)
-              (λ j u other there u_has _ same. other (k.apart j id u v there at u_has waits same))
-              (inr (id, w, at_here s.views id v w at, refl, (let a = free.1 in omega arith), ap (λ (hs : Homes). set hs 0 maybe.none) free.2.1)),
-          (
-            (λ _. (free.2.0, k.log, refl, ok.seen, ok.all, k.permitted, (λ c c_is.
+      (λ (free : Free mean reply after may opening k.serving k.log s.homes s.views). (
+        w,
+        takes 0 (Home free.2.0),
+        ap (λ (hs : Homes). get_elem? hs 0) free.2.1,
+        moved s k id v w at (set s.words 1 found) (set s.homes 0 maybe.none) k.tickets k.serving k.log
+            (ap (λ (ws : List ℕ). set ws 1 found) k.words ∙ ap (λ (t : ℕ). k.tickets ∷ t ∷ length k.log ∷ callers ∷ []) is)
+            k.legal k.permitted k.seats k.short (λ _. refl) refl (let a = ap bit waits in omega arith)
+            record {
+              known = inl known;
+              ticket = (λ _. ok.ticket waits);
+              turn = (λ _. (mine, refl));
+              seen = ([], sym (append-nil k.log));
+              within = ok.all;
+              all = ok.all;
+              fronts = tt;
+              room = (λ _ _. ok.room waits fresh);
+            }
+            (λ j u other there. k.each j u there)
+            (λ j u other there u_has _ same. other (k.apart j id u v there at u_has waits same))
+            (inr (id, w, at_here s.views id v w at, refl, (let a = free.1 in omega arith), ap (λ (hs : Homes). set hs 0 maybe.none) free.2.1)),
+        (
+          (λ _. (
+            free.2.0,
+            k.log,
+            refl,
+            ok.seen,
+            ok.all,
+            k.permitted,
+            (λ c c_is.
                 let same : opening ≡ c = some_same opening c (sym known ∙ c_is) in
-                (free.2.2 ∙ ap (λ (d : C). state_after after d k.log) same, subst (λ (d : C). IsLegal reply after d k.log) same k.legal)))),
-            (λ miss. absurd (miss (is ∙ sym mine))),
-          ),
-        ))
-        (λ (busy : Busy mean reply after may k.serving k.log s.homes s.views).
-          let same : busy.0 ≡ id = turn_is s k id busy.0 v busy.1 at busy.2 waits mine busy.3 in
-          let e : v ≡ busy.1 = at_same s.views id busy.0 v busy.1 at busy.2 (sym same) in
-          absurd (no_true (has_turn v.standing) off (ap (λ (a : V). has_turn a.standing) e ∙ busy.3)))
-        k.desk
+                (free.2.2 ∙ ap (λ (d : C). state_after after d k.log) same, subst (λ (d : C). IsLegal reply after d k.log) same k.legal)),
+          )),
+          (λ miss. absurd (miss (is ∙ sym mine))),
+        ),
+      ))
+      (λ (busy : Busy mean reply after may k.serving k.log s.homes s.views).
+      let same : busy.0 ≡ id = turn_is s k id busy.0 v busy.1 at busy.2 waits mine busy.3 in
+      let e : v ≡ busy.1 = at_same s.views id busy.0 v busy.1 at busy.2 (sym same) in
+      absurd (no_true (has_turn v.standing) off (ap (λ (a : V). has_turn a.standing) e ∙ busy.3)))
+      k.desk
 
   pub looks : (slots id : ℕ) (me : M) → has_ticket me.0.standing ≡ true → has_turn me.0.standing ≡ false → Allows K slots id me 1 (λ n. n) (Looks mean reply after may me)
   looks slots id me waits off s k wide at _ =
       let found : ℕ = slice_index s.words 1 in
       let is : found ≡ k.serving = ap (λ (ws : List ℕ). slice_index ws 1) k.words in
       dite (ℕ_discrete found (ticket_of me.0.standing))
-        (λ hit. look_hit s k id me at waits off (sym hit ∙ is) found is)
-        (λ miss. (me.0, keeps, tt, stays s k id me.0 at found is, ((λ hit. absurd (miss hit)), λ _. refl)))
+      (λ hit. look_hit s k id me at waits off (sym hit ∙ is) found is)
+      (λ miss. (me.0, keeps, tt, stays s k id me.0 at found is, ((λ hit. absurd (miss hit)), λ _. refl)))
 
   -- who holds a number is the only one
   pub apart_numbers : (s : St) (k : K s) (i j n : ℕ) (u v : V) → get_elem? s.views i ≡ some u → get_elem? s.views j ≡ some v → i ≢ j → times n u.holdings ≢ 0 → times n v.holdings ≡ 0
   apart_numbers s k i j n u v at at' apart some_n =
       let both = two-le-sum_by (λ (y : V). times n y.holdings) s.views i j u v at at' apart in
       dite (dec_lt n callers)
-        (λ lt. let e = k.once n lt in omega arith)
-        (λ ge. let e = k.never n (omega arith) in omega arith)
+      (λ lt. let e = k.once n lt in omega arith)
+      (λ ge. let e = k.never n (omega arith) in omega arith)
 
   pub in_callers : (s : St) (k : K s) (i n : ℕ) (u : V) → get_elem? s.views i ≡ some u → times n u.holdings ≢ 0 → n < callers
   in_callers s k i n u at some_n =
@@ -317,16 +323,16 @@ module _ {S C E A : Type 0} (N : Type 0) (mean : S → C) (reply : C → E → A
         room = (λ has fresh.
             let mine = least_held u.holdings (f.ticket has).2 in
             let e = ap (λ (l : L). length l) (moves_of-other (least u.holdings) k.log m (λ e. mine (ap (λ (q : ℕ). times q u.holdings) (sym e) ∙ none))) in
-            let r = f.room has fresh in omega arith)
+            let r = f.room has fresh in omega arith);
       }
 
   -- no number gets too many entries
   short_after : (s : St) (k : K s) (m : Move E A) → length (moves_of m.seat k.log) < 4294967296 → (n : ℕ) → length (moves_of n (k.log ++ m ∷ [])) ≤ 4294967296
   short_after s k m room n = dite (ℕ_discrete m.seat n)
       (λ is.
-        let e = ap (λ (l : L). length l) (moves_of-own n k.log m is) ∙ length-append (moves_of n k.log) (m ∷ []) in
-        let r = subst (λ (i : ℕ). length (moves_of i k.log) < 4294967296) is room in
-        omega arith)
+      let e = ap (λ (l : L). length l) (moves_of-own n k.log m is) ∙ length-append (moves_of n k.log) (m ∷ []) in
+      let r = subst (λ (i : ℕ). length (moves_of i k.log) < 4294967296) is room in
+      omega arith)
       (λ other. let short = k.short n in let e = ap (λ (l : L). length l) (moves_of-other n k.log m other) in omega arith)
 
   pub makes : (event : N → E) (slots id : ℕ) (me : M) (note : N) → has_turn me.0.standing ≡ true → has_entered me.0.standing ≡ false → me.1 ≡ (0, Noted note) ∷ [] → may (least me.0.holdings) (event note)
@@ -345,8 +351,7 @@ module _ {S C E A : Type 0} (N : Type 0) (mean : S → C) (reply : C → E → A
       let next : (n + 1) % 18446744073709551616 ≡ length log' = mod-eq_of_lt (omega arith) ∙ (omega arith) in
       let own : times number v.holdings ≢ 0 = least_held v.holdings (ok.ticket waits).2 in
       let lt : number < callers = in_callers s k id number v at own in
-      let seen_is : w.seen ≡ log' = ap (λ (l : L). l ++ m ∷ []) t.1 in
-      (
+      let seen_is : w.seen ≡ log' = ap (λ (l : L). l ++ m ∷ []) t.1 in (
         w,
         keeps,
         tt,
@@ -365,19 +370,19 @@ module _ {S C E A : Type 0} (N : Type 0) (mean : S → C) (reply : C → E → A
               within = AreListed-with_move v.seen m v.holdings ok.within;
               all = AreListed-with_move k.log m v.holdings ok.all;
               fronts = tt;
-              room = (λ _ e. absurd (true≢false e))
+              room = (λ _ e. absurd (true≢false e));
             }
             (λ j u other there. seen_by_others s k id j v u m at there other waits t.0 own)
             (λ j u other there u_has _ same. other (k.apart j id u v there at u_has waits same))
             (⊎_elim
-              (λ (free : Free mean reply after may opening k.serving k.log s.homes s.views). absurd (no_true (has_turn v.standing) (free.0 id v at) turn))
-              (λ (busy : Busy mean reply after may k.serving k.log s.homes s.views).
-                let same : busy.0 ≡ id = turn_is s k id busy.0 v busy.1 at busy.2 waits t.0 busy.3 in
-                let e : v ≡ busy.1 = at_same s.views id busy.0 v busy.1 at busy.2 (sym same) in
-                let b : bit (has_entered busy.1.standing) ≡ 0 = ap (λ (y : V). bit (has_entered y.standing)) (sym e) ∙ ap bit fresh in
-                let c = busy.4 in
-                inr (id, w, at_here s.views id v w at, refl, (omega arith), busy.5))
-              k.desk),
+            (λ (free : Free mean reply after may opening k.serving k.log s.homes s.views). absurd (no_true (has_turn v.standing) (free.0 id v at) turn))
+            (λ (busy : Busy mean reply after may k.serving k.log s.homes s.views).
+            let same : busy.0 ≡ id = turn_is s k id busy.0 v busy.1 at busy.2 waits t.0 busy.3 in
+            let e : v ≡ busy.1 = at_same s.views id busy.0 v busy.1 at busy.2 (sym same) in
+            let b : bit (has_entered busy.1.standing) ≡ 0 = ap (λ (y : V). bit (has_entered y.standing)) (sym e) ∙ ap bit fresh in
+            let c = busy.4 in
+            inr (id, w, at_here s.views id v w at, refl, (omega arith), busy.5))
+            k.desk),
         (λ y c e c_is.
             let same : note ≡ y = ap (λ (l : List (ℕ × Slot S N)). note_at note l) (sym slot ∙ e) in
             let same_opening : opening ≡ c = some_same opening c (sym known ∙ c_is) in
@@ -392,8 +397,7 @@ module _ {S C E A : Type 0} (N : Type 0) (mean : S → C) (reply : C → E → A
       let n : ℕ = slice_index s.words 1 in
       let is : n ≡ k.serving = ap (λ (ws : List ℕ). slice_index ws 1) k.words in
       let small = tickets_small s k in let r = ok.ticket waits in let r1 = r.1 in let r0 = t.0 in
-      let next : (n + 1) % 18446744073709551616 ≡ k.serving + 1 = mod-eq_of_lt (omega arith) ∙ (omega arith) in
-      (
+      let next : (n + 1) % 18446744073709551616 ≡ k.serving + 1 = mod-eq_of_lt (omega arith) ∙ (omega arith) in (
         w,
         gives,
         tt,
@@ -409,25 +413,27 @@ module _ {S C E A : Type 0} (N : Type 0) (mean : S → C) (reply : C → E → A
               within = f.within;
               all = f.all;
               fronts = f.fronts;
-              room = f.room
+              room = f.room;
             })
             (λ j u other there u_has w_has same. absurd (true≢false (sym w_has)))
             (⊎_elim
-              (λ (free : Free mean reply after may opening k.serving k.log s.homes s.views). absurd (no_true (has_turn v.standing) (free.0 id v at) turn))
-              (λ (busy : Busy mean reply after may k.serving k.log s.homes s.views).
-                let same : busy.0 ≡ id = turn_is s k id busy.0 v busy.1 at busy.2 waits t.0 busy.3 in
-                let e : v ≡ busy.1 = at_same s.views id busy.0 v busy.1 at busy.2 (sym same) in
-                let b : bit (has_entered busy.1.standing) ≡ 1 = ap (λ (y : V). bit (has_entered y.standing)) (sym e) ∙ ap bit made in
-                let d = busy.4 in
-                inl (
-                  (λ i y here. ⊎_elim (λ (z : (i ≡ id) × (w ≡ y)). ap (λ (q : V). has_turn q.standing) (sym z.1))
-                      (λ (z : (i ≢ id) × (get_elem? s.views i ≡ some y)). not_true (has_turn y.standing) (λ yt. z.0 (turn_is s k id i v y at z.1 waits t.0 yt))) (at_set s.views id i w y here)),
-                  (omega arith),
-                  (x,
-                    ap (λ (l : List (ℕ × Slot S N)). put_back s.homes l) slot ∙ ap (λ (hs : Homes). set hs 0 (some (Home x))) busy.5,
-                    means ∙ ap (λ (p : C × L). state_after after p.0 p.1) (λ i. (some_same c opening (sym c_is ∙ known) i, t.1 i))),
-                ))
-              k.desk),
+            (λ (free : Free mean reply after may opening k.serving k.log s.homes s.views). absurd (no_true (has_turn v.standing) (free.0 id v at) turn))
+            (λ (busy : Busy mean reply after may k.serving k.log s.homes s.views).
+            let same : busy.0 ≡ id = turn_is s k id busy.0 v busy.1 at busy.2 waits t.0 busy.3 in
+            let e : v ≡ busy.1 = at_same s.views id busy.0 v busy.1 at busy.2 (sym same) in
+            let b : bit (has_entered busy.1.standing) ≡ 1 = ap (λ (y : V). bit (has_entered y.standing)) (sym e) ∙ ap bit made in
+            let d = busy.4 in
+            inl (
+              (λ i y here. ⊎_elim (λ (z : (i ≡ id) × (w ≡ y)). ap (λ (q : V). has_turn q.standing) (sym z.1))
+                  (λ (z : (i ≢ id) × (get_elem? s.views i ≡ some y)). not_true (has_turn y.standing) (λ yt. z.0 (turn_is s k id i v y at z.1 waits t.0 yt))) (at_set s.views id i w y here)),
+              (omega arith),
+              (
+                x,
+                ap (λ (l : List (ℕ × Slot S N)). put_back s.homes l) slot ∙ ap (λ (hs : Homes). set hs 0 (some (Home x))) busy.5,
+                means ∙ ap (λ (p : C × L). state_after after p.0 p.1) (λ i. (some_same c opening (sym c_is ∙ known) i, t.1 i)),
+              ),
+            ))
+            k.desk),
         refl,
       )
 
@@ -436,8 +442,7 @@ module _ {S C E A : Type 0} (N : Type 0) (mean : S → C) (reply : C → E → A
   settles slots id me c standing c_is s k wide at _ =
       let v : V = me.0 in let ok = k.each id v at in let w : V = idle v in let n : ℕ = slice_index s.words 0 in
       let is : n ≡ k.tickets = ap (λ (ws : List ℕ). slice_index ws 0) k.words in
-      let none : bit (has_ticket v.standing) ≡ 0 = ap (λ t. bit (has_ticket t)) standing in
-      (
+      let none : bit (has_ticket v.standing) ≡ 0 = ap (λ t. bit (has_ticket t)) standing in (
         w,
         keeps,
         tt,

@@ -1,3 +1,4 @@
+pub mod Standings
 pub mod Views
 pub mod Rule
 pub mod Seats

@@ -1,6 +1,6 @@
 -- What holds of a turn between any two atomic steps, and what each step tells. [This project's own.]
 -- The four words are the tickets drawn, the ticket that is served, the number of entries, and the number of callers. The one slot is the state's.
-use Rattle.std.specs.Prelude.{◌≡◌, ◌≢◌, ◌⊎◌, ℕ, true, false, ◌+◌, ◌<◌, ◌≤◌, List, [], ◌∷◌, ◌++◌, length, Some}
+use Rattle.std.specs.Prelude.{◌≡◌, ◌≢◌, ◌⊎◌, ℕ, true, false, ◌+◌, ◌<◌, ◌≤◌, List, [], ◌∷◌, length, Some}
 use Rattle.std.specs.List.{AllByRecursion, sum_by}
 use mathlib.Core.Option.{Option, some, none}
 use lib.ListN.{get_elem?}
@@ -8,9 +8,10 @@ use Rattle.atomic_table.specs.Table.{State, Me, rest}
 use Rattle.histories.specs.declared.history.Move.{Move}
 use Rattle.histories.specs.History.{moves_of, IsLegal, IsOfSeatsBelow, Permits, StartsWith, state_after}
 use Rattle.turn_cell.specs.declared.slot.Slot.{Slot}
-use Rattle.turn_cell.specs.declared.slot.Slot.TheVariants.{Home, Noted, Out}
+use Rattle.turn_cell.specs.declared.slot.Slot.TheVariants.{Home, Noted}
 use Rattle.turn_cell.specs.declared.view.View.{View}
-use Rattle.turn_cell.specs.Views.{bit, has_ticket, has_turn, has_entered, ticket_of, times, least, AreListed, turned, entered, idle, spent}
+use Rattle.turn_cell.specs.Standings.{bit, has_ticket, has_turn, has_entered, ticket_of}
+use Rattle.turn_cell.specs.Views.{times, least, AreListed, turned, entered, idle, spent}
 
 module _ {C E A : Type 0} where
   -- one seat's view fits the words and the history

@@ -9,7 +9,8 @@ use Rattle.turn_cell.specs.declared.turn.Lock.{Lock}
 use Rattle.turn_cell.specs.declared.view.Holding.{Holding}
 use Rattle.turn_cell.specs.declared.view.Standing.TheVariants.{Idle}
 use Rattle.turn_cell.specs.declared.view.View.{View}
-use Rattle.turn_cell.specs.Views.{has_turn, has_entered, times, least, listed}
+use Rattle.turn_cell.specs.Standings.{has_turn, has_entered}
+use Rattle.turn_cell.specs.Views.{times, least, listed}
 
 module _ {P D S Q : Type 0} where
   -- how many callers the turn was made for

@@ -10,11 +10,13 @@
 mod machine;
 mod rule;
 mod slot;
+mod sum;
 #[cfg(test)]
 mod tests;
 mod turn;
 mod view;
 
 pub use machine::Machine;
+pub use sum::Sum;
 pub use turn::{Held, Seat, Turn};
 pub use view::{Holding, Standing, View};

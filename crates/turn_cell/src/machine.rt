@@ -4,10 +4,13 @@ ghost use Rattle.std.specs.Prelude.{◌≡◌, ℕ};
 /// A state that is changed by entries alone, one after another.
 pub trait Machine {
     type Entry;
+
     type Reply;
     /// What contracts see of a state, of an entry and of a reply. No value of these three is made.
     type State;
+
     type Event;
+
     type Answer;
 
     ghost state: { Self → Self.State };

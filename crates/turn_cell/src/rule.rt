@@ -23,8 +23,11 @@ pub struct Orderly<S, R> {
     machine: PhantomData<(S, R)>,
 }
 
-impl<S: Machine> TableRule<Slot<S, Snapshot<S::Entry>>, View<S::State, S::Event, S::Answer>, About<S>>
-    for Orderly<S, S::Reply> {
+impl<S: Machine> TableRule<
+    Slot<S, Snapshot<S::Entry>>,
+    View<S::State, S::Event, S::Answer>,
+    About<S>,
+> for Orderly<S, S::Reply> {
     ghost holds = { λ about. Kept S.state S.reply S.after S.may (S.state about.state.value) about.callers };
 
     ghost first = { λ about. newcomer (S.state about.state.value) about.callers };
@@ -42,7 +45,8 @@ pub struct Look<S> {
     machine: PhantomData<S>,
 }
 
-impl<S: Machine> Play<Slot<S, Snapshot<S::Entry>>, View<S::State, S::Event, S::Answer>> for Look<S> {
+impl<S: Machine> Play<Slot<S, Snapshot<S::Entry>>, View<S::State, S::Event, S::Answer>>
+    for Look<S> {
     ghost then = { λ st m found n. Looks S.state S.reply S.after S.may m found n };
 }
 
@@ -51,7 +55,8 @@ pub struct Make<S> {
     machine: PhantomData<S>,
 }
 
-impl<S: Machine> Play<Slot<S, Snapshot<S::Entry>>, View<S::State, S::Event, S::Answer>> for Make<S> {
+impl<S: Machine> Play<Slot<S, Snapshot<S::Entry>>, View<S::State, S::Event, S::Answer>>
+    for Make<S> {
     ghost then = { λ st m found n. Makes S.reply S.after (λ x. S.event x.value) m n };
 }
 

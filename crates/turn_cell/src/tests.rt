@@ -1,47 +1,14 @@
 //! A sum that callers add to in turn.
-ghost use Rattle.std.specs.Prelude.{◌≡◌, ◌≢◌, ℕ, ◌+◌, ◌%◌, ◌^◌, ◌<◌, ◌≤◌, length};
+ghost use Rattle.std.specs.Prelude.{◌≡◌, ◌≢◌, ℕ, ◌+◌, ◌^◌, ◌<◌, ◌≤◌, length};
 ghost use Rattle.turn_cell.specs.Views.{times};
 ghost use Rattle.turn_cell.specs.Seats.{callers_of, holdings_of, number_of, own_moves, IsIdle, IsSeatOf};
 
-use crate::{Machine, Seat, Turn};
+use crate::{Held, Machine, Seat, Sum, Turn};
+use std::mem::size_of;
 use std::sync::Wait;
 use std::test::Fail;
 use std::thread;
 use std::thread::Threads;
-
-/// A sum modulo 2^64. It replies with what it was before.
-#[derive(Drop)]
-struct Sum {
-    total: u64,
-}
-
-impl Machine for Sum {
-    type Entry = u64;
-    type Reply = u64;
-    type State = u64;
-    type Event = u64;
-    type Answer = u64;
-
-    ghost state = { λ sum. sum.total };
-
-    ghost event = { λ amount. amount };
-
-    ghost answer = { λ before. before };
-
-    ghost reply = { λ total amount. total };
-
-    ghost after = { λ total amount. (total + amount) % 2 ^ 64 };
-
-    ghost fits = { λ total amount. Unit {0} };
-
-    ghost may = { λ number amount. Unit {0} };
-
-    fn act(&mut self, entry: u64) -> u64 {
-        let before = self.total;
-        self.total = self.total.wrapping_add(entry);
-        before
-    }
-}
 
 // One turn.
 fn take_turn<S: Machine + Drop, R: Wait>(
@@ -69,13 +36,7 @@ fn take_turn<S: Machine + Drop, R: Wait>(
 }
 
 // So many turns.
-fn add<R: Wait>(
-    rt: &R,
-    turn: &Turn<Sum>,
-    mut seat: Seat<Sum>,
-    amount: u64,
-    turns: u32,
-) -> Seat<Sum>
+fn add<R: Wait>(rt: &R, turn: &Turn<Sum>, mut seat: Seat<Sum>, amount: u64, turns: u32) -> Seat<Sum>
     requires seat { IsSeatOf (λ sum. sum.total) turn.now seat }
     requires idle { IsIdle seat }
     requires number { 1 ≤ length (holdings_of seat) }
@@ -99,7 +60,11 @@ fn share<S: Machine + Drop + Send, R: Threads + Sync>(
     one: &mut Seat<S>,
     two: &mut Seat<S>,
 ) {
-    thread::join_mut(rt, &mut || is_shared(turn, one), &mut || is_shared(turn, two));
+    thread::join_mut(
+        rt,
+        &mut || is_shared(turn, one),
+        &mut || is_shared(turn, two),
+    );
 }
 
 // Joins two seats that hold all numbers, and closes.
@@ -179,4 +144,10 @@ fn three_callers_split_join_and_carry_notes(rt: HostRuntime) -> Result<(), Fail>
     turn.join(&mut two, note);
     assert_eq!(rt; total(turn, one, two), 327);
     Ok(())
+}
+
+#[test]
+fn nothing_of_the_history_is_stored(rt: HostRuntime) {
+    assert_eq!(rt; size_of::<Seat<Sum>>(), 0);
+    assert_eq!(rt; size_of::<Held<Sum>>(), size_of::<Sum>());
 }

@@ -1,4 +1,5 @@
-//! The lock, its seats, and the calls that wait for nobody but `enter`.
+//! The lock, its seats and the state in hand. Tickets are drawn, and served in their order (Reed and Kanodia,
+//! Synchronization with Eventcounts and Sequencers, 1979).
 ghost use Rattle.std.specs.Prelude.{◌≡◌, ◌⊎◌, ◌^◌, ◌<◌, ◌≤◌, [], ◌∷◌, ◌++◌, length, IfOk};
 ghost use Rattle.histories.specs.History.{move, moves_of, IsLegal, IsOfSeatsBelow, Permits, StartsWith, state_after};
 ghost use Rattle.turn_cell.specs.Views.{AreListed, handed, holdings_below, kept, with_move};
@@ -58,7 +59,7 @@ impl<S> Model for Held<S> {
 }
 
 impl<S: Machine + Drop> Turn<S> {
-    ghost use Rattle.turn_cell.specs.Seats.{callers_of, first_state, holdings_of, seen_by, HoldsAllBelow, IsIdle, IsSeatOf};
+    ghost use Rattle.turn_cell.specs.Seats.{callers_of, first_state, holdings_of, number_of, own_moves, seen_by, HoldsAllBelow, IsIdle, IsSeatOf};
 
     /// A turn for so many callers, and the seat that holds the numbers below `callers`. The state is let go where
     /// memory is wanting.
@@ -93,6 +94,10 @@ impl<S: Machine + Drop> Turn<S> {
         ensures idle { IsIdle seat.new × IsIdle result }
         ensures kept { holdings_of seat.new ≡ kept (holdings_of seat.old) }
         ensures handed { holdings_of result ≡ handed (holdings_of seat.old) }
+        ensures number { number_of seat.new ≡ number_of seat.old }
+        ensures own { own_moves seat.new ≡ own_moves seat.old }
+        ensures not_empty { 1 ≤ length (holdings_of seat.old) → 1 ≤ length (holdings_of seat.new) }
+        ensures alone { length (holdings_of seat.old) ≤ 1 → (holdings_of seat.new ≡ holdings_of seat.old) × (holdings_of result ≡ []) }
         ensures seen { (seen_by seat.new ≡ seen_by seat.old) × (seen_by result ≡ seen_by seat.old) }
     {
         self.table.shared.split_seat::<Share>(seat)
@@ -141,7 +146,7 @@ impl<S: Machine + Drop> Turn<S> {
 
 impl<S: Machine + Drop> Turn<S> {
     ghost use Rattle.std.specs.Prelude.{true, false};
-    ghost use Rattle.turn_cell.specs.Views.{has_entered, has_ticket, has_turn, ticket_of};
+    ghost use Rattle.turn_cell.specs.Standings.{has_entered, has_ticket, has_turn, ticket_of};
     ghost use Rattle.turn_cell.specs.Rule.{Seizes};
     ghost use Rattle.turn_cell.specs.Seats.{first_state, holdings_of, number_of, own_moves, seen_by, HasEntered, HasTurn, IsIdle, IsSeatOf};
 

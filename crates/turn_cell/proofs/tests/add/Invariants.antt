@@ -1,5 +1,5 @@
 use Rattle.std.proofs.Common.{◌≡◌, ℕ, ◌+◌, ◌≤◌, length}
-use Rattle.turn_cell.specs.declared.tests.Sum.{Sum}
+use Rattle.turn_cell.specs.declared.sum.Sum.{Sum}
 use Rattle.turn_cell.specs.Views.{times}
 use Rattle.turn_cell.specs.Seats.{holdings_of, own_moves, IsIdle, IsSeatOf}
 use Rattle.turn_cell.proofs.tests.add.Given as goal
@@ -10,5 +10,5 @@ invariant-loop-turn g l = record {
   idle : IsIdle l.seat;
   number : 1 ≤ length (holdings_of l.seat);
   own : length (own_moves l.seat) ≡ length (own_moves l.fn.seat) + l._turn;
-  numbers : (n : ℕ) → times n (holdings_of l.seat) ≡ times n (holdings_of l.fn.seat)
+  numbers : (n : ℕ) → times n (holdings_of l.seat) ≡ times n (holdings_of l.fn.seat);
 }

@@ -1,21 +1,24 @@
-use Rattle.std.proofs.Common.{rules, ◌≡◌, sym, ap, subst, ◌∙◌, ◌<◌, List, ◌∷◌, arith}
+use Rattle.std.proofs.Common.{rules, ◌≡◌, sym, ap, subst, ◌∙◌, List, ◌∷◌, arith}
 use Rattle.atomic_table.specs.Table.{rest}
 use Rattle.histories.specs.declared.history.Move.{Move}
 use Rattle.histories.specs.History.{move}
 use Rattle.turn_cell.specs.declared.slot.Slot.TheVariants.{Noted}
 use Rattle.turn_cell.specs.declared.view.Holding.{Holding}
-use Rattle.turn_cell.specs.Views.{has_entered, has_turn, least, with_move}
+use Rattle.turn_cell.specs.Standings.{has_entered, has_turn}
+use Rattle.turn_cell.specs.Views.{least, with_move}
 use Rattle.turn_cell.proofs.Holdings.{least-with_move, own-with_move}
 use Rattle.turn_cell.proofs.Steps.{makes, state_after-move}
 use Rattle.turn_cell.proofs.turn.Turn+S.append.Goals as goal
 
 pub fetch_add-requires : goal.fetch_add-requires
 fetch_add-requires g c =
-    let sized = c.args.self.now.sized.0 in let e = c.exchange.ensures.3 in let v = ap (λ m. m.0) e in let note = c.of-note.result in
-    (search rules, (omega arith),
+    let sized = c.args.self.now.sized.0 in let e = c.exchange.ensures.3 in let v = ap (λ m. m.0) e in let note = c.of-note.result in (
+      search rules,
+      (omega arith),
       makes _ _ _ _ _ _ _ (λ x. g.S.Machine.event x.value) _ _ _ note (ap (λ w. has_turn w.standing) v ∙ c.requires.turn.0) (ap (λ w. has_entered w.standing) v ∙ c.requires.turn.1)
-        (ap (λ m. m.1) e ∙ ap (λ l. (0, Noted note) ∷ rest l) c.requires.turn.2)
-        (subst (λ (p : List (Holding _ _) × _). g.S.Machine.may (least p.0) (g.S.Machine.event p.1)) (λ i. (sym (ap (λ w. w.holdings) v) i, sym c.of-note.ensures i)) c.requires.may))
+          (ap (λ m. m.1) e ∙ ap (λ l. (0, Noted note) ∷ rest l) c.requires.turn.2)
+          (subst (λ (p : List (Holding _ _) × _). g.S.Machine.may (least p.0) (g.S.Machine.event p.1)) (λ i. (sym (ap (λ w. w.holdings) v) i, sym c.of-note.ensures i)) c.requires.may),
+    )
 
 pub returns-clause-entered : goal.returns-clause-entered
 returns-clause-entered g c =
@@ -28,7 +31,7 @@ pub returns-clause-state : goal.returns-clause-state
 returns-clause-state g c =
     let v = c.args.seat.now.me.0 in let event = g.S.Machine.event c.args.entry in
     state_after-move g.S.Machine.after (g.S.Machine.state c.args.self.now.table.shared.key.state.value) _ v.seen c.fetch_add.new.seat.me.0.seen (move (least v.holdings) event (g.S.Machine.answer c.act-reply.result)) (search rules)
-      (c.act-reply.ensures.after ∙ ap (λ d. g.S.Machine.after d event) (ap g.S.Machine.state c.held.view_is ∙ c.requires.state))
+    (c.act-reply.ensures.after ∙ ap (λ d. g.S.Machine.after d event) (ap g.S.Machine.state c.held.view_is ∙ c.requires.state))
 
 pub returns-clause-number : goal.returns-clause-number
 returns-clause-number g c =

@@ -1,4 +1,4 @@
-use Rattle.std.proofs.Common.{rules, sym, ◌<◌, ◌∷◌, ap, ◌∙◌, arith}
+use Rattle.std.proofs.Common.{rules, sym, ◌∷◌, ap, ◌∙◌, arith}
 use Rattle.atomic_table.specs.Table.{rest}
 use Rattle.turn_cell.specs.declared.slot.Slot.TheVariants.{Home}
 use Rattle.turn_cell.proofs.Steps.{draws}

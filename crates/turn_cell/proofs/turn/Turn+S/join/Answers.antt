@@ -1,4 +1,4 @@
-use Rattle.std.proofs.Common.{◌<◌, ap, ◌∙◌, arith}
+use Rattle.std.proofs.Common.{ap, ◌∙◌, arith}
 use Rattle.turn_cell.proofs.Shares.{joins}
 use Rattle.turn_cell.proofs.Steps.{settles}
 use Rattle.turn_cell.proofs.turn.Turn+S.join.Goals as goal

@@ -1,5 +1,5 @@
-use Rattle.std.proofs.Common.{sym, ap, subst, ◌∙◌, ◌<◌, arith}
-use Rattle.turn_cell.specs.Views.{has_ticket, has_turn, ticket_of}
+use Rattle.std.proofs.Common.{sym, ap, subst, ◌∙◌, arith}
+use Rattle.turn_cell.specs.Standings.{has_ticket, has_turn, ticket_of}
 use Rattle.turn_cell.specs.Rule.{Seizes}
 use Rattle.turn_cell.proofs.Steps.{looks}
 use Rattle.turn_cell.proofs.turn.Turn+S.wait_turn.Goals as goal
@@ -16,4 +16,4 @@ pub returns-then-load-ticket-clause-turn : goal.returns-then-load-ticket-clause-
 returns-then-load-ticket-clause-turn g c =
     let m = c.loop.invariant.1 in
     subst (λ y. Seizes g.S.Machine.state g.S.Machine.reply g.S.Machine.after g.S.Machine.may y c.load.new.seat.me) m
-      (c.load.ensures.2.0 (c.if-load-ticket.true ∙ sym c.requires.ticket ∙ sym (ap (λ y. ticket_of y.0.standing) m)))
+    (c.load.ensures.2.0 (c.if-load-ticket.true ∙ sym c.requires.ticket ∙ sym (ap (λ y. ticket_of y.0.standing) m)))

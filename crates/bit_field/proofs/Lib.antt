@@ -1,0 +1,4 @@
+pub mod BitFacts
+pub mod LittleFacts
+pub mod EncodingFacts
+pub mod SumFacts

@@ -1,0 +1,9 @@
+-- Sorts whose values have a number. [This profile.]
+use Rattle.std.specs.Prelude.{Bool, true, false}
+use Rattle.mib_model.specs.declared.shape.Sort.{Sort}
+use Rattle.mib_model.specs.declared.shape.Sort.TheVariants.{Unsigned, Signed}
+
+abbrev pub has_number : Sort → Bool
+has_number Unsigned = true
+has_number Signed = true
+has_number other = false

@@ -1,0 +1,94 @@
+// Numbers of fields.
+ghost use Rattle.std.specs.Prelude.{◌≡◌, ◌<◌, ◌≤◌, ◌+◌, ◌*◌, ◌^◌, ◌-ℤ◌, pos, length, Some, None, if◌then◌else◌};
+ghost use Rattle.mib_model.specs.Bits as Spec;
+ghost use Rattle.mib_model.specs.Bits.{bits, signed_number};
+
+use byteorder::{BigEndian, ByteOrder};
+
+/// Whether so many bits from a place on are in the octets.
+pub fn is_inside(octets: &[u8], at: u64, width: u16) -> bool
+    ensures { result ≡ Spec.is_inside octets.now at width }
+{
+    u128::from(at) + u128::from(width) <= 8 * octets.len() as u128
+}
+
+// The number of 1 to 64 bits behind the first bits of an octet, 7 at most.
+pub fn number_behind(octets: &[u8], skip: u8, width: u8) -> u64
+    requires skip { skip < 8 }
+    requires some { 0 < width }
+    requires width { width ≤ 64 }
+    requires inside { skip + width ≤ 8 * length octets.now }
+    ensures value { result ≡ bits octets.now skip width }
+    ensures within { result < 2 ^ width }
+{
+    let bits = skip + width;
+    let count = bits.div_ceil(8);
+    let whole = BigEndian::read_uint128(octets, usize::from(count));
+    ((whole >> (8 * count - bits)) % (1 << width)) as u64
+}
+
+// The number of at most 64 bits at a place in the octets.
+pub fn number_at(octets: &[u8], at: u64, width: u8) -> u64
+    requires width { width ≤ 64 }
+    requires inside { at + width ≤ 8 * length octets.now }
+    ensures value { result ≡ bits octets.now at width }
+    ensures within { result < 2 ^ width }
+{
+    if width == 0 {
+        return 0;
+    }
+    number_behind(&octets[(at / 8) as usize..], (at % 8) as u8, width)
+}
+
+/// The number in so many bits from a place on, 64 at most, the most significant first (CCSDS 133.0-B and
+/// ECSS-E-70-41A, the numbering of bits). There is none exactly where the bits pass the end.
+pub fn unsigned(octets: &[u8], at: u64, width: u8) -> Option<u64>
+    requires { width ≤ 64 }
+    ensures { result ≡ (if Spec.is_inside octets.now at width then Some (bits octets.now at width) else None) }
+{
+    if is_inside(octets, at, u16::from(width)) {
+        Some(number_at(octets, at, width))
+    } else {
+        None
+    }
+}
+
+// A number less twice the half of its range.
+fn below_zero(number: u64, half: u64) -> i64
+    requires half { half ≤ 2 ^ 63 }
+    requires low { half ≤ number }
+    requires high { number < 2 * half }
+    ensures { result ≡ pos number -ℤ pos (2 * half) }
+{
+    (i128::from(number) - 2 * i128::from(half)) as i64
+}
+
+// The two's complement of a number of 1 to 64 bits.
+#[tactic(auto, using(crate::proofs::BitFacts::halves))]
+pub fn complement(number: u64, width: u8) -> i64
+    requires some { 0 < width }
+    requires width { width ≤ 64 }
+    requires number { number < 2 ^ width }
+    ensures { result ≡ signed_number width number }
+{
+    let half = 1_u64 << (width - 1);
+    if number < half {
+        number as i64
+    } else {
+        below_zero(number, half)
+    }
+}
+
+/// The two's complement of so many bits from a place on, 1 to 64, the most significant first. There is none exactly
+/// where the bits pass the end.
+pub fn signed(octets: &[u8], at: u64, width: u8) -> Option<i64>
+    requires some { 0 < width }
+    requires width { width ≤ 64 }
+    ensures { result ≡ (if Spec.is_inside octets.now at width then Some (signed_number width (bits octets.now at width)) else None) }
+{
+    if is_inside(octets, at, u16::from(width)) {
+        Some(complement(number_at(octets, at, width), width))
+    } else {
+        None
+    }
+}

@@ -1,0 +1,24 @@
+//! Numbers at any bit of a packet, and the values of parameters.
+//!
+//! `unsigned` reads the octets that hold a field, nine at most, into one number of 128 bits by one call of
+//! `byteorder`, and takes the field out of it by one shift and one remainder. So a field of any width at any bit, an
+//! aligned one of 8, 16, 32 or 64 bits too, takes a constant number of steps, and none goes over bits. A field of the
+//! order `Little` is put together from its octets, eight at most. It rests on `mib_model` for definitions and types,
+//! which it passes on, and on `byteorder`, and takes no memory.
+#![tactic(auto)]
+
+mod encoding;
+mod field;
+mod laws;
+mod value;
+mod values;
+
+pub use encoding::shape_of;
+pub use field::{signed, unsigned};
+pub use laws::bits_are_a_sum;
+pub use mib_model::{Ended, Endian, Order, Shape, Sort, Value};
+pub use value::take;
+pub use values::{MOST_VALUES, Values};
+
+#[cfg(test)]
+mod tests;

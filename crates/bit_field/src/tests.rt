@@ -1,0 +1,132 @@
+use crate::{Endian, MOST_VALUES, Order, Sort, Value, Values, shape_of, signed, take, unsigned};
+use mib_model::Name;
+use std::process::Abort;
+use std::test::Fail;
+
+// 24 octets that were drawn at random.
+const PACKET: [u8; 24] = [
+    165, 77, 202, 24, 37, 48, 187, 29, 109, 19, 44, 222, 214, 35, 123, 46, 217, 30, 63, 114, 31,
+    203, 25, 113,
+];
+
+// The number in so many bits from a place on, one bit after another.
+fn one_by_one(octets: &[u8], at: u16, width: u8) -> Option<u64> {
+    if usize::from(at).div_ceil(8) > octets.len() {
+        return None;
+    }
+    let mut value = 0;
+    for i in 0..width {
+        let place = usize::from(at) + usize::from(i);
+        let octet = *octets.get(place / 8)?;
+        value = value << 1 | u64::from(octet >> (7 - place % 8) & 1);
+    }
+    Some(value)
+}
+
+#[test]
+fn every_field_is_what_its_bits_are_one_by_one(rt: HostRuntime) {
+    for at in 0..200 {
+        for width in 0..65 {
+            assert_eq!(rt;
+                unsigned(&PACKET, u64::from(at), width),
+                one_by_one(&PACKET, at, width)
+            );
+        }
+    }
+}
+
+#[test]
+fn fields_have_the_numbers_of_an_outside_program(rt: HostRuntime) {
+    assert_eq!(rt; unsigned(&PACKET, 0, 8), Some(165));
+    assert_eq!(rt; unsigned(&PACKET, 5, 64), Some(12_229_879_950_346_773_421));
+    assert_eq!(rt; unsigned(&PACKET, 7, 64), Some(12_026_031_653_967_990_454));
+    assert_eq!(rt; unsigned(&PACKET, 121, 64), Some(6_751_525_307_074_713_138));
+    assert_eq!(rt;
+        unsigned(&PACKET, 128, 64),
+        Some(15_645_011_914_923_907_441)
+    );
+    assert_eq!(rt; unsigned(&PACKET, 129, 64), None);
+    assert_eq!(rt; unsigned(&PACKET, 192, 0), Some(0));
+    assert_eq!(rt; unsigned(&PACKET, 193, 0), None);
+    assert_eq!(rt; unsigned(&PACKET, u64::MAX, 64), None);
+}
+
+#[test]
+fn signed_fields_reach_both_ends(rt: HostRuntime) {
+    let ends = [
+        0x80, 0, 0, 0, 0, 0, 0, 0, 0x7f, 0xff, 0xff, 0xff, 0xff, 0xff, 0xff, 0xff,
+    ];
+    assert_eq!(rt; signed(&ends, 0, 64), Some(i64::MIN));
+    assert_eq!(rt; signed(&ends, 64, 64), Some(i64::MAX));
+    assert_eq!(rt; signed(&ends, 65, 63), Some(-1));
+    assert_eq!(rt; signed(&ends, 0, 1), Some(-1));
+    assert_eq!(rt; signed(&ends, 1, 1), Some(0));
+    assert_eq!(rt; signed(&ends, 0, 8), Some(-128));
+    assert_eq!(rt; signed(&ends, 64, 8), Some(127));
+    assert_eq!(rt; signed(&ends, 65, 64), None);
+}
+
+fn takes(rt: &impl Abort, ptc: u8, pfc: u16, endian: Endian, at: u64, raw: Option<i128>) {
+    let shape = shape_of(ptc, pfc, endian).expect(rt, "a shape");
+    let name = Name::new(b"P1").expect(rt, "a name");
+    assert!(rt; shape.sort() != Sort::Deduced);
+    assert_eq!(rt; take(&PACKET, at, name, shape).map(|value| value.raw), raw);
+}
+
+#[test]
+fn values_are_taken_by_the_order_of_their_shape(rt: HostRuntime) {
+    takes(&rt, 3, 4, Endian::L, 8, Some(77));
+    takes(&rt, 3, 12, Endian::B, 8, Some(19_914));
+    takes(&rt, 3, 12, Endian::L, 8, Some(51_789));
+    takes(&rt, 3, 13, Endian::L, 0, Some(13_258_149));
+    takes(&rt, 3, 14, Endian::L, 0, Some(415_911_333));
+    takes(&rt, 4, 14, Endian::L, 4, Some(-2_103_321_516));
+    takes(&rt, 6, 40, Endian::L, 0, Some(159_329_701_285));
+    takes(&rt, 3, 15, Endian::L, 0, Some(52_935_887_834_533));
+    takes(&rt, 6, 56, Endian::L, 0, Some(52_688_756_532_727_205));
+    takes(&rt, 3, 16, Endian::L, 0, Some(2_142_358_983_632_637_349));
+    takes(&rt, 4, 16, Endian::B, 0, Some(-6_535_345_279_192_745_187));
+    takes(&rt, 3, 12, Endian::B, 177, None);
+    takes(&rt, 8, 24, Endian::B, 0, Some(0));
+    takes(&rt, 8, 25, Endian::B, 0, None);
+}
+
+#[test]
+fn shapes_are_those_of_the_table_of_types(rt: HostRuntime) {
+    let time = shape_of(9, 18, Endian::L).expect(&rt, "a time");
+    assert_eq!(rt; time.sort(), Sort::Cuc { coarse: 4, fine: 3 });
+    assert_eq!(rt; time.width(), 56);
+    assert_eq!(rt; time.order(), Order::Big);
+    assert!(rt; shape_of(3, 3, Endian::L).is_none());
+    assert!(rt; shape_of(3, 17, Endian::B).is_none());
+    assert!(rt; shape_of(12, 0, Endian::B).is_none());
+}
+
+fn slots_of_a_list() -> usize {
+    8192
+}
+
+fn a_value(rt: &impl Abort) -> Value {
+    let shape = shape_of(3, 4, Endian::B).expect(rt, "a shape");
+    let name = Name::new(b"P1").expect(rt, "a name");
+    assert!(rt; shape.sort() != Sort::Deduced);
+    take(&PACKET, 0, name, shape).expect(rt, "a value")
+}
+
+fn pushes(rt: &impl Abort, slots: &mut [Value]) {
+    assert!(rt; slots.len() == 8192);
+    let mut values = Values {
+        slots,
+        used: MOST_VALUES - 1,
+    };
+    assert!(rt; values.push(a_value(rt)));
+    assert!(rt; !values.push(a_value(rt)));
+    assert_eq!(rt; values.used, MOST_VALUES);
+}
+
+#[test]
+fn a_full_list_takes_no_value(rt: HostRuntime) -> Result<(), Fail> {
+    let mut slots = Vec::from_elem(rt.alloc(), a_value(&rt), slots_of_a_list())?;
+    pushes(&rt, slots.as_mut_slice());
+    Ok(())
+}

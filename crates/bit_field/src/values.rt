@@ -1,0 +1,36 @@
+use mib_model::Value;
+
+/// The most values of a packet.
+pub const MOST_VALUES: u32 = 8192;
+
+/// The values of a packet: the front of some slots, of which so many are in use.
+#[derive(Drop)]
+pub struct Values<'a> {
+    pub slots: &'a mut [Value],
+    pub used: u32,
+}
+
+impl Values<'_> {
+    ghost use Rattle.std.specs.Prelude.{◌≡◌, ◌≤◌, ◌+◌, ◌++◌, ◌∷◌, [], length, nat_lt, if◌then◌else◌};
+    ghost use Rattle.mib_model.specs.Fixed.{most_values};
+    ghost use Rattle.bit_field.specs.Taken.{taken};
+
+    /// Appends a value, and says whether there was room for it: there is none exactly where 8,192 stand. Without
+    /// room all stays as it was.
+    pub fn push(&mut self, v: Value) -> bool
+        requires slots { length self.old.slots.now ≡ most_values }
+        requires used { self.old.used ≤ most_values }
+        ensures room { result ≡ nat_lt self.old.used most_values }
+        ensures taken { taken self.new ≡ (if result then taken self.old ++ v ∷ [] else taken self.old) }
+        ensures used { self.new.used ≡ (if result then self.old.used + 1 else self.old.used) }
+        ensures slots { length self.new.slots.now ≡ most_values }
+        ensures borrow { self.new.slots.ghost_name ≡ self.old.slots.ghost_name }
+    {
+        if self.used == MOST_VALUES {
+            return false;
+        }
+        self.slots[self.used as usize] = v;
+        self.used += 1;
+        true
+    }
+}

@@ -1,0 +1,42 @@
+-- Examples of relations, derived.
+use Rattle.std.proofs.Common.{ℕ, zero, suc, ◌<◌, List, [], ◌∷◌, ◌++◌, length, codes, Some, None, refl, inl, false, length-take, arith}
+use Rattle.std.specs.List.{All}
+use Rattle.mib_model.specs.declared.register.Answer.TheVariants as answer
+use Rattle.mib_model.specs.declared.register.Entry.TheVariants as entry
+use Rattle.mib_model.specs.declared.reply.Reply.TheVariants as reply
+use Rattle.mib_model.specs.Database.{no_rows}
+use Rattle.mib_model.specs.Desk.{Plain, desk_start, turn_of}
+use Rattle.mib_model.specs.DeskLines.{request_of}
+use Rattle.mib_model.specs.DeskRuns.{IsDesk}
+use Rattle.mib_model.specs.Packets.{IsPacket, IsCut, BeginsNoPacket}
+use Rattle.mib_examples.specs.Given.{packet_a}
+use Rattle.mib_examples.specs.PacketExamples.{begun}
+
+-- fewer than seven octets begin no packet
+short-rest : (rest : List ℕ) → length rest < 7 → BeginsNoPacket rest
+short-rest rest short n le packet = omega (arith, short, packet, length-take n rest)
+
+one : All IsPacket (packet_a ∷ [])
+one zero d lt = refl
+one (suc k) d lt = absurd (omega (arith, lt))
+
+pub cut : IsCut (packet_a ++ begun) (packet_a ∷ []) begun
+cut = record { whole = refl; each = one; begins_none = short-rest begun (omega arith) }
+
+pub desk :
+    IsDesk false (desk_start no_rows) (codes "use 9" ∷ codes "# and then" ∷ codes "go" ∷ [])
+    ((entry.Use 9, answer.NoEdition 1) ∷ []) (Plain (reply.NoEdition 1) ∷ Plain reply.Go ∷ []) (desk_start no_rows)
+unfolding turn_of request_of
+desk = (
+  record { first = (entry.Use 9, answer.NoEdition 1) ∷ []; more = []; reply = Some (Plain (reply.NoEdition 1)); rest = Plain reply.Go ∷ []; state = desk_start no_rows; in_calls = refl; in_replies = refl },
+  inl (refl, (refl, refl, refl)),
+  (
+    record { first = []; more = []; reply = None; rest = Plain reply.Go ∷ []; state = desk_start no_rows; in_calls = refl; in_replies = refl },
+    inl (refl, refl, refl),
+    (
+      record { first = []; more = []; reply = Some (Plain reply.Go); rest = []; state = desk_start no_rows; in_calls = refl; in_replies = refl },
+      inl (refl, refl, refl),
+      (refl, refl, refl),
+    ),
+  ),
+)

@@ -1,0 +1,6 @@
+pub mod KindFacts
+pub mod ShelfFacts
+pub mod PlaceFacts
+pub mod SharedFacts
+pub mod ListedFacts
+pub mod ReadFacts

@@ -1,0 +1,4 @@
+pub mod DecimalFacts
+pub mod FitFacts
+pub mod RowFitFacts
+pub mod SameFacts
