@@ -24,18 +24,24 @@ mod words;
 
 use crate::code_text::add_code;
 use crate::tool::tool;
-use mib_model::{Code, Line};
+use mib_model::{Code, Line, Misuse};
 use std::env;
+use std::io::ErrorKind;
 use std::process::ExitCode;
 use tm_io::{FileShelf, NoGate, StdSink, write_all};
 
-// The words behind the program's name; None where memory runs out.
-fn arguments(rt: HostRuntime) -> Option<Vec<String>> {
+// The words behind the program's name. Where one isn't UTF-8 none is known, so the command isn't either.
+fn arguments(rt: HostRuntime) -> Result<Vec<String>, Code> {
+    let all = match env::args(&rt) {
+        Ok(all) => all,
+        Err(error) if error.kind() == ErrorKind::OutOfMemory => return Err(Code::Want),
+        Err(_) => return Err(Code::Usage(Misuse::Command)),
+    };
     let mut words = Vec::new(rt.alloc());
-    for word in env::args(&rt).ok()?.skip(1) {
-        words.push(word).ok()?;
+    for word in all.skip(1) {
+        words.push(word).map_err(|_| Code::Want)?;
     }
-    Some(words)
+    Ok(words)
 }
 
 // Tells on standard error how the call ended, unless all is well.
@@ -52,7 +58,7 @@ fn tell(rt: HostRuntime, code: &Code) {
 
 fn main(rt: HostRuntime) -> ExitCode {
     let code = match arguments(rt) {
-        Some(words) => {
+        Ok(words) => {
             tool(
                 &rt,
                 rt.alloc(),
@@ -66,7 +72,7 @@ fn main(rt: HostRuntime) -> ExitCode {
             )
             .code
         }
-        None => Code::Want,
+        Err(code) => code,
     };
     tell(rt, &code);
     ExitCode::from(code.number())
