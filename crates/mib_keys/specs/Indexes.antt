@@ -1,0 +1,22 @@
+-- What a map from keys says of rows: the first place of each key. [This profile.]
+use Rattle.std.specs.Prelude.{ℕ, Bool, false, List, length, Option, Some, None, position, if◌then◌else◌}
+use Rattle.std.specs.List.{filter}
+use Rattle.std.specs.Ordering.{is_eq}
+use Rattle.std.specs.declared.cmp.Ordering.{Ordering}
+use Rattle.mib_model.specs.declared.rows.Row.{Row}
+
+-- whether a row's key is this key
+abbrev pub has_by : {K : Type 0} → (K → K → Ordering) → K → Option K → Bool
+has_by cmp q None = false
+has_by cmp q (Some k) = is_eq (cmp k q)
+
+abbrev pub some_if : Bool → ℕ → Option ℕ
+some_if holds place = if holds then Some place else None
+
+-- the first place, from 0, of a row with this key
+abbrev pub first_place : {K : Type 0} → (K → K → Ordering) → (Row → Option K) → List Row → K → Option ℕ
+first_place cmp key rows q = position (λ row. has_by cmp q (key row)) rows
+
+-- how many rows have this key
+abbrev pub count_with : {K : Type 0} → (K → K → Ordering) → (Row → Option K) → List Row → K → ℕ
+count_with cmp key rows q = length (filter (λ row. has_by cmp q (key row)) rows)

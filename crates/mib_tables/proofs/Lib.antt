@@ -1,0 +1,3 @@
+pub mod KindFacts
+pub mod ShelfFacts
+pub mod SharedFacts
