@@ -1,1 +1,3 @@
 pub mod PlaceFacts
+pub mod KeyFacts
+pub mod TableFacts
