@@ -1,3 +1,0 @@
-pub mod KindFacts
-pub mod ShelfFacts
-pub mod SharedFacts
