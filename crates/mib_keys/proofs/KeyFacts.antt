@@ -68,7 +68,7 @@ same-by_order (key.Ocf x) (key.Ocf y) = name-eq x y
 same-by_order (key.Ocp x s) (key.Ocp y t) = name-number-eq x y s t
 same-by_order x y = refl
 
-false-true : {A : Type 0} → false ≡ true → A
+pub false-true : {A : Type 0} → false ≡ true → A
 false-true h = absurd (subst (λ b. cond b ⊥ (Unit {0})) h tt)
 
 -- keys that are the same are of one table

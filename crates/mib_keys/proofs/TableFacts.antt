@@ -1,6 +1,5 @@
 -- The first place of a key, over the tables one behind the other: only the key's own table has it.
 use Rattle.std.proofs.Common.{◌≡◌, ◌≢◌, ℕ, ◌+◌, ◌<◌, Bool, true, false, cond, ◌||◌, List, [], ◌∷◌, ◌++◌, map, take, length, get_or, Option, Some, None, option_map, refl, sym, ap, ◌∙◌, subst, nat_eq, arith}
-use Rattle.std.proofs.lemmas.Bool.{eqb-true, eqb-false}
 use Rattle.std.proofs.lemmas.List.{take_more}
 use Rattle.std.specs.List.{position, list_any, AllByRecursion}
 use Rattle.mib_model.specs.declared.database.Database.{Database}
@@ -9,15 +8,15 @@ use Rattle.mib_model.specs.declared.kind.Kind.{Kind}
 use Rattle.mib_model.specs.declared.kind.Kind.TheVariants as kind
 use Rattle.mib_model.specs.declared.rows.Row.{Row}
 use Rattle.mib_model.specs.declared.rows.Row.TheVariants as row
-use Rattle.mib_model.specs.Drafts.{rows_of}
+use Rattle.mib_model.specs.Drafts.{rows_of, same_kind}
 use Rattle.mib_model.specs.Keys.{key_in, same_key, has_key}
 use Rattle.mib_model.specs.Kinds.{kinds}
 use Rattle.mib_model.specs.Match.{first_of_two}
 use Rattle.mib_model.specs.RowTexts.{kind_in}
-use Rattle.mib_tables.specs.Kinds.{kind_of_key, kind_place}
-use Rattle.mib_tables.proofs.KindFacts.{same_by_place, kind_of_its_key}
+use Rattle.mib_tables.specs.Kinds.{kind_of_key}
+use Rattle.mib_tables.proofs.KindFacts.{same_by_name, same_kind_itself, kind_of_its_key}
 use Rattle.mib_keys.specs.Indexes.{first_place}
-use Rattle.mib_keys.proofs.KeyFacts.{key_cmp, same-by_order, one-table}
+use Rattle.mib_keys.proofs.KeyFacts.{key_cmp, same-by_order, one-table, false-true}
 use Rattle.mib_keys.proofs.PlaceFacts.{position-cons, first-assoc}
 
 pub position-agree : {X : Type 0} (p q : X → Bool) → ((x : X) → p x ≡ q x) → (xs : List X) → position p xs ≡ position q xs
@@ -75,7 +74,7 @@ noted-push f [] k = last (f k) where
 noted-push f (j ∷ ks) k = ap (first_of_two (f j)) (noted-push f ks k) ∙ sym (first-assoc (f j) (noted_over f ks) (f k))
 
 abbrev is_table : Kind → Kind → Bool
-is_table t k = nat_eq (kind_place k) (kind_place t)
+is_table t k = same_kind k t
 
 module _ (f : Kind → Option ℕ) (t : Kind) (others : (k : Kind) → k ≢ t → f k ≡ None) where
   twice-same : (o : Option ℕ) (b : Bool) → first_of_two o (cond b o None) ≡ o
@@ -85,9 +84,9 @@ module _ (f : Kind → Option ℕ) (t : Kind) (others : (k : Kind) → k ≢ t �
 
   only-way : (b : Bool) (k : Kind) → is_table t k ≡ b → (any : Bool) (rest : Option ℕ) → rest ≡ cond any (f t) None → first_of_two (f k) rest ≡ cond (b || any) (f t) None
   only-way true k is any rest h =
-      ap (λ o. first_of_two o rest) (ap f (same_by_place k t (eqb-true (kind_place k) (kind_place t) is))) ∙ (ap (first_of_two (f t)) h ∙ twice-same (f t) any)
+      ap (λ o. first_of_two o rest) (ap f (same_by_name k t is)) ∙ (ap (first_of_two (f t)) h ∙ twice-same (f t) any)
   only-way false k is any rest h =
-      ap (λ o. first_of_two o rest) (others k (λ e. eqb-false (kind_place k) (kind_place t) is (ap kind_place e))) ∙ h
+      ap (λ o. first_of_two o rest) (others k (λ e. false-true (sym is ∙ (ap (λ j. same_kind j t) e ∙ same_kind_itself t)))) ∙ h
 
   only-one : (ks : List Kind) → noted_over f ks ≡ cond (list_any (is_table t) ks) (f t) None
   only-one [] = refl

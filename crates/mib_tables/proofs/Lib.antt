@@ -1,0 +1,4 @@
+pub mod KindFacts
+pub mod ShelfFacts
+pub mod PlaceFacts
+pub mod SharedFacts
