@@ -1,6 +1,6 @@
 -- The first place of a key, over the tables one behind the other: only the key's own table has it.
-use Rattle.std.proofs.Common.{◌≡◌, ◌≢◌, ℕ, ◌+◌, ◌<◌, Bool, true, false, cond, ◌||◌, List, [], ◌∷◌, ◌++◌, map, take, length, get_or, Option, Some, None, option_map, refl, sym, ap, ◌∙◌, subst, nat_eq, arith}
-use Rattle.std.proofs.lemmas.List.{take_more}
+use Rattle.std.proofs.Common.{◌≡◌, ◌≢◌, ℕ, ◌+◌, ◌<◌, ◌≤◌, Bool, true, false, cond, ◌||◌, List, [], ◌∷◌, ◌++◌, map, take, length, get_or, Option, Some, None, option_map, refl, sym, ap, ◌∙◌, subst, nat_eq, arith}
+use Rattle.std.proofs.lemmas.List.{take_more, take_all}
 use Rattle.std.specs.List.{position, list_any, AllByRecursion}
 use Rattle.mib_model.specs.declared.database.Database.{Database}
 use Rattle.mib_model.specs.declared.key.Key.{Key}
@@ -113,3 +113,15 @@ pub own-place : (db : Database) (q : Key) → noted_over (λ k. position (has_ke
 own-place db q =
     only-one (λ k. position (has_key q) (rows_of db k)) (kind_of_key q) (other-table db q) kinds ∙
     ap (λ b. cond b (position (has_key q) (rows_of db (kind_of_key q))) None) (all-there (kind_of_key q))
+
+-- one more table
+pub one-more : (db : Database) (q : Key) (new so_far : Option ℕ) (i : ℕ) (d : Kind) (rows : List Row) → i < 15 → rows ≡ rows_of db (get_or kinds i d) → new ≡ first_of_two so_far (first_place key_cmp (λ r. Some (key_in r)) rows q) → so_far ≡ noted_over (λ k. position (has_key q) (rows_of db k)) (take i kinds) → new ≡ noted_over (λ k. position (has_key q) (rows_of db k)) (take (i + 1) kinds)
+one-more db q new so_far i d rows below own step before =
+    let f : Kind → Option ℕ = λ k. position (has_key q) (rows_of db k) in
+    step ∙ (ap (λ o. first_of_two o (first_place key_cmp (λ r. Some (key_in r)) rows q)) before ∙
+    (ap (first_of_two (noted_over f (take i kinds))) (key-place rows q ∙ ap (position (has_key q)) own) ∙
+    (sym (noted-push f (take i kinds) (get_or kinds i d)) ∙ ap (noted_over f) (sym (take_more kinds i d below)))))
+
+-- all tables
+pub all-noted : (db : Database) (q : Key) (i : ℕ) → 15 ≤ i → noted_over (λ k. position (has_key q) (rows_of db k)) (take i kinds) ≡ position (has_key q) (rows_of db (kind_of_key q))
+all-noted db q i all = ap (noted_over (λ k. position (has_key q) (rows_of db k))) (take_all i kinds all) ∙ own-place db q
