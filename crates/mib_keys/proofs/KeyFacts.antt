@@ -10,22 +10,20 @@ use Rattle.std.specs.Str.{bytes_eq}
 use Rattle.mib_model.specs.declared.key.Key.{Key}
 use Rattle.mib_model.specs.declared.key.Key.TheVariants as key
 use Rattle.mib_model.specs.Keys.{same_key}
-use Rattle.mib_model.specs.contracts.key.KeyOrd.TheImpl as ord
+use Rattle.mib_keys.specs.Known.{key_cmp}
 use Rattle.mib_tables.specs.Kinds.{kind_of_key}
 
-abbrev pub key_cmp : Key → Key → Ordering
-key_cmp = ord.ghosts.cmp
 
 -- two tests in a row
-then-eq : (a b : Ordering) (p q : Bool) → is_eq a ≡ p → is_eq b ≡ q → is_eq (ordering_then a b) ≡ (p && q)
+pub then-eq : (a b : Ordering) (p q : Bool) → is_eq a ≡ p → is_eq b ≡ q → is_eq (ordering_then a b) ≡ (p && q)
 then-eq Less b p q h k = ap (λ c. c && q) h
 then-eq Equal b p q h k = k ∙ ap (λ c. c && q) h
 then-eq Greater b p q h k = ap (λ c. c && q) h
 
-name-eq : (x y : List ℕ) → is_eq (slice_cmp nat_cmp x y) ≡ bytes_eq x y
+pub name-eq : (x y : List ℕ) → is_eq (slice_cmp nat_cmp x y) ≡ bytes_eq x y
 name-eq x y = sym (texts_ties x y)
 
-number-eq : (x y : ℕ) → is_eq (nat_cmp x y) ≡ nat_eq x y
+pub number-eq : (x y : ℕ) → is_eq (nat_cmp x y) ≡ nat_eq x y
 number-eq x y = sym (unsigned_ties x y)
 
 option-eq : (x y : Option ℕ) → is_eq (option_cmp nat_cmp x y) ≡ option_eq nat_eq x y

@@ -1,3 +1,5 @@
 pub mod PlaceFacts
 pub mod KeyFacts
 pub mod TableFacts
+pub mod LookupFacts
+pub mod CountFacts

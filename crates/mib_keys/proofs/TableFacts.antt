@@ -16,7 +16,8 @@ use Rattle.mib_model.specs.RowTexts.{kind_in}
 use Rattle.mib_tables.specs.Kinds.{kind_of_key}
 use Rattle.mib_tables.proofs.KindFacts.{same_by_name, same_kind_itself, kind_of_its_key}
 use Rattle.mib_keys.specs.Indexes.{first_place}
-use Rattle.mib_keys.proofs.KeyFacts.{key_cmp, same-by_order, one-table, false-true}
+use Rattle.mib_keys.specs.Known.{key_cmp}
+use Rattle.mib_keys.proofs.KeyFacts.{same-by_order, one-table, false-true}
 use Rattle.mib_keys.proofs.PlaceFacts.{position-cons, first-assoc}
 
 pub position-agree : {X : Type 0} (p q : X → Bool) → ((x : X) → p x ≡ q x) → (xs : List X) → position p xs ≡ position q xs

@@ -1,1 +1,4 @@
 pub mod Indexes
+pub mod Columns
+pub mod Known
+pub mod Firsts

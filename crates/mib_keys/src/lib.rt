@@ -6,4 +6,6 @@
 #![tactic(auto)]
 
 mod index;
+mod lookups;
+mod maps;
 mod places;

@@ -3,7 +3,7 @@ use Rattle.std.specs.BTreeMap.{get}
 use Rattle.mib_model.specs.declared.key.Key.{Key}
 use Rattle.mib_model.specs.Drafts.{rows_of}
 use Rattle.mib_model.specs.Keys.{has_key}
-use Rattle.mib_keys.proofs.KeyFacts.{key_cmp}
+use Rattle.mib_keys.specs.Known.{key_cmp}
 use Rattle.mib_keys.proofs.TableFacts.{noted_over}
 use Rattle.mib_keys.proofs.places.places.Given as goal
 
