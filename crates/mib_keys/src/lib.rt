@@ -9,3 +9,4 @@ mod index;
 mod lookups;
 mod maps;
 mod places;
+mod types;
