@@ -1,0 +1,55 @@
+// Quotients and powers of 10, rounded half away from zero.
+ghost use Rattle.std.specs.Prelude.{◌≡◌, ◌<◌, ◌≤◌, ◌+◌, ◌*◌, ◌/◌, ◌^◌, nat_abs};
+ghost use Rattle.mib_model.specs.Decimals as Spec;
+
+/// The whole number nearest to a quotient; a tie goes up.
+#[tactic(auto, using(crate::proofs::RoundingFacts::nearest))]
+pub fn rounded(dividend: u128, divisor: u128) -> u128
+    requires { 0 < divisor }
+    ensures value { result ≡ (2 * dividend + divisor) / (2 * divisor) }
+    ensures within { result ≤ dividend }
+{
+    let whole = dividend / divisor;
+    let rest = dividend % divisor;
+    if rest < divisor - rest {
+        whole
+    } else {
+        whole + 1
+    }
+}
+
+/// The same of a number with a sign, a tie going away from zero.
+#[tactic(auto, unfolding(mib_model::specs::Decimals::half))]
+pub fn half(dividend: i128, divisor: u128) -> i128
+    requires dividend { nat_abs dividend < 2 ^ 127 }
+    requires divisor { 0 < divisor }
+    ensures value { result ≡ Spec.half dividend divisor }
+    ensures within { nat_abs result ≤ nat_abs dividend }
+{
+    let magnitude = rounded(dividend.unsigned_abs(), divisor) as i128;
+    if dividend < 0 { -magnitude } else { magnitude }
+}
+
+/// 10 to a power of at most 38.
+#[tactic(auto, using(crate::proofs::RoundingFacts::powers))]
+pub fn power(exponent: u32) -> u128
+    requires { exponent ≤ 38 }
+    ensures value { result ≡ 10 ^ exponent }
+    ensures positive { 0 < result }
+{
+    10_u128.pow(exponent)
+}
+
+/// A number divided by a power of 10, and rounded.
+#[tactic(auto, using(crate::proofs::RoundingFacts::powers))]
+pub fn scaled_down(number: i128, places: u32) -> i128
+    requires { nat_abs number < 2 ^ 127 }
+    ensures value { result ≡ Spec.half number (10 ^ places) }
+    ensures within { nat_abs result ≤ nat_abs number }
+{
+    if places <= 38 {
+        half(number, power(places))
+    } else {
+        0
+    }
+}

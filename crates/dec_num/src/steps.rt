@@ -1,0 +1,82 @@
+// Sums and products of at most 36 digits.
+ghost use Rattle.std.specs.Prelude.{◌≡◌, ◌<◌, ◌≤◌, ◌+ℤ◌, ◌*ℤ◌, ◌-ℤ◌, ◌^◌, pos, nat_abs, IfSome};
+ghost use Rattle.dec_num.specs.Narrow.{narrow, narrow_result};
+
+use crate::rounding::power;
+
+/// A step's bound: its magnitude may not reach 10^37.
+const STEP_BOUND: u128 = 10_000_000_000_000_000_000_000_000_000_000_000_000;
+
+/// A result's bound: its magnitude may not reach 10^36.
+const RESULT_BOUND: u128 = 1_000_000_000_000_000_000_000_000_000_000_000_000;
+
+/// A number, where it is below the bound of steps.
+pub fn step(number: i128) -> Option<i128>
+    ensures value { result ≡ narrow number }
+    ensures within { IfSome result (λ z. nat_abs z < 10 ^ 37) }
+{
+    if number.unsigned_abs() < STEP_BOUND {
+        Some(number)
+    } else {
+        None
+    }
+}
+
+/// A number, where it is below the bound of results.
+pub fn outcome(number: i128) -> Option<i128>
+    ensures { result ≡ narrow_result number }
+{
+    if number.unsigned_abs() < RESULT_BOUND {
+        Some(number)
+    } else {
+        None
+    }
+}
+
+/// A sum, where it is below the bound of steps.
+pub fn sum(a: i128, b: i128) -> Option<i128>
+    ensures value { result ≡ narrow (a +ℤ b) }
+    ensures within { IfSome result (λ z. nat_abs z < 10 ^ 37) }
+{
+    step(a.checked_add(b)?)
+}
+
+/// A difference, where it is below the bound of steps.
+pub fn difference(a: i128, b: i128) -> Option<i128>
+    ensures value { result ≡ narrow (a -ℤ b) }
+    ensures within { IfSome result (λ z. nat_abs z < 10 ^ 37) }
+{
+    step(a.checked_sub(b)?)
+}
+
+/// A product, where it is below the bound of steps.
+pub fn product(a: i128, b: i128) -> Option<i128>
+    ensures value { result ≡ narrow (a *ℤ b) }
+    ensures within { IfSome result (λ z. nat_abs z < 10 ^ 37) }
+{
+    step(a.checked_mul(b)?)
+}
+
+// 10 to a power of at most 36.
+#[tactic(auto, using(crate::proofs::RoundingFacts::powers))]
+fn signed_power(exponent: u32) -> i128
+    requires { exponent ≤ 36 }
+    ensures { result ≡ pos (10 ^ exponent) }
+{
+    power(exponent) as i128
+}
+
+/// A number times a power of 10, where it is below the bound of steps.
+#[tactic(auto, using(crate::proofs::ScalingFacts::great_powers))]
+pub fn scaled_up(number: i128, exponent: u32) -> Option<i128>
+    ensures value { result ≡ narrow (number *ℤ pos (10 ^ exponent)) }
+    ensures within { IfSome result (λ z. nat_abs z < 10 ^ 37) }
+{
+    if number == 0 {
+        return Some(0);
+    }
+    if exponent > 36 {
+        return None;
+    }
+    product(number, signed_power(exponent))
+}
