@@ -3,3 +3,5 @@ pub mod KeyFacts
 pub mod TableFacts
 pub mod LookupFacts
 pub mod CountFacts
+pub mod AnyFacts
+pub mod PointFacts

@@ -6,7 +6,7 @@ use Rattle.std.specs.List.{position, prefix_len, list_any}
 use Rattle.mib_model.specs.Match.{first_of_two}
 use Rattle.mib_keys.specs.Indexes.{some_if}
 
-below_one_more : (n m : ℕ) → nat_lt (1 + n) (suc m) ≡ nat_lt n m
+pub below_one_more : (n m : ℕ) → nat_lt (1 + n) (suc m) ≡ nat_lt n m
 below_one_more n m = go (nat_lt n m) refl where
   go : (b : Bool) → nat_lt n m ≡ b → nat_lt (1 + n) (suc m) ≡ b
   go true h = lt-ltb (1 + n) (suc m) (let l = ltb-true n m h in omega arith)

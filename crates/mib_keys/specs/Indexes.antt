@@ -1,5 +1,5 @@
 -- What a map from keys says of rows: the first place of each key. [This profile.]
-use Rattle.std.specs.Prelude.{◌≡◌, ℕ, Bool, false, List, length, Option, Some, None, position, if◌then◌else◌}
+use Rattle.std.specs.Prelude.{◌≡◌, ℕ, nat_lt, Bool, false, List, length, Option, Some, None, position, if◌then◌else◌}
 use Rattle.std.specs.List.{filter}
 use Rattle.std.specs.Ordering.{is_eq}
 use Rattle.std.specs.declared.cmp.Ordering.{Ordering}
@@ -29,3 +29,8 @@ count_with cmp key rows q = length (filter (λ row. has_by cmp q (key row)) rows
 -- the first place of each key in its table
 abbrev pub AreKeyPlaces : (Key → Option ℕ) → Database → Type 0
 AreKeyPlaces noted db = (q : Key) → noted q ≡ position (has_key q) (rows_of db (kind_of_key q))
+
+-- a place, where it is before another
+abbrev pub cut : ℕ → Option ℕ → Option ℕ
+cut n None = None
+cut n (Some i) = if nat_lt i n then Some i else None

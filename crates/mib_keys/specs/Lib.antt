@@ -2,3 +2,5 @@ pub mod Indexes
 pub mod Columns
 pub mod Known
 pub mod Firsts
+pub mod Points
+pub mod Answers

@@ -22,8 +22,8 @@ pub trait By {
         ensures { result ≡ key self.now row.now };
 }
 
-// Notes the place of a key that isn't noted yet.
-fn note_key<K: Ord + Copy + Drop>(
+/// Notes the place of a key that isn't noted yet.
+pub fn note_key<K: Ord + Copy + Drop>(
     places: &mut BTreeMap<K, u32>,
     key: Option<K>,
     place: u32,

@@ -5,8 +5,14 @@
 //! numbers of `dec_num`.
 #![tactic(auto)]
 
+mod fault;
+mod flaw;
+mod groups;
 mod index;
 mod lookups;
 mod maps;
 mod places;
+mod points;
+mod rules;
+mod sound;
 mod types;

@@ -20,6 +20,13 @@ pub struct PacketKey {
     pub pi2_val: u64,
 }
 
+/// What tells the points of curves apart.
+#[derive(Clone, Copy, PartialEq, Eq, PartialOrd, Ord)]
+pub struct PointKey {
+    pub numbr: Name,
+    pub x: i128,
+}
+
 // Packets by their kind.
 struct ByPacket;
 

@@ -1,9 +1,10 @@
 // What the bits of a parameter's values are, by its type codes.
-ghost use Rattle.std.specs.Prelude.{◌≡◌, ◌≤◌, ◌*◌, ◌%◌, ◌==◌, ◌&&◌, Option, Some, IfSome, Bool, ℕ, ◌<◌};
-ghost use Rattle.mib_model.specs.Encodings.{IsEncoding, type_of, integer_width, real_width, width_if, is_from_to, sorted_as, unsegmented_time, absolute_time, may_be_little, ordered, encoding_of};
+ghost use Rattle.std.specs.Prelude.{◌≡◌, option_map, ◌≤◌, ◌*◌, ◌%◌, ◌==◌, ◌&&◌, Option, Some, IfSome, Bool, ℕ, ◌<◌};
+ghost use Rattle.mib_model.specs.Encodings.{type_of, integer_width, real_width, width_if, is_from_to, sorted_as, unsegmented_time, absolute_time, may_be_little, ordered, encoding_of};
+ghost use Rattle.mib_keys.specs.Firsts.{sort_and_width};
 ghost use Rattle.mib_model.specs.Parameters.{parameter_encoding, endian_of};
 
-use mib_model::{Order, PcfRow, Shape, Sort};
+use mib_model::{PcfRow, Sort};
 
 fn width_if(holds: bool, width: u16) -> Option<u16>
     ensures { result ≡ width_if holds width }
@@ -117,21 +118,30 @@ fn may_be_little(sort: Sort) -> bool
     }
 }
 
-/// What the bits of a parameter's values are, if its type is known.
-pub fn encoding(row: &PcfRow) -> Option<Shape>
-    ensures { result ≡ parameter_encoding row.now }
+// A sort and a width, where the octets can stand in the order that a letter asks for.
+fn turned(endian: u8, sort: Sort, width: u16) -> Option<(Sort, u16)>
+    ensures { result ≡ option_map sort_and_width (ordered (endian_of endian) (sort, width)) }
+{
+    if endian != b'L' {
+        return Some((sort, width));
+    }
+    if !may_be_little(sort) {
+        return Some((sort, width));
+    }
+    if width % 8 == 0 {
+        Some((sort, width))
+    } else {
+        None
+    }
+}
+
+/// The sort and the width of a parameter's values, if its type is known.
+#[tactic(auto, unfolding(mib_model::specs::Encodings::encoding_of))]
+pub fn encoding(row: &PcfRow) -> Option<(Sort, u16)>
+    ensures { result ≡ option_map sort_and_width (parameter_encoding row.now) }
 {
     match type_of(row.ptc, row.pfc) {
-        Some((sort, width)) => {
-            if row.endian != b'L' || !may_be_little(sort) {
-                return Some(Shape::new(sort, width, Order::Big));
-            }
-            if width % 8 == 0 {
-                Some(Shape::new(sort, width, Order::Little))
-            } else {
-                None
-            }
-        }
+        Some((sort, width)) => turned(row.endian, sort, width),
         None => None,
     }
 }
