@@ -15,7 +15,7 @@ counted-any p (x ∷ xs) = go (p x) (filter p xs) (counted-any p xs) where
   go true kept h = let e : nat_eq (suc (length kept)) 0 ≡ false = ne_eqb (suc (length kept)) 0 (λ q. absurd (omega (arith, q))) in ap not e
   go false kept h = h
 
-same-number : (a b : ℕ) → nat_eq a b ≡ int_eq (pos a) (pos b)
+pub same-number : (a b : ℕ) → nat_eq a b ≡ int_eq (pos a) (pos b)
 same-number a b =
     one_answer {P = a ≡ b} (nat_eq a b) (int_eq (pos a) (pos b)) (eqb-true a b, eq-eqb a b)
     (λ e. ap nat_abs ((signed_Decides (pos a) (pos b)).0 e), λ e. (signed_Decides (pos a) (pos b)).1 (ap pos e))

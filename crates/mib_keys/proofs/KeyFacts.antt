@@ -95,7 +95,7 @@ option-flip None (Some y) = refl
 option-flip (Some x) None = refl
 option-flip (Some x) (Some y) = nat_eq_equiv.symm x y
 
-both-same : (a b c d : Bool) → a ≡ c → b ≡ d → (a && b) ≡ (c && d)
+pub both-same : (a b c d : Bool) → a ≡ c → b ≡ d → (a && b) ≡ (c && d)
 both-same a b c d h k = ap (λ e. e && b) h ∙ ap (λ e. c && e) k
 
 pub same-flip : (x y : Key) → same_key x y ≡ same_key y x

@@ -5,3 +5,4 @@ pub mod LookupFacts
 pub mod CountFacts
 pub mod AnyFacts
 pub mod PointFacts
+pub mod GroupFacts

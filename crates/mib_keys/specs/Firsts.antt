@@ -14,10 +14,12 @@ use Rattle.mib_model.specs.Drafts.{rows_of}
 use Rattle.mib_model.specs.Encodings.{Encoding}
 use Rattle.mib_model.specs.Flaws.{Rule, fault_of}
 use Rattle.mib_model.specs.GroupFlaws.{vpd_rules}
-use Rattle.mib_model.specs.Keys.{key_in, same_key}
-use Rattle.mib_model.specs.RowFlaws.{same_packet, pcf_rules, pid_rules, plf_rules, cur_rules, caf_rules, cap_rules, txp_rules, ocf_rules, ocp_rules}
+use Rattle.mib_model.specs.Keys.{key_in, has_key}
+use Rattle.mib_model.specs.RowFlaws.{pcf_rules, pid_rules, plf_rules, cur_rules, caf_rules, cap_rules, txp_rules, ocf_rules, ocp_rules}
 use Rattle.mib_model.specs.RowTexts.{kind_in}
 use Rattle.mib_keys.specs.declared.maps.PacketKey.{PacketKey}
+use Rattle.mib_tables.specs.Kinds.{kind_of_key}
+use Rattle.mib_keys.specs.Columns.{packet_of}
 use Rattle.mib_keys.specs.Indexes.{cut}
 
 -- a row of a kind of packet
@@ -38,10 +40,20 @@ first_from found (o ∷ os) = first_from (option_or found o) os
 abbrev pub flaw_by : {R : Type 0} → Kind → ℕ → List (Rule R) → List R → R → Option MibFault
 flaw_by table number rules earlier r = first_from None (map (λ rule. option_map (fault_of table number) (rule earlier r)) rules)
 
+-- the lesser of two places that may be there
+abbrev pub least : Option ℕ → Option ℕ → Option ℕ
+least None b = b
+least (Some a) None = Some a
+least (Some a) (Some b) = Some (min a b)
+
+-- the first packet of the same kind, where the row is of pid
+abbrev pub packet_alike : Database → Row → Option ℕ
+packet_alike db (row.Pid r) = position (is_packet (packet_of r)) db.pid
+packet_alike db other = None
+
 -- the first row, wherever it stands, that a row is like: by its key, and in pid also by its kind of packet
 abbrev pub alike_in : Database → Row → Option ℕ
-alike_in db (row.Pid r) = position (same_packet r) db.pid
-alike_in db other = position (λ y. same_key (key_in other) (key_in y)) (rows_of db (kind_in other))
+alike_in db r = least (position (has_key (key_in r)) (rows_of db (kind_of_key (key_in r)))) (packet_alike db r)
 
 -- the first flaw of a row but for a row that it repeats
 abbrev pub rest_in : Database → ℕ → Row → Option MibFault
@@ -74,9 +86,3 @@ first_in flaw n (r ∷ rs) = option_or (flaw n r) (first_in flaw (n + 1) rs)
 abbrev pub first_over : (Kind → Option MibFault) → List Kind → Option MibFault
 first_over flaw [] = None
 first_over flaw (k ∷ ks) = option_or (flaw k) (first_over flaw ks)
-
--- the lesser of two places that may be there
-abbrev pub least : Option ℕ → Option ℕ → Option ℕ
-least None b = b
-least (Some a) None = Some a
-least (Some a) (Some b) = Some (min a b)

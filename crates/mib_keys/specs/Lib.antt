@@ -4,3 +4,5 @@ pub mod Known
 pub mod Firsts
 pub mod Points
 pub mod Answers
+pub mod Structures
+pub mod Ready

@@ -5,12 +5,14 @@ ghost use Rattle.mib_model.specs.Drafts.{rows_of};
 ghost use Rattle.mib_model.specs.Soundness.{first_flaw};
 ghost use Rattle.mib_tables.specs.Shelves.{values_in};
 ghost use Rattle.mib_keys.specs.Answers.{Gives};
-ghost use Rattle.mib_keys.specs.Firsts.{alike_in, rest_in, flaw_in, first_in, first_over, least};
+ghost use Rattle.mib_keys.specs.Firsts.{alike_in, packet_alike, rest_in, flaw_in, first_in, first_over, least};
 ghost use Rattle.mib_keys.specs.Indexes.{cut};
 ghost use Rattle.mib_keys.specs.Known.{Known};
-ghost use Rattle.mib_keys.specs.Points.{ArePoints};
+ghost use Rattle.mib_model.specs.RowTexts.{kind_in};
+ghost use Rattle.mib_keys.specs.Ready.{IsReady};
 
 use crate::fault::SoundFault;
+use crate::groups::{Spot, vpd_flaw};
 use crate::lookups::Tables;
 use crate::maps::{Maps, PointKey};
 use crate::points::{before, cap_flaw, points, txp_flaw};
@@ -32,14 +34,69 @@ fn least(a: Option<u32>, b: Option<u32>) -> Option<u32>
     }
 }
 
+// The first packet of the same kind.
+fn packet_alike(tables: &Tables<'_>, row: &Row) -> Option<u32>
+    requires { Known tables.now.maps.now tables.now.book.now }
+    ensures { result ≡ packet_alike tables.now.book.now row.now }
+{
+    match row {
+        Row::Pid(row) => tables.packet_place(row),
+        _ => None,
+    }
+}
+
 // The first row that a row is like.
 fn alike(tables: &Tables<'_>, row: &Row) -> Option<u32>
     requires { Known tables.now.maps.now tables.now.book.now }
     ensures { result ≡ alike_in tables.now.book.now row.now }
 {
-    let same = tables.place(row.key());
+    least(tables.place(row.key()), packet_alike(tables, row))
+}
+
+/// What the rules look things up in.
+struct Checker<'a> {
+    tables: Tables<'a>,
+    points: &'a BTreeMap<PointKey, u32>,
+    structures: &'a BTreeMap<u32, Vec<Spot>>,
+}
+
+// The first flaw of a row but for a row that it repeats.
+fn rest_flaw(checker: &Checker<'_>, number: u32, row: &Row) -> Option<MibFault>
+    requires known { IsReady checker.now }
+    requires fresh { cut (number - 1) (alike_in checker.now.tables.book.now row.now) ≡ None }
+    ensures { result ≡ rest_in checker.now.tables.book.now number row.now }
+{
+    let tables = &checker.tables;
     match row {
-        Row::Pid(row) => least(same, tables.packet_place(row)),
-        _ => same,
+        Row::Pcf(row) => pcf_flaw(tables, number, row),
+        Row::Pid(row) => pid_flaw(tables, number, row),
+        Row::Plf(row) => plf_flaw(tables, number, row),
+        Row::Vpd(row) => vpd_flaw(tables, checker.structures, number, row),
+        Row::Cur(row) => cur_flaw(tables, number, row),
+        Row::Caf(row) => caf_flaw(tables, number, row),
+        Row::Cap(row) => cap_flaw(tables, checker.points, number, row),
+        Row::Txp(row) => txp_flaw(tables, number, row),
+        Row::Ocf(row) => ocf_flaw(tables, number, row),
+        Row::Ocp(row) => ocp_flaw(tables, number, row),
+        Row::Pic(_) | Row::Tpcf(_) | Row::Txf(_) | Row::Mcf(_) | Row::Lgf(_) => None,
+    }
+}
+
+// The first flaw of a row.
+#[tactic(auto, unfolding(crate::specs::Firsts::flaw_in))]
+fn row_flaw(checker: &Checker<'_>, table: Kind, number: u32, row: &Row) -> Option<MibFault>
+    requires known { IsReady checker.now }
+    requires own { table ≡ kind_in row.now }
+    ensures { result ≡ flaw_in checker.now.tables.book.now number row.now }
+{
+    match before(alike(&checker.tables, row), number) {
+        Some(place) => Some(MibFault {
+            table,
+            row: number,
+            column: 0,
+            first: place + 1,
+            code: MibCode::Twice,
+        }),
+        None => rest_flaw(checker, number, row),
     }
 }
