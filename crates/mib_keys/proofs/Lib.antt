@@ -6,3 +6,4 @@ pub mod CountFacts
 pub mod AnyFacts
 pub mod PointFacts
 pub mod GroupFacts
+pub mod FlawFacts

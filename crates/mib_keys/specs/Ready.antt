@@ -1,5 +1,5 @@
 -- What the rules rest on: maps of the book's own tables. [This profile.]
-use Rattle.mib_keys.specs.declared.sound.Checker.{Checker}
+use Rattle.mib_keys.specs.declared.soundness.Checker.{Checker}
 use Rattle.mib_keys.specs.Known.{Known}
 use Rattle.mib_keys.specs.Points.{ArePoints}
 use Rattle.mib_keys.specs.Structures.{AreStructures}

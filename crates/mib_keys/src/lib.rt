@@ -14,5 +14,8 @@ mod maps;
 mod places;
 mod points;
 mod rules;
-mod sound;
+mod soundness;
 mod types;
+
+pub use fault::SoundFault;
+pub use soundness::sound;

@@ -1,8 +1,9 @@
 // The first flaw of a book's tables.
-ghost use Rattle.std.specs.Prelude.{◌≡◌, ◌≤◌, ◌<◌, ◌-◌, length, Option, Some, None, option_map, position};
+ghost use Rattle.std.specs.Prelude.{◌≡◌, ◌≤◌, ◌<◌, ◌-◌, length, Option, Some, None, option_map, position, IfOk};
 ghost use Rattle.std.specs.BTreeMap.{get};
 ghost use Rattle.mib_model.specs.Drafts.{rows_of};
 ghost use Rattle.mib_model.specs.Soundness.{first_flaw};
+ghost use Rattle.mib_tables.specs.Kinds.{AreOf};
 ghost use Rattle.mib_tables.specs.Shelves.{values_in};
 ghost use Rattle.mib_keys.specs.Answers.{Gives};
 ghost use Rattle.mib_keys.specs.Firsts.{alike_in, packet_alike, rest_in, flaw_in, first_in, first_over, least};
@@ -12,7 +13,7 @@ ghost use Rattle.mib_model.specs.RowTexts.{kind_in};
 ghost use Rattle.mib_keys.specs.Ready.{IsReady};
 
 use crate::fault::SoundFault;
-use crate::groups::{Spot, vpd_flaw};
+use crate::groups::{Spot, structures, vpd_flaw};
 use crate::lookups::Tables;
 use crate::maps::{Maps, PointKey};
 use crate::points::{before, cap_flaw, points, txp_flaw};
@@ -53,7 +54,8 @@ fn alike(tables: &Tables<'_>, row: &Row) -> Option<u32>
     least(tables.place(row.key()), packet_alike(tables, row))
 }
 
-/// What the rules look things up in.
+// What the rules look things up in.
+#[derive(Clone, Copy)]
 struct Checker<'a> {
     tables: Tables<'a>,
     points: &'a BTreeMap<PointKey, u32>,
@@ -98,5 +100,62 @@ fn row_flaw(checker: &Checker<'_>, table: Kind, number: u32, row: &Row) -> Optio
             code: MibCode::Twice,
         }),
         None => rest_flaw(checker, number, row),
+    }
+}
+
+// The first flaw of the rows of a table.
+fn table_flaw(checker: &Checker<'_>, table: Kind, rows: &[Arc<Row>]) -> Option<MibFault>
+    requires known { IsReady checker.now }
+    requires own { AreOf table (values_in rows.now) }
+    requires few { length rows.now ≤ 1000000000 }
+    ensures { result ≡ first_in (flaw_in checker.now.tables.book.now) 1 (values_in rows.now) }
+{
+    for (place, row) in rows.iter().enumerate() {
+        if let Some(fault) = row_flaw(checker, table, place as u32 + 1, row) {
+            return Some(fault);
+        }
+    }
+    None
+}
+
+// The first flaw of all tables.
+fn tables_flaw(checker: &Checker<'_>) -> Option<MibFault>
+    requires { IsReady checker.now }
+    ensures { result ≡ first_flaw checker.now.tables.book.now }
+{
+    for table in KINDS {
+        if let Some(fault) = table_flaw(checker, table, checker.tables.book.rows(table)) {
+            return Some(fault);
+        }
+    }
+    None
+}
+
+// The first flaw of a book, with all that is made for it.
+fn first_flaw(alloc: Global, book: &Book) -> Result<Option<MibFault>, AllocError>
+    ensures { IfOk result (λ flaw. flaw ≡ first_flaw book.now) }
+{
+    let maps = Maps::new(alloc, book)?;
+    let tables = Tables { book, maps: &maps };
+    let points = points(alloc, &tables, book.rows(Kind::Cap))?;
+    let structures = structures(alloc, book.rows(Kind::Vpd))?;
+    let checker = Checker {
+        tables,
+        points: &points,
+        structures: &structures,
+    };
+    Ok(tables_flaw(&checker))
+}
+
+/// Whether a book is sound: `Ok` exactly where no flaw stands, and else the first flaw, by table, row and code, unless
+/// memory runs out. The time grows as n log n with the rows, but for the groups of one structure, whose rows are
+/// looked through for each of them.
+pub fn sound(alloc: Global, book: &Book) -> Result<(), SoundFault>
+    ensures { Gives result book.now }
+{
+    match first_flaw(alloc, book) {
+        Ok(None) => Ok(()),
+        Ok(Some(fault)) => Err(SoundFault::Mib(fault)),
+        Err(_) => Err(SoundFault::Memory),
     }
 }
