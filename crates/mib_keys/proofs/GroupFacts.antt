@@ -1,0 +1,168 @@
+-- Rows of structures by POS: where a row goes, what is noted of a structure, and the groups around a place.
+use Rattle.std.proofs.Common.{◌≡◌, ◌≢◌, ℕ, zero, suc, ◌+◌, ◌-◌, ◌<◌, ◌≤◌, pos, Bool, true, false, not, cond, ◌&&◌, ◌||◌, List, [], ◌∷◌, ◌++◌, map, take, drop, length, filter, get_or, Option, Some, None, option_map, unwrap_or, is_some, refl, sym, ap, ◌∙◌, subst, nat_eq, nat_lt, nat_le, count_by, add-zero, arith}
+use Rattle.std.proofs.lemmas.Bool.{ltb-true, ltb-false, lt-ltb, le-ltb}
+use Rattle.std.proofs.lemmas.List.{take_more, length-take-le, length_push}
+use Rattle.std.proofs.lemmas.List.Elements.{filter_agree}
+use Rattle.std.proofs.lemmas.List.Sums.{prefix_len-le-length}
+use Rattle.std.specs.List.{position, position_or_len, prefix_len, list_any, enumerate_from, insert}
+use Rattle.std.specs.Ordering.{int_eq}
+use Rattle.mib_model.specs.declared.database.Database.{Database}
+use Rattle.mib_model.specs.declared.rows.Row.{Row}
+use Rattle.mib_model.specs.declared.rows.Row.TheVariants as row
+use Rattle.mib_model.specs.declared.rows.VpdRow.{VpdRow}
+use Rattle.mib_model.specs.GroupFlaws.{place_of, passes_end, passes_group}
+use Rattle.mib_model.specs.Orders.{insert_by, sorted_by}
+use Rattle.mib_model.specs.Walk.{structure}
+use Rattle.mib_keys.specs.declared.groups.Spot.{Spot}
+use Rattle.mib_keys.specs.Structures.{spot_of, by_pos, spots_from, with_row, passes, passes_some, passes_spots}
+use Rattle.std.proofs.lemmas.List.{length-map, take-map}
+use Rattle.std.specs.Cmp.{nat_eq_equiv}
+use Rattle.mib_model.specs.declared.key.Key.TheVariants as key
+use Rattle.mib_model.specs.Drafts.{rows_of}
+use Rattle.mib_model.specs.Keys.{has_key, same_key}
+use Rattle.mib_keys.specs.Firsts.{alike_in, least}
+use Rattle.mib_keys.specs.Indexes.{cut}
+use Rattle.mib_keys.proofs.AnyFacts.{same-number, any-agree}
+use Rattle.mib_keys.proofs.KeyFacts.{both-same, false-true}
+use Rattle.mib_keys.proofs.LookupFacts.{found-any, position-map, count-map}
+use Rattle.mib_keys.proofs.PointFacts.{position-take}
+
+-- the first place, or the end
+pub place-or-end : {X : Type 0} (p : X → Bool) (xs : List X) → unwrap_or (position p xs) (length xs) ≡ position_or_len p xs
+place-or-end p xs = go (nat_lt (position_or_len p xs) (length xs)) refl where
+  go : (b : Bool) → nat_lt (position_or_len p xs) (length xs) ≡ b → unwrap_or (cond b (Some (position_or_len p xs)) None) (length xs) ≡ position_or_len p xs
+  go true h = refl
+  go false h = let n = ltb-false (position_or_len p xs) (length xs) h in let m = prefix_len-le-length (λ x. not (p x)) xs in omega (arith, n, m)
+
+-- an item put before the first that it may stand before
+pub put-at : {A : Type 0} (before : A → A → Bool) (x : A) (xs : List A) → insert xs (position_or_len (before x) xs) x ≡ insert_by before x xs
+put-at before x [] = refl
+put-at before x (y ∷ ys) = go (before x y) (position_or_len (before x) ys) (put-at before x ys) where
+  go : (b : Bool) (n : ℕ) → insert ys n x ≡ insert_by before x ys → insert (y ∷ ys) (cond (not b) (1 + n) 0) x ≡ cond b (x ∷ y ∷ ys) (y ∷ insert_by before x ys)
+  go true n h = refl
+  go false n h = let e : 1 + n ≡ suc n = omega arith in ap (λ k. insert (y ∷ ys) k x) e ∙ ap (λ (zs : List _). y ∷ zs) h
+
+-- one more row among those before
+pub any-more : {X : Type 0} (p : ℕ × X → Bool) (start : ℕ) (xs : List X) (x : X) → list_any p (enumerate_from start (xs ++ x ∷ [])) ≡ (list_any p (enumerate_from start xs) || p (start + length xs, x))
+any-more p start [] x = (let e : start + 0 ≡ start = omega arith in last (p (start, x)) ∙ ap (λ n. p (n, x)) (sym e)) where
+  last : (b : Bool) → (b || false) ≡ b
+  last true = refl
+  last false = refl
+any-more p start (y ∷ ys) x =
+    ap (λ b. p (start, y) || b) (any-more p (start + 1) ys x) ∙ (assoc (p (start, y)) (list_any p (enumerate_from (start + 1) ys)) (p (start + 1 + length ys, x)) ∙
+    (let e : start + 1 + length ys ≡ start + suc (length ys) = omega arith in ap (λ n. p (start, y) || list_any p (enumerate_from (start + 1) ys) || p (n, x)) e)) where
+  assoc : (a b c : Bool) → (a || (b || c)) ≡ (a || b || c)
+  assoc true b c = refl
+  assoc false b c = refl
+
+pub any-next : {X : Type 0} (p : ℕ × X → Bool) (xs : List X) (i : ℕ) (d : X) → i < length xs → list_any p (enumerate_from 0 (take (i + 1) xs)) ≡ (list_any p (enumerate_from 0 (take i xs)) || p (i, get_or xs i d))
+any-next p xs i d below =
+    ap (λ ys. list_any p (enumerate_from 0 ys)) (take_more xs i d below) ∙ (any-more p 0 (take i xs) (get_or xs i d) ∙
+    (let e : 0 + length (take i xs) ≡ i = (let l = length-take-le i xs (omega (arith, below)) in omega (arith, l)) in ap (λ n. list_any p (enumerate_from 0 (take i xs)) || p (n, get_or xs i d)) e))
+
+-- what is noted of a structure is the structure
+module _ where
+  insert-way : (b : Bool) (x y : VpdRow) (ys : List VpdRow) (put : List VpdRow) (spots : List Spot) → spots ≡ map spot_of put → cond b (spot_of x ∷ spot_of y ∷ map spot_of ys) (spot_of y ∷ spots) ≡ map spot_of (cond b (x ∷ y ∷ ys) (y ∷ put))
+  insert-way true x y ys put spots h = refl
+  insert-way false x y ys put spots h = ap (λ (zs : List Spot). spot_of y ∷ zs) h
+
+  insert-spots : (x : VpdRow) (ys : List VpdRow) → insert_by by_pos (spot_of x) (map spot_of ys) ≡ map spot_of (insert_by (λ a b. nat_le a.pos b.pos) x ys)
+  insert-spots x [] = refl
+  insert-spots x (y ∷ ys) = insert-way (nat_le x.pos y.pos) x y ys (insert_by (λ a b. nat_le a.pos b.pos) x ys) (insert_by by_pos (spot_of x) (map spot_of ys)) (insert-spots x ys)
+
+  one_row : (q : ℕ) (b : Bool) (r : VpdRow) (mine : List VpdRow) (spots : List Spot) → spots ≡ map spot_of (sorted_by (λ x y. nat_le x.pos y.pos) mine) → cond b (insert_by by_pos (spot_of r) spots) spots ≡ map spot_of (sorted_by (λ x y. nat_le x.pos y.pos) (cond b (r ∷ mine) mine))
+  unfolding sorted_by
+  one_row q true r mine spots h = ap (insert_by by_pos (spot_of r)) h ∙ insert-spots r (sorted_by (λ x y. nat_le x.pos y.pos) mine)
+  one_row q false r mine spots h = h
+
+  spots-sorted : (q : ℕ) (rows : List VpdRow) → spots_from q (map row.Vpd rows) ≡ map spot_of (sorted_by (λ x y. nat_le x.pos y.pos) (filter (λ (r : VpdRow). nat_eq r.tpsd q) rows))
+  unfolding sorted_by
+  spots-sorted q [] = refl
+  spots-sorted q (r ∷ rs) = one_row q (nat_eq r.tpsd q) r (filter (λ (o : VpdRow). nat_eq o.tpsd q) rs) (spots_from q (map row.Vpd rs)) (spots-sorted q rs)
+
+pub spots-structure : (db : Database) (q : ℕ) → spots_from q (map row.Vpd db.vpd) ≡ map spot_of (structure db (pos q))
+unfolding structure
+spots-structure db q =
+    spots-sorted q db.vpd ∙ ap (λ rows. map spot_of (sorted_by (λ x y. nat_le x.pos y.pos) rows)) (filter_agree (λ (r : VpdRow). nat_eq r.tpsd q) (λ (r : VpdRow). int_eq (pos r.tpsd) (pos q)) (λ (r : VpdRow). same-number r.tpsd q) db.vpd)
+
+-- how many rows pass a test is the same in order
+module _ (test : VpdRow → Bool) where
+  abbrev le : VpdRow → VpdRow → Bool
+  le x y = nat_le x.pos y.pos
+
+  swap_two : (b c : Bool) (x y : VpdRow) (xs : List VpdRow) → length (cond b (x ∷ cond c (y ∷ xs) xs) (cond c (y ∷ xs) xs)) ≡ length (cond c (y ∷ cond b (x ∷ xs) xs) (cond b (x ∷ xs) xs))
+  swap_two true true x y xs = refl
+  swap_two true false x y xs = refl
+  swap_two false true x y xs = refl
+  swap_two false false x y xs = refl
+
+  front : (b : Bool) (y : VpdRow) (xs ys : List VpdRow) → length xs ≡ length ys → length (cond b (y ∷ xs) xs) ≡ length (cond b (y ∷ ys) ys)
+  front true y xs ys same = ap suc same
+  front false y xs ys same = same
+
+  count-way : (b : Bool) (x y : VpdRow) (ys : List VpdRow) → length (filter test (insert_by le x ys)) ≡ length (filter test (x ∷ ys)) → length (filter test (cond b (x ∷ y ∷ ys) (y ∷ insert_by le x ys))) ≡ length (filter test (x ∷ y ∷ ys))
+  count-way true x y ys same = refl
+  count-way false x y ys same = front (test y) y (filter test (insert_by le x ys)) (filter test (x ∷ ys)) same ∙ sym (swap_two (test x) (test y) x y (filter test ys))
+
+  count-insert : (x : VpdRow) (ys : List VpdRow) → length (filter test (insert_by le x ys)) ≡ length (filter test (x ∷ ys))
+  count-insert x [] = refl
+  count-insert x (y ∷ ys) = count-way (le x y) x y ys (count-insert x ys)
+
+  count-sorted : (xs : List VpdRow) → length (filter test (sorted_by le xs)) ≡ length (filter test xs)
+  unfolding sorted_by
+  count-sorted [] = refl
+  count-sorted (x ∷ xs) = count-insert x (sorted_by le xs) ∙ front (test x) x (filter test (sorted_by le xs)) (filter test xs) (count-sorted xs)
+
+filter-two : {X : Type 0} (p q : X → Bool) (xs : List X) → filter q (filter p xs) ≡ filter (λ x. p x && q x) xs
+filter-two p q [] = refl
+filter-two {X} p q (x ∷ xs) = go (p x) (q x) (filter p xs) (filter (λ y. p y && q y) xs) (filter-two p q xs) where
+  go : (b c : Bool) (kept : List X) (all : List X) → filter q kept ≡ all → filter q (cond b (x ∷ kept) kept) ≡ cond (b && q x) (x ∷ all) all
+  go true c kept all h = ap (λ zs. cond (q x) (x ∷ zs) zs) h
+  go false c kept all h = h
+
+filter-none : {X : Type 0} (p : X → Bool) (xs : List X) → list_any p xs ≡ false → length (filter p xs) ≡ 0
+filter-none p [] h = refl
+filter-none p (x ∷ xs) h = go (p x) h (filter-none p xs) where
+  go : (b : Bool) → (b || list_any p xs) ≡ false → (list_any p xs ≡ false → length (filter p xs) ≡ 0) → length (cond b (x ∷ filter p xs) (filter p xs)) ≡ 0
+  go true h others = false-true (sym h)
+  go false h others = others h
+
+-- counts and groups of spots are those of their rows
+count-spots : (p : ℕ) (rows : List VpdRow) → length (filter (λ (o : Spot). nat_lt o.pos p) (map spot_of rows)) ≡ length (filter (λ (o : VpdRow). nat_lt o.pos p) rows)
+count-spots p rows = count-map spot_of (λ (o : Spot). nat_lt o.pos p) rows
+
+group-spots : (place size start : ℕ) (rows : List VpdRow) → list_any (passes place size) (enumerate_from start (map spot_of rows)) ≡ list_any (passes_group place size) (enumerate_from start rows)
+group-spots place size start [] = refl
+group-spots place size start (r ∷ rs) = ap (λ b. passes_group place size (start, r) || b) (group-spots place size (start + 1) rs)
+
+passes-spots : (rows : List VpdRow) (r : VpdRow) → passes_spots (map spot_of rows) r ≡ passes_end rows (length (filter (λ (o : VpdRow). nat_lt o.pos r.pos) rows)) r.grpsize
+passes-spots rows r = rw (count-spots r.pos rows, length-map rows spot_of, take-map spot_of (length (filter (λ (o : VpdRow). nat_lt o.pos r.pos) rows)) rows, group-spots (length (filter (λ (o : VpdRow). nat_lt o.pos r.pos) rows)) r.grpsize 0 (take (length (filter (λ (o : VpdRow). nat_lt o.pos r.pos) rows)) rows)) refl
+
+-- a row that repeats no earlier one stands behind the rows with a smaller POS
+module _ (db : Database) (r : VpdRow) (n : ℕ) where
+  own-place : list_any (λ (o : VpdRow). nat_eq o.tpsd r.tpsd && nat_eq o.pos r.pos) (take n db.vpd) ≡ false → place_of db (take n db.vpd) r ≡ length (filter (λ (o : VpdRow). nat_lt o.pos r.pos) (structure db (pos r.tpsd)))
+  unfolding structure
+  own-place fresh =
+      let less : VpdRow → Bool = λ o. nat_lt o.pos r.pos in
+      let mine : VpdRow → Bool = λ o. int_eq (pos o.tpsd) (pos r.tpsd) in
+      let like : VpdRow → Bool = λ o. nat_eq r.tpsd o.tpsd && nat_eq r.pos o.pos in
+      let none : length (filter like (take n db.vpd)) ≡ 0 =
+      filter-none like (take n db.vpd) (any-agree like (λ (o : VpdRow). nat_eq o.tpsd r.tpsd && nat_eq o.pos r.pos) (λ o. both-same _ _ _ _ (nat_eq_equiv.symm r.tpsd o.tpsd) (nat_eq_equiv.symm r.pos o.pos)) (take n db.vpd) ∙ fresh) in
+      let same : length (filter (λ (o : VpdRow). nat_eq r.tpsd o.tpsd && less o) db.vpd) ≡ length (filter less (sorted_by (λ x y. nat_le x.pos y.pos) (filter mine db.vpd))) =
+      ap length (filter_agree (λ (o : VpdRow). nat_eq r.tpsd o.tpsd && less o) (λ o. mine o && less o) (λ (o : VpdRow). ap (λ b. b && less o) (nat_eq_equiv.symm r.tpsd o.tpsd ∙ same-number o.tpsd r.tpsd)) db.vpd) ∙
+      (ap length (sym (filter-two mine less db.vpd)) ∙ sym (count-sorted less (filter mine db.vpd))) in
+      omega (arith, none, same)
+
+  least-none : (o : Option ℕ) → least o None ≡ o
+  least-none None = refl
+  least-none (Some i) = refl
+
+  none-alike : cut n (alike_in db (row.Vpd r)) ≡ None → list_any (λ (o : VpdRow). nat_eq o.tpsd r.tpsd && nat_eq o.pos r.pos) (take n db.vpd) ≡ false
+  unfolding rows_of same_key
+  none-alike fresh =
+      let like : VpdRow → Bool = λ o. nat_eq o.tpsd r.tpsd && nat_eq o.pos r.pos in
+      let place = least-none (position (has_key (key.Vpd r.tpsd r.pos)) (map row.Vpd db.vpd)) ∙ position-map row.Vpd (has_key (key.Vpd r.tpsd r.pos)) db.vpd in
+      sym (found-any like (take n db.vpd)) ∙ ap is_some (position-take like n db.vpd ∙ (ap (cut n) (sym place) ∙ fresh))
+
+  pub group-ends : cut n (alike_in db (row.Vpd r)) ≡ None → passes_spots (map spot_of (structure db (pos r.tpsd))) r ≡ passes_end (structure db (pos r.tpsd)) (place_of db (take n db.vpd) r) r.grpsize
+  group-ends fresh = passes-spots (structure db (pos r.tpsd)) r ∙ ap (λ k. passes_end (structure db (pos r.tpsd)) k r.grpsize) (sym (own-place (none-alike fresh)))

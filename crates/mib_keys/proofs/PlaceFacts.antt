@@ -1,0 +1,86 @@
+-- The first place of a row among rows that grow.
+use Rattle.std.proofs.Common.{◌≡◌, ℕ, zero, suc, ◌+◌, ◌<◌, ◌≤◌, Bool, true, false, not, cond, ◌||◌, List, [], ◌∷◌, ◌++◌, map, length, get_or, take, drop, filter, Option, Some, None, option_map, refl, sym, ap, ◌∙◌, subst, nat_lt, nat_eq, arith, length-append}
+use Rattle.std.proofs.lemmas.Bool.{ltb-true, ltb-false, lt-ltb, le-ltb}
+use Rattle.std.proofs.lemmas.List.{map_more, length-map, length-take-le}
+use Rattle.std.specs.List.{position, prefix_len, list_any}
+use Rattle.mib_model.specs.Match.{first_of_two}
+use Rattle.mib_keys.specs.Indexes.{some_if}
+
+pub below_one_more : (n m : ℕ) → nat_lt (1 + n) (suc m) ≡ nat_lt n m
+below_one_more n m = go (nat_lt n m) refl where
+  go : (b : Bool) → nat_lt n m ≡ b → nat_lt (1 + n) (suc m) ≡ b
+  go true h = lt-ltb (1 + n) (suc m) (let l = ltb-true n m h in omega arith)
+  go false h = le-ltb (1 + n) (suc m) (let l = ltb-false n m h in omega arith)
+
+-- the first place by recursion
+pub position-cons : {X : Type 0} (p : X → Bool) (x : X) (xs : List X) → position p (x ∷ xs) ≡ cond (p x) (Some 0) (option_map (λ i. i + 1) (position p xs))
+position-cons {X} p x xs = go (p x) where
+  later : (n m : ℕ) (b : Bool) → cond b (Some (1 + n)) None ≡ option_map (λ i. i + 1) (cond b (Some n) None)
+  later n m true = let e : 1 + n ≡ n + 1 = omega arith in ap Some e
+  later n m false = refl
+
+  go : (b : Bool) → cond (nat_lt (cond (not b) (1 + prefix_len (λ y. not (p y)) xs) 0) (suc (length xs))) (Some (cond (not b) (1 + prefix_len (λ y. not (p y)) xs) 0)) None ≡ cond b (Some 0) (option_map (λ i. i + 1) (position p xs))
+  go true = let e : nat_lt 0 (suc (length xs)) ≡ true = lt-ltb 0 (suc (length xs)) (omega arith) in rw e refl
+  go false = rw (below_one_more (prefix_len (λ y. not (p y)) xs) (length xs)) (later (prefix_len (λ y. not (p y)) xs) (length xs) (nat_lt (prefix_len (λ y. not (p y)) xs) (length xs)))
+
+-- of one more item
+pub position-push : {X : Type 0} (p : X → Bool) (xs : List X) (y : X) → position p (xs ++ y ∷ []) ≡ first_of_two (position p xs) (some_if (p y) (length xs))
+position-push p [] y = position-cons p y [] ∙ go (p y) where
+  go : (b : Bool) → cond b (Some 0) None ≡ some_if b 0
+  go true = refl
+  go false = refl
+position-push p (x ∷ xs) y = position-cons p x (xs ++ y ∷ []) ∙ (ap (λ o. cond (p x) (Some 0) (option_map (λ i. i + 1) o)) (position-push p xs y) ∙ (go (p x) (position p xs) (p y) ∙ ap (λ o. first_of_two o (some_if (p y) (suc (length xs)))) (sym (position-cons p x xs)))) where
+  go : (b : Bool) (o : Option ℕ) (c : Bool) → cond b (Some 0) (option_map (λ i. i + 1) (first_of_two o (some_if c (length xs)))) ≡ first_of_two (cond b (Some 0) (option_map (λ i. i + 1) o)) (some_if c (suc (length xs)))
+  go true o c = refl
+  go false (Some i) c = refl
+  go false None true = let e : length xs + 1 ≡ suc (length xs) = omega arith in ap Some e
+  go false None false = refl
+
+pub first-assoc : {A : Type 0} (a b c : Option A) → first_of_two (first_of_two a b) c ≡ first_of_two a (first_of_two b c)
+first-assoc None b c = refl
+first-assoc (Some x) b c = refl
+
+-- a count is at most the number of items
+few-way : {X : Type 0} (b : Bool) (x : X) (kept xs : List X) → length kept ≤ length xs → length (cond b (x ∷ kept) kept) ≤ suc (length xs)
+few-way true x kept xs h = omega arith
+few-way false x kept xs h = omega arith
+
+pub filter-few : {X : Type 0} (p : X → Bool) (xs : List X) → length (filter p xs) ≤ length xs
+filter-few p [] = omega arith
+filter-few p (x ∷ xs) = few-way (p x) x (filter p xs) xs (filter-few p xs)
+
+pub count-push : {X : Type 0} (p : X → Bool) (xs : List X) (y : X) → length (filter p (xs ++ y ∷ [])) ≡ (cond (p y) (length (filter p xs) + 1) (length (filter p xs)))
+count-push p [] y = go (p y) where
+  go : (b : Bool) → length (cond b (y ∷ []) []) ≡ cond b 1 0
+  go true = refl
+  go false = refl
+count-push p (x ∷ xs) y = go (p x) (p y) (count-push p xs y) where
+  go : (b c : Bool) → length (filter p (xs ++ y ∷ [])) ≡ cond c (length (filter p xs) + 1) (length (filter p xs)) → length (cond b (x ∷ filter p (xs ++ y ∷ [])) (filter p (xs ++ y ∷ []))) ≡ cond c (length (cond b (x ∷ filter p xs) (filter p xs)) + 1) (length (cond b (x ∷ filter p xs) (filter p xs)))
+  go true true h = omega arith
+  go true false h = omega arith
+  go false true h = h
+  go false false h = h
+
+-- items read one by one through a function
+module _ {A X : Type 0} (f : A → X) (rows : List A) (i : ℕ) (row : A) where
+  taken-more : i < length rows → row ≡ get_or rows i row → map f (take (i + 1) rows) ≡ map f (take i rows) ++ f row ∷ []
+  taken-more below is = map_more f rows i row below ∙ ap (λ (x : A). map f (take i rows) ++ f x ∷ []) (sym is)
+
+  taken-long : i < length rows → length (map f (take i rows)) ≡ i
+  taken-long below = length-map (take i rows) f ∙ length-take-le i rows (omega (arith, below))
+
+  pub position-more : (p : X → Bool) → i < length rows → row ≡ get_or rows i row → position p (map f (take (i + 1) rows)) ≡ first_of_two (position p (map f (take i rows))) (some_if (p (f row)) i)
+  position-more p below is = ap (position p) (taken-more below is) ∙ (position-push p (map f (take i rows)) (f row) ∙ ap (λ n. first_of_two (position p (map f (take i rows))) (some_if (p (f row)) n)) (taken-long below))
+
+  pub count-more : (p : X → Bool) → i < length rows → row ≡ get_or rows i row → length (filter p (map f (take (i + 1) rows))) ≡ cond (p (f row)) (length (filter p (map f (take i rows))) + 1) (length (filter p (map f (take i rows))))
+  count-more p below is = ap (λ xs. length (filter p xs)) (taken-more below is) ∙ count-push p (map f (take i rows)) (f row)
+
+  pub count-below : (p : X → Bool) → i < length rows → length (filter p (map f (take i rows))) ≤ i
+  count-below p below = subst (λ n. length (filter p (map f (take i rows))) ≤ n) (taken-long below) (filter-few p (map f (take i rows)))
+
+-- one more place noted behind those that are there
+pub noted-more : (new so_far old before after : Option ℕ) (here holds : Bool) (i : ℕ) → new ≡ first_of_two so_far (some_if here i) → so_far ≡ first_of_two old before → here ≡ holds → after ≡ first_of_two before (some_if holds i) → new ≡ first_of_two old after
+noted-more new so_far old before after here holds i step behind same more =
+    step ∙ (ap (λ o. first_of_two o (some_if here i)) behind ∙ (first-assoc old before (some_if here i) ∙ (ap (λ b. first_of_two old (first_of_two before (some_if b i))) same ∙ ap (first_of_two old) (sym more))))
+
+pub ruleset few = (filter-few)

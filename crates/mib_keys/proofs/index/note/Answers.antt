@@ -1,0 +1,16 @@
+use Rattle.std.proofs.Common.{◌≡◌, ap, ◌∙◌, sym, take, Bool, refl}
+use Rattle.std.specs.Arc.{arc_value}
+use Rattle.std.specs.BTreeMap.{get}
+use Rattle.mib_model.specs.declared.rows.Row.{Row}
+use Rattle.mib_model.specs.Match.{first_of_two}
+use Rattle.mib_tables.specs.Shelves.{values_in}
+use Rattle.mib_keys.specs.Indexes.{has_by, first_place, some_if}
+use Rattle.mib_keys.proofs.PlaceFacts.{noted-more, position-more}
+use Rattle.mib_keys.proofs.index.note.Goals as goal
+
+pub loop-place-preserved : goal.loop-place-preserved
+loop-place-preserved g c = λ q.
+    let p : Row → Bool = λ row. has_by g.B.Key.Ord.cmp q (g.B.By.key c.args.by.now row) in
+    let more = position-more arc_value c.args.rows.now c.loop-place.place c.index-rows-place.result p c.loop-place-test.true c.index-rows-place.is in
+    let key = c.key.ensures ∙ ap (g.B.By.key c.args.by.now) c.deref.ensures in
+    noted-more _ _ _ _ _ _ _ c.loop-place.place (c.in_ok-note_key.ensures q) (c.loop-place.invariant q) (ap (has_by g.B.Key.Ord.cmp q) key) more

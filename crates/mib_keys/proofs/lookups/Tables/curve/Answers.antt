@@ -1,0 +1,16 @@
+use Rattle.std.proofs.Common.{◌∙◌, refl, Some, None}
+use Rattle.mib_model.specs.DatabaseTexts.{as_caf}
+use Rattle.mib_model.specs.declared.key.Key.TheVariants as key
+use Rattle.mib_model.specs.declared.rows.Row.TheVariants as row
+use Rattle.mib_model.specs.Drafts.{rows_of}
+use Rattle.mib_model.specs.Keys.{has_key, same_key}
+use Rattle.mib_keys.proofs.LookupFacts.{found-own}
+use Rattle.mib_keys.proofs.lookups.Tables.curve.Goals as goal
+
+pub returns-in-Some : goal.returns-in-Some
+unfolding rows_of same_key
+returns-in-Some c = c.caf_row.ensures ∙ found-own row.Caf as_caf (λ r. refl) (has_key (key.Caf c.args.numbr)) c.args.self.now.book.now.caf (Some c.in-Some.row.now) c.in-Some.ensures
+
+pub returns-in-None : goal.returns-in-None
+unfolding rows_of same_key
+returns-in-None c = found-own row.Caf as_caf (λ r. refl) (has_key (key.Caf c.args.numbr)) c.args.self.now.book.now.caf None c.in-None.ensures
