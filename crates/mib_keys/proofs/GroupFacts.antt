@@ -12,7 +12,7 @@ use Rattle.mib_model.specs.declared.rows.Row.TheVariants as row
 use Rattle.mib_model.specs.declared.rows.VpdRow.{VpdRow}
 use Rattle.mib_model.specs.GroupFlaws.{place_of, passes_end, passes_group}
 use Rattle.mib_model.specs.Orders.{insert_by, sorted_by}
-use Rattle.mib_model.specs.Walk.{structure}
+use Rattle.mib_model.specs.Structures.{structure}
 use Rattle.mib_keys.specs.declared.groups.Spot.{Spot}
 use Rattle.mib_keys.specs.Structures.{spot_of, by_pos, spots_from, with_row, passes, passes_some, passes_spots}
 use Rattle.std.proofs.lemmas.List.{length-map, take-map}

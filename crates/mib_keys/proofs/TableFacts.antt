@@ -14,11 +14,29 @@ use Rattle.mib_model.specs.Kinds.{kinds}
 use Rattle.mib_model.specs.Match.{first_of_two}
 use Rattle.mib_model.specs.RowTexts.{kind_in}
 use Rattle.mib_tables.specs.Kinds.{kind_of_key}
-use Rattle.mib_tables.proofs.KindFacts.{same_by_name, same_kind_itself, kind_of_its_key}
+use Rattle.mib_tables.proofs.KindFacts.{same_by_name, same_kind_itself}
 use Rattle.mib_keys.specs.Indexes.{first_place}
 use Rattle.mib_keys.specs.Known.{key_cmp}
 use Rattle.mib_keys.proofs.KeyFacts.{same-by_order, one-table, false-true}
 use Rattle.mib_keys.proofs.PlaceFacts.{position-cons, first-assoc}
+
+-- the kind of a row's key is the kind of the row
+kind_of_its_key : (r : Row) → kind_of_key (key_in r) ≡ kind_in r
+kind_of_its_key (row.Pcf r) = refl
+kind_of_its_key (row.Pid r) = refl
+kind_of_its_key (row.Pic r) = refl
+kind_of_its_key (row.Tpcf r) = refl
+kind_of_its_key (row.Plf r) = refl
+kind_of_its_key (row.Vpd r) = refl
+kind_of_its_key (row.Cur r) = refl
+kind_of_its_key (row.Caf r) = refl
+kind_of_its_key (row.Cap r) = refl
+kind_of_its_key (row.Txf r) = refl
+kind_of_its_key (row.Txp r) = refl
+kind_of_its_key (row.Mcf r) = refl
+kind_of_its_key (row.Lgf r) = refl
+kind_of_its_key (row.Ocf r) = refl
+kind_of_its_key (row.Ocp r) = refl
 
 pub position-agree : {X : Type 0} (p q : X → Bool) → ((x : X) → p x ≡ q x) → (xs : List X) → position p xs ≡ position q xs
 position-agree p q same [] = refl

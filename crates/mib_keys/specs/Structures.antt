@@ -10,7 +10,7 @@ use Rattle.mib_model.specs.declared.rows.Row.{Row}
 use Rattle.mib_model.specs.declared.rows.Row.TheVariants as row
 use Rattle.mib_model.specs.declared.rows.VpdRow.{VpdRow}
 use Rattle.mib_model.specs.Orders.{insert_by}
-use Rattle.mib_model.specs.Walk.{structure}
+use Rattle.mib_model.specs.Structures.{structure}
 use Rattle.mib_keys.specs.declared.groups.Spot.{Spot}
 
 -- what the groups of a structure are told by

@@ -179,7 +179,7 @@ fn counts(row: Option<&PcfRow>) -> bool
 {
     match row {
         Some(row) => match encoding(row) {
-            Some((sort, _)) => has_number(sort),
+            Some(shape) => has_number(shape.sort()),
             None => false,
         },
         None => false,

@@ -6,7 +6,7 @@ ghost use Rattle.mib_model.specs.Curves.{is_real_format};
 ghost use Rattle.mib_model.specs.Parameters.{parameter, is_measured, parameter_encoding};
 ghost use Rattle.mib_model.specs.References.{has_parameter, has_structure, has_curve, if_given};
 ghost use Rattle.mib_model.specs.RowFlaws.{pcf_rules, pid_rules, plf_rules, cur_rules, caf_rules, ocf_rules, ocp_rules, has_selections, is_narrow, is_measured_deduced, has_curve_of};
-ghost use Rattle.mib_model.specs.Walk.{is_deduced};
+ghost use Rattle.mib_model.specs.Structures.{is_deduced};
 ghost use Rattle.mib_keys.specs.Firsts.{flaw_by};
 ghost use Rattle.mib_keys.specs.Known.{Known};
 
@@ -70,7 +70,7 @@ fn is_narrow(row: &PcfRow) -> bool
     ensures { result ≡ is_narrow row.now.width (parameter_encoding row.now) }
 {
     match encoding(row) {
-        Some((_, width)) => row.width != 0 && row.width < u32::from(width),
+        Some(shape) => row.width != 0 && row.width < u32::from(shape.width()),
         None => false,
     }
 }

@@ -1,6 +1,6 @@
 use Rattle.std.proofs.Common.{◌≡◌, ◌∙◌, ◌-◌, ap, take, pos}
 use Rattle.mib_model.specs.GroupFlaws.{place_of, passes_end}
-use Rattle.mib_model.specs.Walk.{structure}
+use Rattle.mib_model.specs.Structures.{structure}
 use Rattle.mib_keys.specs.Structures.{passes_spots}
 use Rattle.mib_keys.proofs.GroupFacts.{group-ends}
 use Rattle.mib_keys.proofs.groups.is_bad_group.Goals as goal
