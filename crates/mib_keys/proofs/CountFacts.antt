@@ -1,5 +1,5 @@
 -- How many rows have a column, and where packets of a kind stand.
-use Rattle.std.proofs.Common.{◌≡◌, ℕ, Bool, true, false, ◌&&◌, List, map, length, filter, Option, Some, None, refl, sym, ap, ◌∙◌, nat_eq}
+use Rattle.std.proofs.Common.{◌≡◌, ℕ, Bool, true, false, ◌&&◌, List, length, filter, refl, ap, ◌∙◌, nat_eq}
 use Rattle.std.proofs.lemmas.List.Elements.{filter_agree}
 use Rattle.std.specs.List.{position}
 use Rattle.std.specs.Ordering.{is_eq, nat_cmp}
@@ -9,7 +9,6 @@ use Rattle.mib_model.specs.declared.database.Database.{Database}
 use Rattle.mib_model.specs.declared.kind.Kind.TheVariants as kind
 use Rattle.mib_model.specs.declared.rows.CapRow.{CapRow}
 use Rattle.mib_model.specs.declared.rows.CurRow.{CurRow}
-use Rattle.mib_model.specs.declared.rows.PidRow.{PidRow}
 use Rattle.mib_model.specs.declared.rows.VpdRow.{VpdRow}
 use Rattle.mib_model.specs.declared.rows.Row.TheVariants as row
 use Rattle.mib_model.specs.Drafts.{rows_of}

@@ -1,7 +1,5 @@
 -- The first flaw of all tables is the one that is looked for table by table and row by row.
-use Rattle.std.proofs.Common.{◌≡◌, ℕ, suc, ◌+◌, ◌-◌, ◌<◌, ◌≤◌, min, Bool, true, false, cond, ◌||◌, ◌&&◌, List, [], ◌∷◌, ◌++◌, map, take, drop, length, get_or, filter_map, Option, Some, None, option_map, refl, sym, ap, ◌∙◌, subst, nat_eq, arith}
-use Rattle.std.proofs.lemmas.List.{take_more, take_all}
-use Rattle.std.proofs.Math.Seq.{drop-cons}
+use Rattle.std.proofs.Common.{◌≡◌, ℕ, ◌+◌, ◌-◌, min, Bool, true, false, cond, ◌||◌, List, [], ◌∷◌, ◌++◌, map, take, drop, filter_map, Option, Some, None, option_map, refl, sym, ap, ◌∙◌, nat_eq, arith}
 use Rattle.std.specs.Cmp.{nat_eq_equiv}
 use Rattle.std.specs.List.{position, flat_map, cons_option, enumerate_from}
 use Rattle.std.specs.Option.{option_or}
@@ -35,9 +33,9 @@ use Rattle.mib_model.specs.Keys.{key_in, has_key, same_key}
 use Rattle.mib_model.specs.Kinds.{kinds}
 use Rattle.mib_model.specs.Points.{first_of}
 use Rattle.mib_model.specs.RowFlaws.{same_packet, pcf_rules, pid_rules, plf_rules, cur_rules, caf_rules, cap_rules, txp_rules, ocf_rules, ocp_rules}
-use Rattle.mib_model.specs.Soundness.{IsSound, flaws, first_flaw}
+use Rattle.mib_model.specs.Soundness.{flaws, first_flaw}
 use Rattle.mib_keys.specs.Columns.{packet_of}
-use Rattle.mib_keys.specs.Firsts.{is_packet, first_from, flaw_by, alike_in, least, twice_at, flaw_in, first_in, first_over}
+use Rattle.mib_keys.specs.Firsts.{is_packet, first_from, flaw_by, least, twice_at, flaw_in, first_in, first_over}
 use Rattle.mib_keys.specs.Indexes.{cut}
 use Rattle.mib_keys.proofs.KeyFacts.{same-flip}
 use Rattle.mib_keys.proofs.LookupFacts.{position-map}
@@ -96,15 +94,15 @@ position-or p q [] = refl
 position-or p q (x ∷ xs) =
     position-cons (λ y. p y || q y) x xs ∙ (ap (λ o. cond (p x || q x) (Some 0) (option_map (λ i. i + 1) o)) (position-or p q xs) ∙
     (go (p x) (q x) (position p xs) (position q xs) ∙ (ap (λ o. least o (cond (q x) (Some 0) (option_map (λ i. i + 1) (position q xs)))) (sym (position-cons p x xs)) ∙ ap (least (position p (x ∷ xs))) (sym (position-cons q x xs))))) where
-  go : (b c : Bool) (o u : Option ℕ) → cond (b || c) (Some 0) (option_map (λ i. i + 1) (least o u)) ≡ least (cond b (Some 0) (option_map (λ i. i + 1) o)) (cond c (Some 0) (option_map (λ i. i + 1) u))
-  go true true o u = let e : 0 ≡ min 0 0 = omega arith in ap Some e
-  go true false o None = refl
-  go true false o (Some j) = let e : 0 ≡ min 0 (j + 1) = omega arith in ap Some e
-  go false true None u = refl
-  go false true (Some i) u = let e : 0 ≡ min (i + 1) 0 = omega arith in ap Some e
-  go false false None u = refl
-  go false false (Some i) None = refl
-  go false false (Some i) (Some j) = let e : min i j + 1 ≡ min (i + 1) (j + 1) = omega arith in ap Some e
+      go : (b c : Bool) (o u : Option ℕ) → cond (b || c) (Some 0) (option_map (λ i. i + 1) (least o u)) ≡ least (cond b (Some 0) (option_map (λ i. i + 1) o)) (cond c (Some 0) (option_map (λ i. i + 1) u))
+      go true true o u = let e : 0 ≡ min 0 0 = omega arith in ap Some e
+      go true false o None = refl
+      go true false o (Some j) = let e : 0 ≡ min 0 (j + 1) = omega arith in ap Some e
+      go false true None u = refl
+      go false true (Some i) u = let e : 0 ≡ min (i + 1) 0 = omega arith in ap Some e
+      go false false None u = refl
+      go false false (Some i) None = refl
+      go false false (Some i) (Some j) = let e : min i j + 1 ≡ min (i + 1) (j + 1) = omega arith in ap Some e
 
 packet-split : (n m : ℕ) (all : List PidRow) (r : PidRow) → option_map (fault_of kind.Pid n) (twice_by same_packet (take m all) r) ≡ option_map (twice_at kind.Pid n) (cut m (least (position (has_key (key.Pid r.spid)) (map row.Pid all)) (position (is_packet (packet_of r)) all)))
 unfolding same_key

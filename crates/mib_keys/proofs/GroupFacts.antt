@@ -1,20 +1,19 @@
 -- Rows of structures by POS: where a row goes, what is noted of a structure, and the groups around a place.
-use Rattle.std.proofs.Common.{◌≡◌, ◌≢◌, ℕ, zero, suc, ◌+◌, ◌-◌, ◌<◌, ◌≤◌, pos, Bool, true, false, not, cond, ◌&&◌, ◌||◌, List, [], ◌∷◌, ◌++◌, map, take, drop, length, filter, get_or, Option, Some, None, option_map, unwrap_or, is_some, refl, sym, ap, ◌∙◌, subst, nat_eq, nat_lt, nat_le, count_by, add-zero, arith}
-use Rattle.std.proofs.lemmas.Bool.{ltb-true, ltb-false, lt-ltb, le-ltb}
-use Rattle.std.proofs.lemmas.List.{take_more, length-take-le, length_push}
+use Rattle.std.proofs.Common.{◌≡◌, ℕ, suc, ◌+◌, ◌<◌, pos, Bool, true, false, not, cond, ◌&&◌, ◌||◌, List, [], ◌∷◌, ◌++◌, map, take, length, filter, get_or, Option, Some, None, unwrap_or, is_some, refl, sym, ap, ◌∙◌, nat_eq, nat_lt, nat_le, arith}
+use Rattle.std.proofs.lemmas.Bool.{ltb-false}
+use Rattle.std.proofs.lemmas.List.{take_more, length-take-le}
 use Rattle.std.proofs.lemmas.List.Elements.{filter_agree}
 use Rattle.std.proofs.lemmas.List.Sums.{prefix_len-le-length}
-use Rattle.std.specs.List.{position, position_or_len, prefix_len, list_any, enumerate_from, insert}
+use Rattle.std.specs.List.{position, position_or_len, list_any, enumerate_from, insert}
 use Rattle.std.specs.Ordering.{int_eq}
 use Rattle.mib_model.specs.declared.database.Database.{Database}
-use Rattle.mib_model.specs.declared.rows.Row.{Row}
 use Rattle.mib_model.specs.declared.rows.Row.TheVariants as row
 use Rattle.mib_model.specs.declared.rows.VpdRow.{VpdRow}
 use Rattle.mib_model.specs.GroupFlaws.{place_of, passes_end, passes_group}
 use Rattle.mib_model.specs.Orders.{insert_by, sorted_by}
 use Rattle.mib_model.specs.Structures.{structure}
 use Rattle.mib_keys.specs.declared.groups.Spot.{Spot}
-use Rattle.mib_keys.specs.Structures.{spot_of, by_pos, spots_from, with_row, passes, passes_some, passes_spots}
+use Rattle.mib_keys.specs.Structures.{spot_of, by_pos, spots_from, passes, passes_spots}
 use Rattle.std.proofs.lemmas.List.{length-map, take-map}
 use Rattle.std.specs.Cmp.{nat_eq_equiv}
 use Rattle.mib_model.specs.declared.key.Key.TheVariants as key
@@ -51,9 +50,9 @@ any-more p start [] x = (let e : start + 0 ≡ start = omega arith in last (p (s
 any-more p start (y ∷ ys) x =
     ap (λ b. p (start, y) || b) (any-more p (start + 1) ys x) ∙ (assoc (p (start, y)) (list_any p (enumerate_from (start + 1) ys)) (p (start + 1 + length ys, x)) ∙
     (let e : start + 1 + length ys ≡ start + suc (length ys) = omega arith in ap (λ n. p (start, y) || list_any p (enumerate_from (start + 1) ys) || p (n, x)) e)) where
-  assoc : (a b c : Bool) → (a || (b || c)) ≡ (a || b || c)
-  assoc true b c = refl
-  assoc false b c = refl
+      assoc : (a b c : Bool) → (a || (b || c)) ≡ (a || b || c)
+      assoc true b c = refl
+      assoc false b c = refl
 
 pub any-next : {X : Type 0} (p : ℕ × X → Bool) (xs : List X) (i : ℕ) (d : X) → i < length xs → list_any p (enumerate_from 0 (take (i + 1) xs)) ≡ (list_any p (enumerate_from 0 (take i xs)) || p (i, get_or xs i d))
 any-next p xs i d below =

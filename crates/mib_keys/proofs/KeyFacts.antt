@@ -1,5 +1,5 @@
 -- The order of keys tells them apart as `same_key` does, and keys that are the same are of one table.
-use Rattle.std.proofs.Common.{◌≡◌, ◌≢◌, ℕ, Bool, true, false, cond, ◌&&◌, List, [], ◌∷◌, ◌++◌, map, Option, Some, None, refl, sym, ap, ◌∙◌, subst, nat_eq}
+use Rattle.std.proofs.Common.{◌≡◌, ℕ, Bool, true, false, cond, ◌&&◌, List, Option, Some, None, refl, sym, ap, ◌∙◌, subst, nat_eq}
 use Rattle.std.specs.Ordering.{is_eq, nat_cmp, ordering_then}
 use Rattle.std.specs.declared.cmp.Ordering.{Ordering}
 use Rattle.std.specs.declared.cmp.Ordering.TheVariants.{Less, Equal, Greater}
@@ -12,7 +12,6 @@ use Rattle.mib_model.specs.declared.key.Key.TheVariants as key
 use Rattle.mib_model.specs.Keys.{same_key}
 use Rattle.mib_keys.specs.Known.{key_cmp}
 use Rattle.mib_tables.specs.Kinds.{kind_of_key}
-
 
 -- two tests in a row
 pub then-eq : (a b : Ordering) (p q : Bool) → is_eq a ≡ p → is_eq b ≡ q → is_eq (ordering_then a b) ≡ (p && q)

@@ -1,5 +1,5 @@
 -- From rows of any table to the rows of one: what is found among the first is found among the second.
-use Rattle.std.proofs.Common.{◌≡◌, ℕ, suc, ◌+◌, ◌<◌, Bool, true, false, cond, ◌||◌, ◌&&◌, List, [], ◌∷◌, map, length, filter, take, Option, Some, None, option_map, is_some, refl, sym, ap, ◌∙◌, nat_eq, arith}
+use Rattle.std.proofs.Common.{◌≡◌, ℕ, suc, ◌+◌, Bool, true, false, cond, ◌||◌, List, [], ◌∷◌, map, length, filter, Option, Some, None, option_map, is_some, refl, sym, ap, ◌∙◌, arith}
 use Rattle.std.specs.List.{position, list_any, find, slice_get}
 use Rattle.std.specs.Option.{option_and_then}
 use Rattle.mib_keys.proofs.PlaceFacts.{position-cons}

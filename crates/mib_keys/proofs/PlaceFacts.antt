@@ -1,8 +1,8 @@
 -- The first place of a row among rows that grow.
-use Rattle.std.proofs.Common.{◌≡◌, ℕ, zero, suc, ◌+◌, ◌<◌, ◌≤◌, Bool, true, false, not, cond, ◌||◌, List, [], ◌∷◌, ◌++◌, map, length, get_or, take, drop, filter, Option, Some, None, option_map, refl, sym, ap, ◌∙◌, subst, nat_lt, nat_eq, arith, length-append}
+use Rattle.std.proofs.Common.{◌≡◌, ℕ, suc, ◌+◌, ◌<◌, ◌≤◌, Bool, true, false, not, cond, List, [], ◌∷◌, ◌++◌, map, length, get_or, take, filter, Option, Some, None, option_map, refl, sym, ap, ◌∙◌, subst, nat_lt, arith}
 use Rattle.std.proofs.lemmas.Bool.{ltb-true, ltb-false, lt-ltb, le-ltb}
 use Rattle.std.proofs.lemmas.List.{map_more, length-map, length-take-le}
-use Rattle.std.specs.List.{position, prefix_len, list_any}
+use Rattle.std.specs.List.{position, prefix_len}
 use Rattle.mib_model.specs.Match.{first_of_two}
 use Rattle.mib_keys.specs.Indexes.{some_if}
 

@@ -1,10 +1,8 @@
 -- Points that stand twice, by what is noted of them.
-use Rattle.std.proofs.Common.{◌≡◌, ℕ, zero, suc, ◌+◌, ◌-◌, ◌<◌, ℤ, Bool, true, false, cond, not, ◌&&◌, ◌||◌, List, [], ◌∷◌, map, take, Option, Some, None, option_map, is_some, refl, sym, ap, ◌∙◌, subst, nat_lt, arith}
-use Rattle.std.proofs.lemmas.Bool.{ltb-true, ltb-false, lt-ltb, le-ltb}
-use Rattle.std.proofs.lemmas.List.{take-map}
+use Rattle.std.proofs.Common.{◌≡◌, ℕ, zero, suc, ◌+◌, ◌-◌, ℤ, Bool, true, false, cond, not, ◌&&◌, List, [], ◌∷◌, take, Option, Some, None, option_map, is_some, refl, sym, ap, ◌∙◌, nat_lt, arith}
+use Rattle.std.proofs.lemmas.Bool.{lt-ltb, le-ltb}
 use Rattle.std.proofs.lemmas.Slice.Eq.{bytes_eq-Decides}
-
-use Rattle.std.specs.List.{position, list_any, find}
+use Rattle.std.specs.List.{position, find}
 use Rattle.std.specs.Option.{option_eq}
 use Rattle.std.specs.Ordering.{is_eq, int_cmp, int_eq}
 use Rattle.std.specs.Str.{bytes_eq}
@@ -20,7 +18,7 @@ use Rattle.mib_model.specs.WholeNumbers.{whole_number}
 use Rattle.mib_keys.specs.declared.maps.PointKey.{PointKey}
 use Rattle.mib_keys.specs.Indexes.{has_by, first_place, cut}
 use Rattle.mib_keys.specs.Known.{name_cmp}
-use Rattle.mib_keys.specs.Points.{ArePoints, point_cmp, point_at, point_of, point_in, repeats, is_repeated_point}
+use Rattle.mib_keys.specs.Points.{point_cmp, point_at, point_of, point_in, repeats, is_repeated_point}
 use Rattle.mib_keys.proofs.AnyFacts.{any-agree}
 use Rattle.mib_keys.proofs.KeyFacts.{then-eq, name-eq}
 use Rattle.mib_keys.proofs.LookupFacts.{position-map, found-any}
@@ -35,15 +33,16 @@ position-take p zero xs = sym (none (position p xs)) where
 position-take p (suc n) [] = refl
 position-take p (suc n) (x ∷ xs) =
     position-cons p x (take n xs) ∙ (ap (λ o. cond (p x) (Some 0) (option_map (λ i. i + 1) o)) (position-take p n xs) ∙ (go (p x) (position p xs) ∙ ap (cut (suc n)) (sym (position-cons p x xs)))) where
-  go : (b : Bool) (o : Option ℕ) → cond b (Some 0) (option_map (λ i. i + 1) (cut n o)) ≡ cut (suc n) (cond b (Some 0) (option_map (λ i. i + 1) o))
-  go true o = let e : nat_lt 0 (suc n) ≡ true = lt-ltb 0 (suc n) (omega arith) in sym (ap (λ b. cond b (Some 0) None) e)
-  go false None = refl
-  go false (Some i) = put (nat_lt i n) ∙ ap (λ b. cond b (Some (i + 1)) None) (sym same) where
-    put : (b : Bool) → option_map (λ k. k + 1) (cond b (Some i) None) ≡ cond b (Some (i + 1)) None
-    put true = refl
-    put false = refl
-    same : nat_lt (i + 1) (suc n) ≡ nat_lt i n
-    same = (let e : i + 1 ≡ 1 + i = omega arith in ap (λ k. nat_lt k (suc n)) e) ∙ below_one_more i n
+      go : (b : Bool) (o : Option ℕ) → cond b (Some 0) (option_map (λ i. i + 1) (cut n o)) ≡ cut (suc n) (cond b (Some 0) (option_map (λ i. i + 1) o))
+      go true o = let e : nat_lt 0 (suc n) ≡ true = lt-ltb 0 (suc n) (omega arith) in sym (ap (λ b. cond b (Some 0) None) e)
+      go false None = refl
+      go false (Some i) = put (nat_lt i n) ∙ ap (λ b. cond b (Some (i + 1)) None) (sym same) where
+        put : (b : Bool) → option_map (λ k. k + 1) (cond b (Some i) None) ≡ cond b (Some (i + 1)) None
+        put true = refl
+        put false = refl
+
+        same : nat_lt (i + 1) (suc n) ≡ nat_lt i n
+        same = (let e : i + 1 ≡ 1 + i = omega arith in ap (λ k. nat_lt k (suc n)) e) ∙ below_one_more i n
 
 both-eq : (p q : PointKey) → is_eq (point_cmp p q) ≡ (bytes_eq p.numbr q.numbr && int_eq p.x q.x)
 both-eq p q = then-eq (name_cmp p.numbr q.numbr) (int_cmp p.x q.x) _ _ (name-eq p.numbr q.numbr) refl

@@ -9,9 +9,7 @@ use Rattle.mib_model.specs.declared.kind.Kind.TheVariants as kind
 use Rattle.mib_model.specs.declared.rows.PidRow.{PidRow}
 use Rattle.mib_model.specs.declared.rows.Row.{Row}
 use Rattle.mib_model.specs.declared.rows.Row.TheVariants as row
-use Rattle.mib_model.specs.declared.shape.Sort.{Sort}
 use Rattle.mib_model.specs.Drafts.{rows_of}
-use Rattle.mib_model.specs.Encodings.{Encoding}
 use Rattle.mib_model.specs.Flaws.{Rule, fault_of}
 use Rattle.mib_model.specs.GroupFlaws.{vpd_rules}
 use Rattle.mib_model.specs.Keys.{key_in, has_key}
@@ -26,10 +24,6 @@ use Rattle.mib_keys.specs.Indexes.{cut}
 abbrev pub is_packet : PacketKey → PidRow → Bool
 is_packet k y =
     (k.apid == y.apid) && (k.service == y.service) && (k.subtype == y.subtype) && (k.pi1_val == y.pi1_val) && (k.pi2_val == y.pi2_val)
-
--- the sort and the width of an encoding
-abbrev pub sort_and_width : Encoding → Sort × ℕ
-sort_and_width e = (e.sort, e.width)
 
 -- the first of some answers that is there
 abbrev pub first_from : {A : Type 0} → Option A → List (Option A) → Option A

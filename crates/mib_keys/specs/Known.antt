@@ -1,5 +1,5 @@
 -- What the maps say of a database. [This profile.]
-use Rattle.std.specs.Prelude.{◌≡◌, ℕ, List, Option, unwrap_or}
+use Rattle.std.specs.Prelude.{◌≡◌, ℕ, List, unwrap_or}
 use Rattle.std.specs.BTreeMap.{get}
 use Rattle.std.specs.Cmp.Lexicographic.{slice_cmp}
 use Rattle.std.specs.Ordering.{nat_cmp, ordering_then}

@@ -81,7 +81,11 @@ fn point_in(tables: &Tables<'_>, row: &Row) -> Option<PointKey>
 }
 
 /// The first place of each point.
-pub fn points(alloc: Global, tables: &Tables<'_>, rows: &[Arc<Row>]) -> Result<BTreeMap<PointKey, u32>, AllocError>
+pub fn points(
+    alloc: Global,
+    tables: &Tables<'_>,
+    rows: &[Arc<Row>],
+) -> Result<BTreeMap<PointKey, u32>, AllocError>
     requires known { Known tables.now.maps.now tables.now.book.now }
     requires few { length rows.now ≤ 1000000000 }
     ensures { IfOk result (λ points. (q : PointKey) → get point_cmp points q ≡ first_place point_cmp (point_in tables.now.book.now) (values_in rows.now) q) }

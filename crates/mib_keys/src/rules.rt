@@ -13,7 +13,9 @@ ghost use Rattle.mib_keys.specs.Known.{Known};
 use crate::flaw::At;
 use crate::lookups::Tables;
 use crate::types::encoding;
-use mib_model::{CafRow, CurRow, Kind, MibCode, MibFault, Name, OcfRow, OcpRow, PcfRow, PidRow, PlfRow};
+use mib_model::{
+    CafRow, CurRow, Kind, MibCode, MibFault, Name, OcfRow, OcpRow, PcfRow, PidRow, PlfRow,
+};
 
 /// Nature `R`.
 pub fn is_measured(row: &PcfRow) -> bool
@@ -146,8 +148,11 @@ pub fn plf_flaw(tables: &Tables<'_>, number: u32, row: &PlfRow) -> Option<MibFau
         number,
     };
     let deduced = is_measured_deduced(tables.parameter(row.name));
-    at.missing(&[(1, tables.has_parameter(row.name)), (2, tables.has_packet(row.spid))])
-        .or(at.flaw_if(MibCode::BadType, deduced))
+    at.missing(&[
+        (1, tables.has_parameter(row.name)),
+        (2, tables.has_packet(row.spid)),
+    ])
+    .or(at.flaw_if(MibCode::BadType, deduced))
 }
 
 // A curve of the category of a parameter.

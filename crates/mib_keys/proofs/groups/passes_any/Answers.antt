@@ -1,4 +1,4 @@
-use Rattle.std.proofs.Common.{◌≡◌, ◌∙◌, ap, sym, ◌||◌, take, ℕ, Bool}
+use Rattle.std.proofs.Common.{◌∙◌, ap, sym, ◌||◌, take, ℕ, Bool}
 use Rattle.mib_keys.specs.declared.groups.Spot.{Spot}
 use Rattle.std.specs.List.{list_any, enumerate_from}
 use Rattle.mib_keys.specs.Structures.{passes}

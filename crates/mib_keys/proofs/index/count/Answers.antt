@@ -1,9 +1,7 @@
-use Rattle.std.proofs.Common.{◌≡◌, ◌<◌, ◌≤◌, ap, ◌∙◌, sym, take, length, filter, arith, unwrap_or, Bool, refl}
+use Rattle.std.proofs.Common.{ap, ◌∙◌, arith, Bool, refl}
 use Rattle.std.specs.Arc.{arc_value}
-use Rattle.std.specs.BTreeMap.{get}
 use Rattle.mib_model.specs.declared.rows.Row.{Row}
-use Rattle.mib_tables.specs.Shelves.{values_in}
-use Rattle.mib_keys.specs.Indexes.{has_by, count_with}
+use Rattle.mib_keys.specs.Indexes.{has_by}
 use Rattle.mib_keys.proofs.PlaceFacts.{count-more, count-below}
 use Rattle.mib_keys.proofs.index.count.Goals as goal
 

@@ -1,10 +1,7 @@
-use Rattle.std.proofs.Common.{◌≡◌, ap, ◌∙◌, sym, take, Bool, refl}
+use Rattle.std.proofs.Common.{ap, ◌∙◌, Bool}
 use Rattle.std.specs.Arc.{arc_value}
-use Rattle.std.specs.BTreeMap.{get}
 use Rattle.mib_model.specs.declared.rows.Row.{Row}
-use Rattle.mib_model.specs.Match.{first_of_two}
-use Rattle.mib_tables.specs.Shelves.{values_in}
-use Rattle.mib_keys.specs.Indexes.{has_by, first_place, some_if}
+use Rattle.mib_keys.specs.Indexes.{has_by}
 use Rattle.mib_keys.proofs.PlaceFacts.{noted-more, position-more}
 use Rattle.mib_keys.proofs.index.note.Goals as goal
 

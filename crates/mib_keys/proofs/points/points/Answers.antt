@@ -1,4 +1,4 @@
-use Rattle.std.proofs.Common.{◌≡◌, ap, ◌∙◌, Bool, None}
+use Rattle.std.proofs.Common.{ap, ◌∙◌, Bool, None}
 use Rattle.std.specs.Arc.{arc_value}
 use Rattle.mib_model.specs.declared.rows.Row.{Row}
 use Rattle.mib_keys.specs.Indexes.{has_by}
