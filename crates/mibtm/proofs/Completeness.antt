@@ -1,11 +1,9 @@
 -- Where nothing fails, a call decodes the feed whole.
-use Rattle.std.proofs.Common.{◌≡◌, ◌<◌, ◌≤◌, ◌+◌, ◌^◌, min, ℕ, List, [], ◌++◌, Option, Some, None, Result, Ok, refl, sym, ap, ◌∙◌, arith, append-nil, append_assoc}
+use Rattle.std.proofs.Common.{◌≡◌, ℕ, List, [], ◌++◌, Option, Some, None, Ok, ap, ◌∙◌, arith, append-nil, append_assoc}
 use Rattle.std.specs.List.{concat}
 use Rattle.mib_model.specs.declared.code.Code.{Code}
 use Rattle.mib_model.specs.declared.code.Code.TheVariants as code
-use Rattle.mib_model.specs.declared.code.Input.TheVariants as input
 use Rattle.mib_model.specs.declared.database.Database.{Database}
-use Rattle.mib_model.specs.declared.fault.MibFault.{MibFault}
 use Rattle.mib_model.specs.Packets.{IsCut}
 use Rattle.mibtm.specs.Causes.{Failed, HasTablesCause, HasFeedCause, HasOutCause}
 use Rattle.mibtm.specs.Run.{Ran}

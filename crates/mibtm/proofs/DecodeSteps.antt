@@ -1,17 +1,16 @@
 -- What a run says is what a call says.
-use Rattle.std.proofs.Common.{◌≡◌, ℕ, Bool, true, false, List, ◌++◌, Option, Some, None, IfSome, is_some, length, refl, sym, ap, ◌∙◌, append_assoc, subst, inl, inr}
+use Rattle.std.proofs.Common.{◌≡◌, ℕ, Bool, true, false, List, ◌++◌, Option, Some, None, IfSome, is_some, length, refl, sym, ap, ◌∙◌, append_assoc, subst, inr}
 use Rattle.std.specs.List.{All, concat}
 use Rattle.std.proofs.lemmas.List.Folds.{concat-append}
 use Rattle.std.proofs.lemmas.List.{take_at}
 use Rattle.std.proofs.lemmas.List.Elements.{All-take}
 use Rattle.mib_model.specs.declared.code.Code.{Code}
 use Rattle.mib_model.specs.declared.code.Code.TheVariants as code
-use Rattle.mib_model.specs.declared.code.Input.TheVariants as input
 use Rattle.mib_model.specs.declared.database.Database.{Database}
 use Rattle.mib_model.specs.Packets.{IsPacket, IsCut}
-use Rattle.mibtm.specs.Run.{Ran, Ends, IsRunCode}
+use Rattle.mibtm.specs.Run.{Ran, Ends}
 use Rattle.mibtm.specs.Sources.{Files}
-use Rattle.mibtm.specs.Tool.{IsFeedCode, IsBeforeRun, Decodes, DecodesSome, Standing, RanSo, MissesFeed, PrintsFront}
+use Rattle.mibtm.specs.Tool.{Decodes, DecodesSome, Standing, RanSo, PrintsFront}
 
 All-front : (xs ys : List (List ℕ)) → All IsPacket (xs ++ ys) → All IsPacket xs
 All-front xs ys all = subst (All IsPacket) (take_at xs ys (length xs) refl) (All-take IsPacket (length xs) (xs ++ ys) all)
