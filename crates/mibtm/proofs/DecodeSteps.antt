@@ -25,11 +25,11 @@ front-of octets read left rest packets printed more whole cut is =
 ran-prints : (db : Database) (octets : List ℕ) (s : Standing) (left : Option (List ℕ)) → s.left ≡ left → Ran code.Want db (Some octets) left s.faults_before s.faults_now s.old s.new
     → PrintsFront db octets s.old s.new
 ran-prints db octets s None is ran = absurd ran
-ran-prints db octets s (Some left) is (read, packets, rest, whole, cut, (few, printed, more, parted, wrote)) = (
+ran-prints db octets s (Some left) is (read, packets, rest, whole, cut, (few, printed, reads, wrote)) = (
   printed,
-  concat more ++ (rest ++ left),
-  front-of octets read left rest packets printed more whole cut parted,
-  All-front printed more (subst (All IsPacket) parted cut.each),
+  concat reads.more ++ (rest ++ left),
+  front-of octets read left rest packets printed reads.more whole cut reads.parted,
+  All-front printed reads.more (subst (All IsPacket) reads.parted cut.each),
   wrote,
 )
 

@@ -16,7 +16,7 @@ use Rattle.mib_model.specs.Packets.{IsPacket, BeginsNoPacket, IsCut}
 use Rattle.mib_model.specs.Texts.{cut_text, rest_text}
 use Rattle.mibtm.specs.Causes.{code_of_stop, HasFeedCause}
 use Rattle.mibtm.specs.Readings.{IsBuilt, plain_record}
-use Rattle.mibtm.specs.Run.{Ran, Ends, Going, Writes, WritesPart, StopsWriting, StopsAt}
+use Rattle.mibtm.specs.Run.{Ran, Ends, Going, Writes, WritesPart, WritesOver, ReadsNoFurther, StopsWriting, StopsAt}
 use Rattle.mibtm.specs.declared.run.Stop.{Stop}
 use Rattle.mibtm.specs.declared.run.Stop.TheVariants as stop
 use Rattle.mibtm.proofs.PlainRecords.{plain_records, output-plain, plain_records-push, plain_records-append, plain_records-nil}
@@ -97,6 +97,24 @@ part-push db number packets packet old mid new built count wrote printed =
     subst (AppendsPrefix old new) (sym (output-push db packets packet built ∙ ap (λ n. output_of_one db packets [] ++ plain_record db n packet) (sym place)))
     (part-behind (output_of_one db packets []) (plain_record db number packet) old mid new wrote printed)
 
+-- the text of packets, and more behind it
+over-part : (db : Database) (packets : List (List ℕ)) (tail : List ℕ) (old mid new : Option (List ℕ)) → Writes db packets [] old mid → AppendsPrefix mid new tail
+    → WritesOver db packets old new
+over-part db packets tail old mid new wrote (count, printed) = (take count tail, Appends-trans old mid new (output_of_one db packets []) (take count tail) wrote printed)
+
+over-same : (db : Database) (packets : List (List ℕ)) (old new : Option (List ℕ)) → Writes db packets [] old new → WritesOver db packets old new
+over-same db packets old new wrote = ([], subst (Appends old new) (sym (append-nil (output_of_one db packets []))) wrote)
+
+over-tail : (db : Database) (packets : List (List ℕ)) (tail : List ℕ) (old new : Option (List ℕ)) → IsBuilt db → Writes db packets tail old new → WritesOver db packets old new
+over-tail db packets tail old new built wrote = (tail, subst (Appends old new) (output-tail db packets tail built) wrote)
+
+-- one packet was read that wasn't printed, or none
+reads_one : (packets : List (List ℕ)) (packet : List ℕ) → ReadsNoFurther (packets ++ packet ∷ []) packets []
+reads_one packets packet = record { more = packet ∷ []; parted = refl; one = omega arith; last = λ some. refl }
+
+reads_all : (packets : List (List ℕ)) (rest : List ℕ) → ReadsNoFurther packets packets rest
+reads_all packets rest = record { more = []; parted = sym (append-nil packets); one = omega arith; last = λ some. absurd (omega (arith, some)) }
+
 -- nothing begins no packet
 none-begins_none : BeginsNoPacket []
 none-begins_none zero fits packet = absurd (omega (arith, packet))
@@ -137,7 +155,7 @@ ran_stopped stop.Memory db number before now (Some octets) (Some left) (Some aft
       [],
       whole-push octets left after packet packets whole given,
       packets-cut (packets ++ packet ∷ []) (All-push IsPacket packets packet each is),
-      (rw (length_push packets packet) (omega (arith, count, few)), packets, packet ∷ [], refl, writes-none db packets old mid new wrote stopped),
+      (rw (length_push packets packet) (omega (arith, count, few)), packets, reads_one packets packet, writes-none db packets old mid new wrote stopped),
     )
 ran_stopped stop.Out db number before now (Some octets) (Some left) (Some after) old mid new packet built few is given stopped so_far =
     let (packets, whole, each, count, wrote) = so_far in
@@ -147,7 +165,10 @@ ran_stopped stop.Out db number before now (Some octets) (Some left) (Some after)
       [],
       whole-push octets left after packet packets whole given,
       packets-cut (packets ++ packet ∷ []) (All-push IsPacket packets packet each is),
-      (rw (length_push packets packet) (omega (arith, count, few)), record { whole = λ same. part; fault = λ more. part }),
+      (
+        rw (length_push packets packet) (omega (arith, count, few)),
+        record { whole = λ same. part; fault = λ more. part; printed = packets; reads = reads_one packets packet; least = over-part db packets (plain_record db number packet) old mid new wrote stopped },
+      ),
     )
 
 -- the line of a rest that isn't empty
@@ -202,7 +223,7 @@ ran_stopped_at_rest stop.Memory db number cut before now (Some octets) (Some lef
       rest,
       read_whole octets left rest after packets whole taken,
       rest-cut packets rest each none,
-      (omega (arith, count, few), packets, [], sym (append-nil packets), writes-none db packets old mid new wrote stopped),
+      (omega (arith, count, few), packets, reads_all packets rest, writes-none db packets old mid new wrote stopped),
     )
 ran_stopped_at_rest stop.Out db number cut before now (Some octets) (Some left) (Some after) old mid new built few took same stopped so_far =
     let (packets, whole, each, count, wrote) = so_far in
@@ -218,6 +239,9 @@ ran_stopped_at_rest stop.Out db number cut before now (Some octets) (Some left) 
         record {
           whole = λ e. subst (AppendsPrefix old new) (sym (output-tail db packets (rest_text rest) built ∙ ap (λ t. output_of_one db packets [] ++ t) (rest_text-some rest cut size some))) part;
           fault = λ more. absurd (omega (arith, more, same));
+          printed = packets;
+          reads = reads_all packets rest;
+          least = over-part db packets (cut_text cut) old mid new wrote stopped;
         },
       ),
     )
@@ -226,7 +250,7 @@ ran_stopped_at_rest stop.Out db number cut before now (Some octets) (Some left) 
 pub ran_nothing : (db : Database) (left old : Option (List ℕ)) (before now : ℕ) → IsBuilt db → Ran code.Want db left left before now old old
 ran_nothing db None old before now built = tt
 ran_nothing db (Some octets) old before now built =
-    ([], [], [], refl, packets-cut [] (All-nil IsPacket), (omega arith, [], [], refl, subst (Appends old old) (sym (output-none db built)) (Appends-nil old)))
+    ([], [], [], refl, packets-cut [] (All-nil IsPacket), (omega arith, [], reads_all [] [], subst (Appends old old) (sym (output-none db built)) (Appends-nil old)))
 
 -- what was written whole is a first part of itself with more behind it
 part-whole : (text tail : List ℕ) (old new : Option (List ℕ)) → Appends old new text → AppendsPrefix old new (text ++ tail)
@@ -257,29 +281,33 @@ part-front db packets printed more tail old new built is wrote =
     subst (AppendsPrefix old new) (sym (ap (λ ps. output_of_one db ps tail) is ∙ output-front db printed more tail built))
     (part-whole (output_of_one db printed []) (plain_records db (1 + length printed) more ++ tail) old new wrote)
 
-stops-with : (db : Database) (packets : List (List ℕ)) (rest : List ℕ) (before now : ℕ) (old new : Option (List ℕ))
-    → ((tail : List ℕ) → WritesPart db packets tail old new) → StopsWriting db packets rest before now old new
-stops-with db packets rest before now old new part = record { whole = λ same. part (rest_text rest); fault = λ more. part [] }
+stops-with : (db : Database) (packets printed : List (List ℕ)) (rest : List ℕ) (before now : ℕ) (old new : Option (List ℕ))
+    → ((tail : List ℕ) → WritesPart db packets tail old new) → ReadsNoFurther packets printed rest → Writes db printed [] old new → StopsWriting db packets rest before now old new
+stops-with db packets printed rest before now old new part reads wrote =
+    record { whole = λ same. part (rest_text rest); fault = λ more. part []; printed = printed; reads = reads; least = over-same db printed old new wrote }
 
 -- a run whose output fails at its end
 ends-unflushed : (c : Code) (db : Database) (packets : List (List ℕ)) (rest left : List ℕ) (before now : ℕ) (old new : Option (List ℕ)) → IsBuilt db
     → HasFeedCause c before now → Ends c db packets rest left before now old new → Ends code.OutFault db packets rest left before now old new
 ends-unflushed code.Ok db packets rest left before now old new built cause (none, end, few, wrote) =
-    (omega (arith, few), stops-with db packets rest before now old new (λ tail. part-tail db packets tail old new built wrote))
+    (omega (arith, few), stops-with db packets packets rest before now old new (λ tail. part-tail db packets tail old new built wrote) (reads_all packets rest) wrote)
 ends-unflushed (code.Cut cut) db packets rest left before now old new built cause (size, some, end, few, wrote) = (
   omega (arith, few),
   record {
     whole = λ same. subst (λ (tail : List ℕ). WritesPart db packets tail old new) (sym (rest_text-some rest cut size some)) (part-same db packets (cut_text cut) old new wrote);
     fault = λ more. absurd (omega (arith, more, cause));
+    printed = packets;
+    reads = reads_all packets rest;
+    least = over-tail db packets (cut_text cut) old new built wrote;
   },
 )
 ends-unflushed code.FeedFault db packets rest left before now old new built cause (few, wrote) =
-    (omega (arith, few), stops-with db packets rest before now old new (λ tail. part-tail db packets tail old new built wrote))
+    (omega (arith, few), stops-with db packets packets rest before now old new (λ tail. part-tail db packets tail old new built wrote) (reads_all packets rest) wrote)
 ends-unflushed code.OutFault db packets rest left before now old new built cause ends = ends
 ends-unflushed code.Limit db packets rest left before now old new built cause (none, all, wrote) =
-    (omega (arith, all), stops-with db packets rest before now old new (λ tail. part-tail db packets tail old new built wrote))
-ends-unflushed code.Want db packets rest left before now old new built cause (few, printed, more, is, wrote) =
-    (few, stops-with db packets rest before now old new (λ tail. part-front db packets printed more tail old new built is wrote))
+    (omega (arith, all), stops-with db packets packets rest before now old new (λ tail. part-tail db packets tail old new built wrote) (reads_all packets rest) wrote)
+ends-unflushed code.Want db packets rest left before now old new built cause (few, printed, reads, wrote) =
+    (few, stops-with db packets printed rest before now old new (λ tail. part-front db packets printed reads.more tail old new built reads.parted wrote) reads wrote)
 ends-unflushed (code.Usage misuse) db packets rest left before now old new built cause ends = absurd ends
 ends-unflushed (code.BadMib fault) db packets rest left before now old new built cause ends = absurd ends
 ends-unflushed (code.NoFile input) db packets rest left before now old new built cause ends = absurd ends

@@ -24,10 +24,25 @@ Writes db packets tail old new = Appends old new (output_of_one db packets tail)
 abbrev pub WritesPart : Database → List (List ℕ) → List ℕ → Option (List ℕ) → Option (List ℕ) → Type 0
 WritesPart db packets tail old new = AppendsPrefix old new (output_of_one db packets tail)
 
--- what was written where the output failed: a first part of the text, whose tail tells the rest unless the feed failed
+-- the text of packets was written, and maybe more
+abbrev pub WritesOver : Database → List (List ℕ) → Option (List ℕ) → Option (List ℕ) → Type 0
+WritesOver db packets old new = (more : List ℕ) × Appends old new (output_of_one db packets [] ++ more)
+
+-- of what was read at most one packet is left to be printed, and behind it nothing was read
+pub record ReadsNoFurther (packets printed : List (List ℕ)) (rest : List ℕ) : Type 0 where
+  pub more : List (List ℕ)
+  pub parted : packets ≡ printed ++ more
+  pub one : length more ≤ 1
+  pub last : 0 < length more → rest ≡ []
+
+-- what was written where the output failed: a first part of the text, whose tail tells the rest unless the feed failed, and at
+-- least all but the record or the line at which it failed; nothing was read behind that
 pub record StopsWriting (db : Database) (packets : List (List ℕ)) (rest : List ℕ) (before now : ℕ) (old new : Option (List ℕ)) : Type 0 where
   pub whole : now ≡ before → WritesPart db packets (rest_text rest) old new
   pub fault : before < now → WritesPart db packets [] old new
+  pub printed : List (List ℕ)
+  pub reads : ReadsNoFurther packets printed rest
+  pub least : WritesOver db printed old new
 
 -- what a code says of the packets and the rest that were read, of what is left of the feed, of the feed's count of faults and
 -- of what was written
@@ -40,7 +55,7 @@ Ends code.FeedFault db packets rest left before now old new = (length packets < 
 Ends code.OutFault db packets rest left before now old new = (length packets ≤ most_packets) × StopsWriting db packets rest before now old new
 Ends code.Limit db packets rest left before now old new = (rest ≡ []) × (length packets ≡ most_packets) × Writes db packets [] old new
 Ends code.Want db packets rest left before now old new =
-    (length packets ≤ most_packets) × (printed : List (List ℕ)) × (more : List (List ℕ)) × (packets ≡ printed ++ more) × Writes db printed [] old new
+    (length packets ≤ most_packets) × (printed : List (List ℕ)) × ReadsNoFurther packets printed rest × Writes db printed [] old new
 Ends other db packets rest left before now old new = ⊥
 
 -- the codes that a run ends with
