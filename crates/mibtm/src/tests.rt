@@ -6,7 +6,7 @@ use std::alloc::Global;
 use std::sync::Wait;
 use std::test::Fail;
 use std::thread::Threads;
-use tm_io::{MemFile, MemShelf, MemSink, NoGate};
+use tm_io::{MemFile, MemShelf, MemSink, NoGate, Source};
 
 const PCF: &[u8] = b"T1\t\t\t\t3\t12\t\t\t\tN\tR\n";
 
@@ -172,6 +172,27 @@ fn a_fault_of_the_feed_leaves_the_records_before_it(rt: HostRuntime) -> Result<(
             _ => RECORDS,
         };
         assert_eq!(rt; out.bytes(), whole, "at {at}");
+    }
+    Ok(())
+}
+
+#[test]
+fn behind_a_fault_of_the_feed_nothing_is_read(rt: HostRuntime) -> Result<(), Fail> {
+    let alloc = rt.alloc();
+    for at in 0..24 {
+        let mut shelf = feed(alloc, TWO_PACKETS, &[at], 24)?;
+        let mut out = sink(alloc, &[], 9)?;
+        let code = call(
+            &rt,
+            alloc,
+            DECODE,
+            &mut tables(alloc, PCF, PID, PLF, 7)?,
+            &mut shelf,
+            &mut out,
+        )?;
+        assert_eq!(rt; code, Code::FeedFault, "at {at}");
+        let read = shelf.read(&mut [0u8; 24]);
+        assert_eq!(rt; read.ok(), Some(24 - at as usize), "at {at}");
     }
     Ok(())
 }
