@@ -4,3 +4,4 @@ pub mod PlaceFacts
 pub mod SharedFacts
 pub mod ListedFacts
 pub mod ReadFacts
+pub mod FillFacts

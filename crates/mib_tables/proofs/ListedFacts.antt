@@ -43,7 +43,7 @@ back one of gives [] = refl
 back one of gives (r ∷ rows) = rw (gives r) (ap (λ (xs : List _). r ∷ xs) (back one of gives rows))
 
 -- a database is that of its tables
-database_back : (db : Database) → database_by (rows_of db) ≡ db
+pub database_back : (db : Database) → database_by (rows_of db) ≡ db
 unfolding rows_of
 database_back db =
     rw (

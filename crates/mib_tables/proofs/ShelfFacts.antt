@@ -21,7 +21,7 @@ abbrev spread : List Row → Database
 spread rows = database_by (λ table. rows)
 
 -- a table is taken from its own list alone
-taken : (lists : Kind → List Row) (k : Kind) → rows_of (database_by lists) k ≡ rows_of (spread (lists k)) k
+pub taken : (lists : Kind → List Row) (k : Kind) → rows_of (database_by lists) k ≡ rows_of (spread (lists k)) k
 unfolding rows_of
 taken lists kind.Pcf = refl
 taken lists kind.Pid = refl
@@ -78,7 +78,7 @@ taken_first (row.Ocf r) rows = refl
 taken_first (row.Ocp r) rows = refl
 
 -- rows of a table are all taken
-taken_all : (k : Kind) (rows : List Row) → AreOf k rows → rows_of (spread rows) k ≡ rows
+pub taken_all : (k : Kind) (rows : List Row) → AreOf k rows → rows_of (spread rows) k ≡ rows
 taken_all k [] are = taken_none k
 taken_all k (r ∷ rows) are =
     let P : Row → Type 0 = λ x. kind_in x ≡ k in
@@ -129,7 +129,7 @@ unfolding database_in
 changed lists are k rows =
     ap database_by (fun_ext (λ (j : Kind). list-set lists k rows (place_within lists are k) j ∙ ap (λ (old : List Row). cond (same_kind j k) rows old) (sym (table_in lists are j))))
 
-own_of_both : (j k : Kind) (b : Bool) → same_kind j k ≡ b → (rows old : List Row) → AreOf k rows → AreOf j old → AreOf j (cond b rows old)
+pub own_of_both : (j k : Kind) (b : Bool) → same_kind j k ≡ b → (rows old : List Row) → AreOf k rows → AreOf j old → AreOf j (cond b rows old)
 own_of_both j k true same rows old new kept = let P : Kind → Type 0 = λ t. AreOf t rows in subst P (sym (same_by_name j k same)) new
 own_of_both j k false other rows old new kept = kept
 

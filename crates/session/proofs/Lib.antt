@@ -1,0 +1,3 @@
+pub mod TextFiles
+pub mod TableTexts
+pub mod Filling

@@ -1,0 +1,24 @@
+-- Which fault comes with which count of faults. [This profile.]
+use Rattle.std.specs.Prelude.{◌≡◌, ℕ, ◌≤◌, ⊤}
+use Rattle.tm_io.specs.Causes.{Rose}
+use Rattle.session.specs.declared.load_fault.LoadFault.{LoadFault}
+use Rattle.session.specs.declared.load_fault.LoadFault.TheVariants as faults
+
+-- a count of faults that rose
+abbrev pub Failed : ℕ → ℕ → Type 0
+Failed before now = (before ≤ now) × Rose before now
+
+-- the count rose where the fault says so, and is as it was with each other
+abbrev pub HasLoadCause : LoadFault → ℕ → ℕ → Type 0
+HasLoadCause faults.Failed before now = Failed before now
+HasLoadCause other before now = now ≡ before
+
+-- the faults that reading a file may end with
+abbrev pub IsReadStop : LoadFault → Type 0
+IsReadStop (faults.Mib fault) = ⊥
+IsReadStop other = ⊤
+
+-- the faults that reading a text may end with
+abbrev pub IsTextStop : LoadFault → Type 0
+IsTextStop faults.Failed = ⊥
+IsTextStop other = ⊤

@@ -1,0 +1,83 @@
+// The tables of a folder, read in their order.
+ghost use Rattle.std.specs.Prelude.{◌≡◌, string_bytes, IfOk, IfErr, OnOk, IfSome, Ok};
+ghost use Rattle.mib_model.specs.Reading.{table_of};
+ghost use Rattle.mib_tables.specs.Kinds.{AreOf};
+ghost use Rattle.session.specs.Causes.{HasLoadCause, IsTextStop};
+ghost use Rattle.session.specs.Sources.{Fills, Refuses, database_in, read_in, table_file};
+
+use crate::load_fault::LoadFault;
+use crate::text_file::read_file;
+use mib_model::{KINDS, Kind, Row};
+use mib_rows::{ReadFault, read_table};
+use mib_tables::Book;
+use std::alloc::{AllocError, Global};
+use tm_io::Shelf;
+
+// The name of a table's file.
+fn file_name(alloc: Global, folder: &str, table: Kind) -> Result<String, AllocError>
+    ensures { IfOk result (λ name. string_bytes name ≡ table_file folder.now table) }
+{
+    let mut name = String::from_str(alloc, folder)?;
+    name.push_str("/")?;
+    name.push_str(table.name())?;
+    name.push_str(".dat")?;
+    Ok(name)
+}
+
+// The rows of a table's text.
+fn read_rows(alloc: Global, table: Kind, text: &[u8]) -> Result<Vec<Row>, LoadFault>
+    ensures told { IfOk result (λ rows. table_of table text.now ≡ Ok rows.items) }
+    ensures own { IfOk result (λ rows. AreOf table rows.items) }
+    ensures refused { IfErr result (λ fault. Refuses fault (table_of table text.now)) }
+    ensures stop { IfErr result IsTextStop }
+{
+    match read_table(alloc, table, text) {
+        Ok(rows) => Ok(rows),
+        Err(ReadFault::Mib(fault)) => Err(LoadFault::Mib(fault)),
+        Err(ReadFault::Memory) => Err(LoadFault::Memory),
+    }
+}
+
+// Gives a table of a book the rows that its file in a folder has.
+fn load_table<T: Shelf>(
+    alloc: Global,
+    folder: &str,
+    table: Kind,
+    tables: &mut T,
+    book: &mut Book,
+) -> Result<(), LoadFault>
+    ensures told { OnOk result (IfSome (T.holds tables.old) (λ files. Fills table (read_in files folder.now table) book.old book.new)) }
+    ensures refused { IfErr result (λ fault. IfSome (T.holds tables.old) (λ files. Refuses fault (read_in files folder.now table))) }
+    ensures ok { OnOk result (T.faults tables.new ≡ T.faults tables.old) }
+    ensures cause { IfErr result (λ fault. HasLoadCause fault (T.faults tables.old) (T.faults tables.new)) }
+    ensures holds { T.holds tables.new ≡ T.holds tables.old }
+{
+    let Ok(name) = file_name(alloc, folder, table) else {
+        return Err(LoadFault::Memory);
+    };
+    let text = read_file(alloc, tables, name.as_str())?;
+    let rows = read_rows(alloc, table, &text)?;
+    match book.fill(table, &rows) {
+        Ok(()) => Ok(()),
+        Err(_) => Err(LoadFault::Memory),
+    }
+}
+
+/// The rows of the tables of a folder: each table is read from the file of its name with `.dat` behind it, and one
+/// that isn't held has no rows. Refused are just the tables of which one is faulty, for the first fault of the first
+/// such one; `Failed` comes just where the shelf's count of faults rose.
+pub fn load<T: Shelf>(alloc: Global, folder: &str, tables: &mut T) -> Result<Book, LoadFault>
+    ensures told { IfOk result (λ book. IfSome (T.holds tables.old) (λ files. database_in files folder.now ≡ Ok book)) }
+    ensures refused { IfErr result (λ fault. IfSome (T.holds tables.old) (λ files. Refuses fault (database_in files folder.now))) }
+    ensures ok { OnOk result (T.faults tables.new ≡ T.faults tables.old) }
+    ensures cause { IfErr result (λ fault. HasLoadCause fault (T.faults tables.old) (T.faults tables.new)) }
+    ensures holds { T.holds tables.new ≡ T.holds tables.old }
+{
+    let Ok(mut book) = Book::empty(alloc) else {
+        return Err(LoadFault::Memory);
+    };
+    for table in KINDS {
+        load_table(alloc, folder, table, tables, &mut book)?;
+    }
+    Ok(book)
+}
