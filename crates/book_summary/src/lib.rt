@@ -1,0 +1,12 @@
+//! The summary of a monitoring database: how many rows each of its tables has, and how many plans it asks for.
+//!
+//! `add_summary` appends exactly the text that the definitions of `mib_model` give for the database of a `Book`. It rests
+//! on those definitions, on the `Book` of `mib_tables`, and on `itoa` for the digits of a number.
+#![tactic(auto)]
+
+mod plans;
+mod summary;
+#[cfg(test)]
+mod tests;
+
+pub use summary::add_summary;
