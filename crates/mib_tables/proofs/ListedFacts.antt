@@ -38,7 +38,7 @@ list_of_listed rows kind.Ocf = refl
 list_of_listed rows kind.Ocp = refl
 
 -- rows of a table that are made of its own rows give those back
-back : {R : Type 0} (one : R → Row) (of : Row → Option R) → ((r : R) → of (one r) ≡ Some r) → (rows : List R) → filter_map of (map one rows) ≡ rows
+pub back : {R : Type 0} (one : R → Row) (of : Row → Option R) → ((r : R) → of (one r) ≡ Some r) → (rows : List R) → filter_map of (map one rows) ≡ rows
 back one of gives [] = refl
 back one of gives (r ∷ rows) = rw (gives r) (ap (λ (xs : List _). r ∷ xs) (back one of gives rows))
 

@@ -5,9 +5,10 @@ use Rattle.mib_model.specs.declared.code.Code.{Code}
 use Rattle.mib_model.specs.declared.code.Code.TheVariants as code
 use Rattle.mib_model.specs.declared.database.Database.{Database}
 use Rattle.mib_model.specs.Packets.{IsCut}
-use Rattle.mibtm.specs.Causes.{Failed, HasTablesCause, HasFeedCause, HasOutCause}
+use Rattle.session.specs.Causes.{Failed}
+use Rattle.mibtm.specs.Causes.{HasTablesCause, HasFeedCause, HasOutCause}
 use Rattle.mibtm.specs.Run.{Ran}
-use Rattle.mibtm.specs.Tool.{AnswersTables, Completes, Decodes, IsDecodeCode, IsUnfailed, Standing}
+use Rattle.mibtm.specs.Tool.{AnswersTables, Checks, Completes, CompletesCheck, Decodes, IsCheckCode, IsDecodeCode, IsUnfailed, Standing}
 
 -- a count that stays as it was, below its end, didn't rise
 not_failed : (before now : ℕ) → IsUnfailed before now → Failed before now → ⊥
@@ -50,3 +51,20 @@ completes code.FeedFault db octets s t tn o on decode said decodes tables feed o
 completes code.OutFault db octets s t tn o on decode said decodes tables feed out still feed_still out_still = not_failed o on out_still out
 completes code.DeskFault db octets s t tn o on decode said decodes tables feed out still feed_still out_still = decode
 completes code.ReplyFault db octets s t tn o on decode said decodes tables feed out still feed_still out_still = decode
+
+-- the same of a check
+pub completes_check : (c : Code) (db : Database) (old new : Option (List ℕ)) (tables tables_now out out_now : ℕ)
+    → IsCheckCode c → AnswersTables c (Ok db) → Checks c db old new → HasTablesCause c tables tables_now → HasOutCause c out out_now
+    → IsUnfailed tables tables_now → IsUnfailed out out_now → CompletesCheck c db old new
+completes_check code.Ok db old new t tn o on check said checks tables out still out_still = checks
+completes_check code.Want db old new t tn o on check said checks tables out still out_still = tt
+completes_check (code.BadMib fault) db old new t tn o on check said checks tables out still out_still = cc
+completes_check code.TablesFault db old new t tn o on check said checks tables out still out_still = not_failed t tn still tables
+completes_check code.OutFault db old new t tn o on check said checks tables out still out_still = not_failed o on out_still out
+completes_check (code.Cut count) db old new t tn o on check said checks tables out still out_still = check
+completes_check code.Limit db old new t tn o on check said checks tables out still out_still = check
+completes_check (code.Usage misuse) db old new t tn o on check said checks tables out still out_still = check
+completes_check (code.NoFile i) db old new t tn o on check said checks tables out still out_still = check
+completes_check code.FeedFault db old new t tn o on check said checks tables out still out_still = check
+completes_check code.DeskFault db old new t tn o on check said checks tables out still out_still = check
+completes_check code.ReplyFault db old new t tn o on check said checks tables out still out_still = check

@@ -9,7 +9,7 @@ use Rattle.mib_model.specs.declared.code.Code.TheVariants as code
 use Rattle.mib_model.specs.declared.database.Database.{Database}
 use Rattle.mib_model.specs.Packets.{IsPacket, IsCut}
 use Rattle.mibtm.specs.Run.{Ran, Ends}
-use Rattle.mibtm.specs.Sources.{Files}
+use Rattle.session.specs.Sources.{Files}
 use Rattle.mibtm.specs.Tool.{Decodes, DecodesSome, Standing, RanSo, PrintsFront}
 
 All-front : (xs ys : List (List ℕ)) → All IsPacket (xs ++ ys) → All IsPacket xs

@@ -6,8 +6,9 @@ pub mod PlainReadings
 pub mod PlainValues
 pub mod PlainRecords
 pub mod RunSteps
-pub mod TextFiles
-pub mod TableTexts
+pub mod KeptSteps
+pub mod TableSteps
+pub mod UnbuiltSteps
 pub mod LoadSteps
 pub mod DecodeSteps
 pub mod ToolSteps

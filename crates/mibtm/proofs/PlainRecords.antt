@@ -15,6 +15,7 @@ use Rattle.mib_model.specs.Output.{stamped_first, stamped_from, output_of_one}
 use Rattle.mib_model.specs.Texts.{record_text, record_body, head_text, told_text, ended_text}
 use Rattle.mib_model.specs.Unbuilt.{is_unbuilt_pid}
 use Rattle.mibtm.specs.Readings.{IsBuilt, plain_record, found_values_text, readings_text}
+use Rattle.mibtm.specs.Sources.{fixed_tables}
 use Rattle.mibtm.proofs.ListFacts.{All-find}
 use Rattle.mibtm.proofs.PlaceSteps.{places-all}
 use Rattle.mibtm.proofs.PlainReadings.{readings-values}
@@ -54,14 +55,6 @@ match-fixed db packet built =
     (fixed_if (lacks_service packet) _ _ tt
     (found_with-fixed db.pid packet built.pid (discriminants packet (criterion db.pic packet))))))
 
--- there is no title where there are no titles
-no_title : (db : Database) (f : Found) → db.tpcf ≡ [] → title_of db f ≡ None
-unfolding title_of
-no_title db (found.Spid spid service subtype tpsd dfhsize) none = rw none refl
-no_title db (found.Unknown service subtype) none = refl
-no_title db found.Idle none = refl
-no_title db (found.Bad why) none = refl
-
 -- the lines of the values of a packet that is found, and how they end
 values_lines : (db : Database) (packet : List ℕ) (memory : Memory) (f : Found) → IsBuilt db → IsFixed f
     → flat_map (told_text packet) (all_finished db memory (values_of db packet f).0).1 ++ ended_text (values_of db packet f).1 ≡ found_values_text db packet f
@@ -80,14 +73,13 @@ record-plain : (db : Database) (c : Course) (number : ℕ) (packet : List ℕ) �
 unfolding record_for record_text record_body plain_record
 record-plain db c number packet built first =
     let f = match_of db packet in
-    let head = head_text number (header_of packet) f in
+    let head = head_text number (header_of packet) f (title_of db f) in
     let memory = all_entered c.memory (values_of db packet f).0 in
     let lines = flat_map (told_text packet) (all_finished db memory (values_of db packet f).0).1 in
     let ends = ended_text (values_of db packet f).1 in
     rw (eq-eqb 1 c.edition (sym first))
-    (ap (λ t. (head t ++ lines) ++ ends) (no_title db f built.tpcf)
-    ∙ append_assoc (head None) lines ends
-    ∙ ap (λ t. head None ++ t) (values_lines db packet memory f built (match-fixed db packet built)))
+    (append_assoc head lines ends
+    ∙ ap (λ t. head ++ t) (values_lines db packet memory f built (match-fixed db packet built)))
 
 -- a packet of edition 1 leaves it so
 after_first : (db : Database) (c : Course) (number : ℕ) (packet : List ℕ) → (course_after c (stamped_first db (number, packet))).edition ≡ 1
@@ -132,3 +124,49 @@ unfolding plain_records
 plain_records-push db number packets packet =
     plain_records-append db number packets (packet ∷ [])
     ∙ ap (λ t. plain_records db number packets ++ t) (append-nil (plain_record db (number + length packets) packet))
+
+-- the tables that are kept find the same
+match-kept : (db : Database) (packet : List ℕ) → IsBuilt db → match_of db packet ≡ match_of (fixed_tables db) packet
+unfolding match_of
+match-kept db packet built = rw built.pic refl
+
+-- and print the same
+title-kept : (db : Database) (f : Found) → title_of db f ≡ title_of (fixed_tables db) f
+unfolding title_of
+title-kept db (found.Spid spid service subtype tpsd dfhsize) = refl
+title-kept db (found.Unknown service subtype) = refl
+title-kept db found.Idle = refl
+title-kept db (found.Bad why) = refl
+
+values-kept : (db : Database) (packet : List ℕ) (f : Found) → found_values_text db packet f ≡ found_values_text (fixed_tables db) packet f
+unfolding found_values_text
+values-kept db packet (found.Spid spid service subtype tpsd dfhsize) = refl
+values-kept db packet (found.Unknown service subtype) = refl
+values-kept db packet found.Idle = refl
+values-kept db packet (found.Bad why) = refl
+
+record-kept : (db : Database) (number : ℕ) (packet : List ℕ) → IsBuilt db → plain_record db number packet ≡ plain_record (fixed_tables db) number packet
+unfolding plain_record
+record-kept db number packet built =
+    let kept = fixed_tables db in
+    let f = match_of kept packet in
+    ap (λ g. head_text number (header_of packet) g (title_of db g) ++ found_values_text db packet g) (match-kept db packet built)
+    ∙ ap (λ t. head_text number (header_of packet) f t ++ found_values_text db packet f) (title-kept db f)
+    ∙ ap (λ t. head_text number (header_of packet) f (title_of kept f) ++ t) (values-kept db packet f)
+
+records-kept : (db : Database) (number : ℕ) (packets : List (List ℕ)) → IsBuilt db → plain_records db number packets ≡ plain_records (fixed_tables db) number packets
+unfolding plain_records
+records-kept db number [] built = refl
+records-kept db number (packet ∷ packets) built =
+    ap (λ t. t ++ plain_records db (number + 1) packets) (record-kept db number packet built)
+    ∙ ap (λ t. plain_record (fixed_tables db) number packet ++ t) (records-kept db (number + 1) packets built)
+
+pub built-kept : (db : Database) → IsBuilt db → IsBuilt (fixed_tables db)
+built-kept db built = record { pcf = built.pcf; pid = built.pid; pic = refl; cur = refl; ocf = refl }
+
+-- the text of a run is the same by the tables that are kept
+pub output-kept : (db : Database) (packets : List (List ℕ)) (tail : List ℕ) → IsBuilt db → output_of_one (fixed_tables db) packets tail ≡ output_of_one db packets tail
+output-kept db packets tail built =
+    output-plain (fixed_tables db) packets tail (built-kept db built)
+    ∙ ap (λ t. t ++ tail) (sym (records-kept db 1 packets built))
+    ∙ sym (output-plain db packets tail built)

@@ -17,8 +17,8 @@ use Rattle.mib_model.specs.Texts.{cut_text, rest_text}
 use Rattle.mibtm.specs.Causes.{code_of_stop, HasFeedCause}
 use Rattle.mibtm.specs.Readings.{IsBuilt, plain_record}
 use Rattle.mibtm.specs.Run.{Ran, Ends, Going, Writes, WritesPart, WritesOver, ReadsNoFurther, StopsWriting, StopsAt}
-use Rattle.mibtm.specs.declared.run.Stop.{Stop}
-use Rattle.mibtm.specs.declared.run.Stop.TheVariants as stop
+use Rattle.mibtm.specs.declared.print.Stop.{Stop}
+use Rattle.mibtm.specs.declared.print.Stop.TheVariants as stop
 use Rattle.mibtm.proofs.PlainRecords.{plain_records, output-plain, plain_records-push, plain_records-append, plain_records-nil}
 
 -- a tail behind the text

@@ -1,4 +1,4 @@
--- What is said of a feed where the tables were not accepted.
+-- What is said of tables that were accepted, and of a feed and the output where they weren't.
 use Rattle.std.proofs.Common.{◌≡◌, ℕ, List, [], Option, Some, None, Result, Ok, Err, IfSome, IfOk, refl, sym, subst}
 use Rattle.std.specs.Io.KnownBytes.{Appends}
 use Rattle.std.proofs.lemmas.List.Elements.{All-nil}
@@ -9,8 +9,11 @@ use Rattle.mib_model.specs.declared.fault.MibFault.{MibFault}
 use Rattle.mib_model.specs.Interpreter.{interpret}
 use Rattle.mib_model.specs.Output.{output_of_one, stamped_from}
 use Rattle.mib_model.specs.Packets.{IsPacket}
-use Rattle.mibtm.specs.Sources.{Files, Refuses, RefusesFolder, database_in}
-use Rattle.mibtm.specs.Tool.{Decodes, Standing, PrintsFront}
+use Rattle.session.specs.Sources.{Files}
+use Rattle.mib_model.specs.declared.code.Input.TheVariants as input
+use Rattle.mibtm.specs.Readings.{Keeps}
+use Rattle.mibtm.specs.Sources.{Refuses, built_in, sound_in}
+use Rattle.mibtm.specs.Tool.{AnswersTables, Checks, Decodes, IsFeedCode, IsSummaryCode, Standing, PrintsFront}
 
 -- no packet gives no text
 output-nothing : (db : Database) → output_of_one db [] [] ≡ []
@@ -59,7 +62,72 @@ refused-decodes code.OutFault read feeds name s none refused = absurd refused
 refused-decodes code.ReplyFault read feeds name s none refused = absurd refused
 refused-decodes code.Limit read feeds name s none refused = absurd refused
 
-pub unopened_decodes : (c : Code) (holds : Option Files) (folder : List ℕ) (feeds : Option Files) (name : List ℕ) (s : Standing) → Appends s.old s.new [] → IfSome holds (RefusesFolder folder c)
-    → IfSome holds (λ files. IfOk (database_in files folder) (λ db. IfSome feeds (λ f. Decodes c db (f name) s)))
+pub unopened_decodes : (c : Code) (holds : Option Files) (folder : List ℕ) (feeds : Option Files) (name : List ℕ) (s : Standing) → Appends s.old s.new [] → IfSome holds (λ files. Refuses c (built_in files folder))
+    → IfSome holds (λ files. IfOk (built_in files folder) (λ db. IfSome feeds (λ f. Decodes c db (f name) s)))
 unopened_decodes c None folder feeds name s none refused = tt
-unopened_decodes c (Some files) folder feeds name s none refused = refused-decodes c (database_in files folder) feeds name s none refused
+unopened_decodes c (Some files) folder feeds name s none refused = refused-decodes c (built_in files folder) feeds name s none refused
+
+-- the same of what a check writes
+refused-checks : (c : Code) (read : Result Database MibFault) (old new : Option (List ℕ)) → Appends old new [] → Refuses c read → IfOk read (λ db. Checks c db old new)
+refused-checks (code.BadMib fault) read old new none refused = not_ok (λ db. Checks (code.BadMib fault) db old new) read fault refused
+refused-checks code.TablesFault read old new none refused = each-ok (λ db. Checks code.TablesFault db old new) read (λ db. tt)
+refused-checks code.Want read old new none refused = each-ok (λ db. Checks code.Want db old new) read (λ db. none)
+refused-checks code.Ok read old new none refused = absurd refused
+refused-checks (code.Usage misuse) read old new none refused = absurd refused
+refused-checks (code.NoFile i) read old new none refused = absurd refused
+refused-checks (code.Cut cut) read old new none refused = absurd refused
+refused-checks code.FeedFault read old new none refused = absurd refused
+refused-checks code.DeskFault read old new none refused = absurd refused
+refused-checks code.OutFault read old new none refused = absurd refused
+refused-checks code.ReplyFault read old new none refused = absurd refused
+refused-checks code.Limit read old new none refused = absurd refused
+
+pub unopened_checks : (c : Code) (holds : Option Files) (folder : List ℕ) (old new : Option (List ℕ)) → Appends old new [] → IfSome holds (λ files. Refuses c (sound_in files folder))
+    → IfSome holds (λ files. IfOk (sound_in files folder) (λ db. Checks c db old new))
+unopened_checks c None folder old new none refused = tt
+unopened_checks c (Some files) folder old new none refused = refused-checks c (sound_in files folder) old new none refused
+
+-- a code with which accepted tables were read
+answers-ok : (c : Code) (read : Result Database MibFault) (db : Database) → IsFeedCode c → read ≡ Ok db → AnswersTables c read
+answers-ok code.Ok read db coded is = rw is refl
+answers-ok (code.NoFile i) read db coded is = rw is refl
+answers-ok (code.Cut count) read db coded is = rw is refl
+answers-ok code.FeedFault read db coded is = rw is refl
+answers-ok code.OutFault read db coded is = rw is refl
+answers-ok code.Limit read db coded is = rw is refl
+answers-ok code.Want read db coded is = tt
+answers-ok (code.Usage misuse) read db coded is = absurd coded
+answers-ok (code.BadMib fault) read db coded is = absurd coded
+answers-ok code.TablesFault read db coded is = absurd coded
+answers-ok code.DeskFault read db coded is = absurd coded
+answers-ok code.ReplyFault read db coded is = absurd coded
+
+pub kept_answers : (c : Code) (holds : Option Files) (read : Files → Result Database MibFault) (kept : Database) → IsFeedCode c → IfSome holds (λ files. Keeps (read files) kept)
+    → IfSome holds (λ files. AnswersTables c (read files))
+kept_answers c None read kept coded keeps = tt
+kept_answers c (Some files) read kept coded (db, is, built, same) = answers-ok c (read files) db coded is
+
+summary-code : (c : Code) → IsSummaryCode c → IsFeedCode c
+summary-code code.Ok coded = tt
+summary-code code.OutFault coded = tt
+summary-code code.Want coded = tt
+summary-code (code.NoFile input.Feed) coded = absurd coded
+summary-code (code.NoFile input.Desk) coded = absurd coded
+summary-code (code.Cut count) coded = absurd coded
+summary-code code.FeedFault coded = absurd coded
+summary-code code.Limit coded = absurd coded
+summary-code (code.Usage misuse) coded = absurd coded
+summary-code (code.BadMib fault) coded = absurd coded
+summary-code code.TablesFault coded = absurd coded
+summary-code code.DeskFault coded = absurd coded
+summary-code code.ReplyFault coded = absurd coded
+
+pub sound_answers : (c : Code) (holds : Option Files) (folder : List ℕ) (book : Database) → IsSummaryCode c → IfSome holds (λ files. sound_in files folder ≡ Ok book)
+    → IfSome holds (λ files. AnswersTables c (sound_in files folder))
+sound_answers c None folder book coded read = tt
+sound_answers c (Some files) folder book coded read = answers-ok c (sound_in files folder) book (summary-code c coded) read
+
+pub sound_checks : (c : Code) (holds : Option Files) (folder : List ℕ) (book : Database) (old new : Option (List ℕ)) → Checks c book old new → IfSome holds (λ files. sound_in files folder ≡ Ok book)
+    → IfSome holds (λ files. IfOk (sound_in files folder) (λ db. Checks c db old new))
+sound_checks c None folder book old new checks read = tt
+sound_checks c (Some files) folder book old new checks read = rw read checks

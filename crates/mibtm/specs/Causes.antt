@@ -1,14 +1,10 @@
 -- Which code comes with which count of faults.
 use Rattle.std.specs.Prelude.{◌≡◌, ℕ, ◌≤◌, ⊤}
-use Rattle.tm_io.specs.Causes.{Rose}
+use Rattle.session.specs.Causes.{Failed}
 use Rattle.mib_model.specs.declared.code.Code.{Code}
 use Rattle.mib_model.specs.declared.code.Code.TheVariants as code
-use Rattle.mibtm.specs.declared.run.Stop.{Stop}
-use Rattle.mibtm.specs.declared.run.Stop.TheVariants as stop
-
--- a count of faults that rose
-abbrev pub Failed : ℕ → ℕ → Type 0
-Failed before now = (before ≤ now) × Rose before now
+use Rattle.mibtm.specs.declared.print.Stop.{Stop}
+use Rattle.mibtm.specs.declared.print.Stop.TheVariants as stop
 
 -- the count of the tables rose where the code says so, and is as it was with every other code
 abbrev pub HasTablesCause : Code → ℕ → ℕ → Type 0
@@ -36,19 +32,13 @@ abbrev pub HasStopCause : Stop → ℕ → ℕ → Type 0
 HasStopCause stop.Memory before now = now ≡ before
 HasStopCause stop.Out before now = Failed before now
 
--- the codes that reading a file may end with
-abbrev pub IsReadStop : Code → Type 0
-IsReadStop code.TablesFault = ⊤
-IsReadStop code.Want = ⊤
-IsReadStop other = ⊥
+-- the codes that testing rows may end with
+abbrev pub IsTestStop : Code → Type 0
+IsTestStop (code.BadMib fault) = ⊤
+IsTestStop code.Want = ⊤
+IsTestStop other = ⊥
 
--- the codes that reading a text may end with
-abbrev pub IsTextStop : Code → Type 0
-IsTextStop (code.BadMib fault) = ⊤
-IsTextStop code.Want = ⊤
-IsTextStop other = ⊥
-
--- the codes that reading a table may end with
+-- the codes that loading tables may end with
 abbrev pub IsLoadStop : Code → Type 0
 IsLoadStop (code.BadMib fault) = ⊤
 IsLoadStop code.TablesFault = ⊤

@@ -1,21 +1,34 @@
--- The words that are understood: `decode`, the folder of the tables and the feed. [This profile.]
-use Rattle.std.specs.Prelude.{ℕ, List, [], ◌∷◌, codes, ◌||◌, if◌then◌else◌, Result, Ok, Err}
+-- The words that are understood: `check` and a folder of tables, or `decode`, such a folder and a feed. [This profile.]
+use Rattle.std.specs.Prelude.{ℕ, List, [], ◌∷◌, codes, ◌||◌, if◌then◌else◌, Result, Ok, Err, ⊤}
 use Rattle.std.specs.Str.{bytes_eq}
 use Rattle.mib_model.specs.declared.code.Misuse.{Misuse}
 use Rattle.mib_model.specs.declared.code.Misuse.TheVariants as misuse
-use Rattle.mib_model.specs.Words.{is_option}
+use Rattle.mib_model.specs.Words.{Command, Check, Decode, is_option}
 
--- what is read: tables in a folder, and a feed
-pub record Inputs : Type 0 where
-  pub folder : List ℕ
-  pub feed : List ℕ
+-- one word, which is no option
+abbrev pub check_in : List (List ℕ) → Result Command Misuse
+check_in (folder ∷ []) = if is_option folder then Err misuse.Words else Ok (Check folder)
+check_in other = Err misuse.Words
 
--- two words, of which none is an option
-abbrev pub inputs_of : List (List ℕ) → Result Inputs Misuse
-inputs_of (folder ∷ feed ∷ []) = if is_option folder || is_option feed then Err misuse.Words else Ok (record { folder = folder; feed = feed })
-inputs_of other = Err misuse.Words
+-- two words, of which none is an option; there is one worker
+abbrev pub decode_in : List (List ℕ) → Result Command Misuse
+decode_in (folder ∷ feed ∷ []) = if is_option folder || is_option feed then Err misuse.Words else Ok (Decode folder feed 1)
+decode_in other = Err misuse.Words
 
--- the inputs that words name, or what is wrong with them: the command before the rest
-abbrev pub inputs_in : List (List ℕ) → Result Inputs Misuse
-inputs_in [] = Err misuse.Command
-inputs_in (word ∷ words) = if bytes_eq word (codes "decode") then inputs_of words else Err misuse.Command
+-- what words ask for, or what is wrong with them: the command before the rest
+abbrev pub command_in : List (List ℕ) → Result Command Misuse
+command_in [] = Err misuse.Command
+command_in (word ∷ words) =
+    if bytes_eq word (codes "check") then check_in words
+    else if bytes_eq word (codes "decode") then decode_in words
+    else Err misuse.Command
+
+-- what is said of the folder of a check
+abbrev pub IfCheck : Command → (List ℕ → Type 0) → Type 0
+IfCheck (Check folder) says = says folder
+IfCheck other says = ⊤
+
+-- what is said of the folder and the feed of a decoding
+abbrev pub IfDecode : Command → (List ℕ → List ℕ → Type 0) → Type 0
+IfDecode (Decode folder feed workers) says = says folder feed
+IfDecode other says = ⊤

@@ -1,7 +1,8 @@
 -- The text of a packet's record, place by place, where no value has a curve or a check. [This profile.]
-use Rattle.std.specs.Prelude.{◌≡◌, ℕ, ◌+◌, Bool, false, List, [], ◌∷◌, ◌++◌, codes, decimal, Option, None, MatchOption, ◌==◌, if◌then◌else◌}
+use Rattle.std.specs.Prelude.{◌≡◌, ℕ, ◌+◌, Bool, false, List, [], ◌∷◌, ◌++◌, codes, decimal, Option, MatchOption, Result, Ok, ◌==◌, if◌then◌else◌}
 use Rattle.std.specs.Bool.{MatchBool}
 use Rattle.std.specs.List.{All, filter, flat_map}
+use Rattle.mib_model.specs.declared.fault.MibFault.{MibFault}
 use Rattle.mib_model.specs.declared.packet.Ended.TheVariants.{Many, Short}
 use Rattle.mib_model.specs.declared.packet.Found.{Found}
 use Rattle.mib_model.specs.declared.packet.Found.TheVariants as found
@@ -13,20 +14,25 @@ use Rattle.mib_model.specs.declared.database.Database.{Database}
 use Rattle.mib_model.specs.Encodings.{Encoding}
 use Rattle.mib_model.specs.Fixed.{Place, most_values, holds_place, value_at, occurrences}
 use Rattle.mib_model.specs.Headers.{header_of}
+use Rattle.mib_model.specs.Interpreter.{title_of}
 use Rattle.mib_model.specs.Match.{match_of}
 use Rattle.mib_model.specs.Parameters.{parameter, measured_encoding}
 use Rattle.mib_model.specs.Tails.{Plain}
 use Rattle.mib_model.specs.Texts.{head_text, value_text, ended_text}
 use Rattle.mib_model.specs.Unbuilt.{is_unbuilt_pcf, is_unbuilt_pid}
+use Rattle.mibtm.specs.Sources.{fixed_tables}
 
 -- the rows ask for nothing but fixed layouts of unsigned integers without curves, conditions and checks
 pub record IsBuilt (db : Database) : Type 0 where
   pub pcf : All (λ row. is_unbuilt_pcf row ≡ false) db.pcf
   pub pid : All (λ row. is_unbuilt_pid row ≡ false) db.pid
   pub pic : db.pic ≡ []
-  pub tpcf : db.tpcf ≡ []
   pub cur : db.cur ≡ []
   pub ocf : db.ocf ≡ []
+
+-- the tables that were kept of an accepted database, which is built
+abbrev pub Keeps : Result Database MibFault → Database → Type 0
+Keeps read kept = (db : Database) × (read ≡ Ok db) × IsBuilt db × (kept ≡ fixed_tables db)
 
 -- an unsigned integer of a width
 abbrev pub unsigned_of : ℕ → Encoding
@@ -74,4 +80,4 @@ found_values_text db packet other = []
 -- the record of a packet of edition 1
 unfoldable pub plain_record : Database → ℕ → List ℕ → List ℕ
 plain_record db number packet =
-    head_text number (header_of packet) (match_of db packet) None ++ found_values_text db packet (match_of db packet)
+    head_text number (header_of packet) (match_of db packet) (title_of db (match_of db packet)) ++ found_values_text db packet (match_of db packet)

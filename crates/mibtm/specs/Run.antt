@@ -9,8 +9,8 @@ use Rattle.mib_model.specs.declared.database.Database.{Database}
 use Rattle.mib_model.specs.Output.{output_of_one}
 use Rattle.mib_model.specs.Packets.{IsPacket, IsCut}
 use Rattle.mib_model.specs.Texts.{cut_text, rest_text}
-use Rattle.mibtm.specs.declared.run.Stop.{Stop}
-use Rattle.mibtm.specs.declared.run.Stop.TheVariants as stop
+use Rattle.mibtm.specs.declared.print.Stop.{Stop}
+use Rattle.mibtm.specs.declared.print.Stop.TheVariants as stop
 
 -- the most packets of a run
 abbrev pub most_packets : ℕ

@@ -1,14 +1,17 @@
 // The command `decode`: tables, then a feed.
-ghost use Rattle.std.specs.Prelude.{◌≡◌, IfSome, IfOk};
+ghost use Rattle.std.specs.Prelude.{◌≡◌, IfSome, IfOk, IfErr, OnOk, Ok};
 ghost use Rattle.mib_model.specs.Database.{database_of};
-ghost use Rattle.mibtm.specs.Causes.{HasTablesCause, HasFeedCause, HasOutCause};
-ghost use Rattle.mibtm.specs.Readings.{IsBuilt};
-ghost use Rattle.mibtm.specs.Sources.{database_in};
+ghost use Rattle.mibtm.specs.Causes.{HasTablesCause, HasFeedCause, HasOutCause, IsLoadStop, IsTestStop};
+ghost use Rattle.mibtm.specs.Readings.{IsBuilt, Keeps};
+ghost use Rattle.mibtm.specs.Sources.{Refuses, built_in, if_built};
 ghost use Rattle.mibtm.specs.Tool.{AnswersTables, Decodes, IsBeforeFeed, IsBeforeRun, IsDecodeCode, IsFeedCode};
 
-use crate::load::load;
+use crate::load::sound_book;
 use crate::run::run;
+use crate::tables::read_tables;
+use crate::unbuilt::first_unbuilt;
 use mib_model::{Code, Input, Tables};
+use mib_tables::Book;
 use std::alloc::Global;
 use tm_io::{Shelf, Sink};
 
@@ -34,6 +37,35 @@ fn decode_feed<F: Shelf, O: Sink>(
     }
 }
 
+// The tables that packets are printed by, where all rows of a book are built.
+fn built_tables(alloc: Global, book: &Book) -> Result<Tables, Code>
+    ensures told { IfOk result (λ kept. Keeps (if_built book.now) (database_of kept)) }
+    ensures refused { IfErr result (λ code. Refuses code (if_built book.now)) }
+    ensures built { IfOk result (λ kept. IsBuilt (database_of kept)) }
+    ensures stop { IfErr result IsTestStop }
+{
+    if let Some(fault) = first_unbuilt(book) {
+        return Err(Code::BadMib(fault));
+    }
+    match read_tables(alloc, book) {
+        Ok(tables) => Ok(tables),
+        Err(_) => Err(Code::Want),
+    }
+}
+
+// The tables of a folder that packets are printed by.
+fn folder_tables<T: Shelf>(alloc: Global, folder: &str, tables: &mut T) -> Result<Tables, Code>
+    ensures told { IfOk result (λ kept. IfSome (T.holds tables.old) (λ files. Keeps (built_in files folder.now) (database_of kept))) }
+    ensures refused { IfErr result (λ code. IfSome (T.holds tables.old) (λ files. Refuses code (built_in files folder.now))) }
+    ensures built { IfOk result (λ kept. IsBuilt (database_of kept)) }
+    ensures ok { OnOk result (T.faults tables.new ≡ T.faults tables.old) }
+    ensures cause { IfErr result (λ code. HasTablesCause code (T.faults tables.old) (T.faults tables.new)) }
+    ensures stop { IfErr result IsLoadStop }
+{
+    let book = sound_book(alloc, folder, tables)?;
+    built_tables(alloc, &book)
+}
+
 /// Prints the feed of that name by the tables of a folder.
 pub(crate) fn decode<T: Shelf, F: Shelf, O: Sink>(
     alloc: Global,
@@ -43,8 +75,8 @@ pub(crate) fn decode<T: Shelf, F: Shelf, O: Sink>(
     feed: &mut F,
     out: &mut O,
 ) -> Code
-    ensures tables { IfSome (T.holds tables.old) (λ files. AnswersTables result (database_in files folder.now)) }
-    ensures decodes { IfSome (T.holds tables.old) (λ files. IfOk (database_in files folder.now) (λ db. IfSome (F.holds feed.old) (λ feeds. Decodes result db (feeds name.now) (record { missed_before = F.missed feed.old; missed_now = F.missed feed.new; faults_before = F.faults feed.old; faults_now = F.faults feed.new; left = F.left feed.new; old = O.written out.old; new = O.written out.new })))) }
+    ensures tables { IfSome (T.holds tables.old) (λ files. AnswersTables result (built_in files folder.now)) }
+    ensures decodes { IfSome (T.holds tables.old) (λ files. IfOk (built_in files folder.now) (λ db. IfSome (F.holds feed.old) (λ feeds. Decodes result db (feeds name.now) (record { missed_before = F.missed feed.old; missed_now = F.missed feed.new; faults_before = F.faults feed.old; faults_now = F.faults feed.new; left = F.left feed.new; old = O.written out.old; new = O.written out.new })))) }
     ensures code { IsDecodeCode result }
     ensures tables_cause { HasTablesCause result (T.faults tables.old) (T.faults tables.new) }
     ensures feed_cause { HasFeedCause result (F.faults feed.old) (F.faults feed.new) }
@@ -52,8 +84,8 @@ pub(crate) fn decode<T: Shelf, F: Shelf, O: Sink>(
     ensures before_feed { IsBeforeFeed result → feed.new ≡ feed.old }
     ensures before_run { IsBeforeRun result → out.new ≡ out.old }
 {
-    match load(alloc, folder, tables) {
-        Ok(database) => decode_feed(alloc, &database, name, feed, out),
+    match folder_tables(alloc, folder, tables) {
+        Ok(kept) => decode_feed(alloc, &kept, name, feed, out),
         Err(code) => code,
     }
 }

@@ -1,12 +1,13 @@
 // What a packet is by the tables.
 ghost use Rattle.std.specs.Prelude.{◌≡◌, ◌≤◌, ◌==◌, ◌&&◌, length, IsTrue, false, Some, []};
-ghost use Rattle.std.specs.Option.{option_copied};
+ghost use Rattle.std.specs.Option.{option_and_then, option_copied};
 ghost use Rattle.std.specs.List.{find};
 ghost use Rattle.mib_model.specs.Headers.{header_of};
 ghost use Rattle.mib_model.specs.Match.{service_of, subtype_of, lacks_service, match_of, found_with};
 ghost use Rattle.mib_model.specs.Database.{database_of};
+ghost use Rattle.mib_model.specs.Interpreter.{title_of};
 
-use mib_model::{BadWhy, Found, Header, PidRow, Tables};
+use mib_model::{BadWhy, Found, Header, PidRow, Tables, Text, TpcfRow};
 
 // The APID of idle packets.
 const IDLE_APID: u16 = 2047;
@@ -101,4 +102,32 @@ pub(crate) fn identify(tables: &Tables, packet: &[u8]) -> Found
         return Found::Bad(BadWhy::Short);
     }
     among(&tables.pid, packet, &header)
+}
+
+// The first row of this SPID.
+fn title_row(rows: &[TpcfRow], spid: u32) -> Option<&TpcfRow>
+    ensures { option_copied result ≡ find (λ row. row.spid == spid) rows.now }
+{
+    rows.iter().find(|row| row.spid == spid)
+}
+
+// The name of the packets of this SPID, where they have one.
+fn title_by(rows: &[TpcfRow], spid: u32) -> Option<Text>
+    ensures { result ≡ option_and_then (λ row. row.name) (find (λ row. row.spid == spid) rows.now) }
+{
+    match title_row(rows, spid) {
+        Some(row) => row.name,
+        None => None,
+    }
+}
+
+/// The name of a packet that was found, where it has one.
+#[tactic(auto, unfolding(mib_model::specs::Interpreter::title_of))]
+pub(crate) fn title(tables: &Tables, found: &Found) -> Option<Text>
+    ensures { result ≡ title_of (database_of tables.now) found.now }
+{
+    match *found {
+        Found::Spid { spid, .. } => title_by(&tables.tpcf, spid),
+        _ => None,
+    }
 }

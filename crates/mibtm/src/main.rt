@@ -1,22 +1,25 @@
-//! The monitoring half of a spacecraft control system in the manner of SCOS-2000: `decode DIR FEED` reads the tables
-//! of a monitoring database from a folder, cuts a feed into space packets, and prints the values of each.
+//! The monitoring half of a spacecraft control system in the manner of SCOS-2000: `check DIR` reads the tables of a
+//! monitoring database from a folder, tests them and prints a summary; `decode DIR FEED` cuts a feed into space packets
+//! and prints the values of each by such tables.
 //!
 //! The call `tool` promises what is printed for these tables and this feed, and with which status it ends; `main`
-//! hands it real files and streams. It stands on `tm_io` for these, on `mib_rows` for tables, on `packet_feed` for
-//! packets, and on `mib_model` for all definitions.
+//! hands it real files and streams. It stands on `tm_io` for these, on `session` and `mib_keys` for sound tables, on
+//! `book_summary` for the summary, on `packet_feed` for packets, and on `mib_model` for all definitions.
 #![tactic(auto)]
 
 mod bits;
 mod buffer;
+mod check;
 mod code_text;
 mod decode;
 mod kinds;
 mod load;
+mod print;
+mod quoted;
 mod record;
 mod run;
 mod tables;
 mod text;
-mod text_file;
 mod tool;
 mod unbuilt;
 mod values;

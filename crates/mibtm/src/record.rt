@@ -3,7 +3,7 @@ ghost use Rattle.std.specs.Prelude.{◌≡◌, ◌≤◌, ◌++◌, length, OnOk
 ghost use Rattle.mib_model.specs.Database.{database_of};
 ghost use Rattle.mibtm.specs.Readings.{IsBuilt, plain_record};
 
-use crate::kinds::identify;
+use crate::kinds::{identify, title};
 use crate::text::add_head;
 use crate::values::add_values;
 use mib_model::{Found, Tables};
@@ -22,7 +22,7 @@ pub(crate) fn add_record(
     ensures { OnOk result (out.new.items ≡ out.old.items ++ plain_record (database_of tables.now) number packet.now) }
 {
     let found = identify(tables, packet);
-    add_head(out, number, packet, &found)?;
+    add_head(out, number, packet, &found, title(tables, &found))?;
     if let Found::Spid { spid, .. } = found {
         add_values(out, &tables.pcf, &tables.plf, spid, packet)?;
     }

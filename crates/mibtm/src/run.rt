@@ -3,53 +3,22 @@ ghost use Rattle.std.specs.Prelude.{◌≡◌, ◌≤◌, ◌<◌, length, IfOk,
 ghost use Rattle.std.specs.Io.KnownBytes.{Appends};
 ghost use Rattle.mib_model.specs.Database.{database_of};
 ghost use Rattle.mib_model.specs.Texts.{cut_text};
-ghost use Rattle.mibtm.specs.Causes.{HasOutCause, HasFeedCause, HasStopCause, code_of_stop};
+ghost use Rattle.mibtm.specs.Causes.{HasOutCause, HasFeedCause, HasStopCause};
 ghost use Rattle.mibtm.specs.Readings.{IsBuilt, plain_record};
 ghost use Rattle.mibtm.specs.Run.{IsRunCode, Ran, StopsAt};
 ghost use Rattle.packet_feed.specs.declared.feed.TheConstants.{PACKET_SIZE};
 
 use crate::buffer::zeros;
+use crate::print::{Stop, print};
 use crate::record::add_record;
 use crate::text::add_cut;
 use mib_model::{Code, Tables};
 use packet_feed::{Feed, Next, PACKET_SIZE};
 use std::alloc::Global;
-use tm_io::{Sink, Source, write_all};
+use tm_io::{Sink, Source};
 
 // The most packets of a run.
 const MOST_PACKETS: u64 = 1_000_000_000;
-
-/// Why printing stopped.
-#[derive(Clone, Copy, Debug, PartialEq, Eq)]
-pub enum Stop {
-    Memory,
-    Out,
-}
-
-impl Stop {
-    fn code(self) -> Code
-        ensures code { result ≡ code_of_stop self }
-        ensures run { IsRunCode result }
-    {
-        match self {
-            Stop::Memory => Code::Want,
-            Stop::Out => Code::OutFault,
-        }
-    }
-}
-
-// Writes a text whole.
-fn print<O: Sink>(text: &[u8], out: &mut O) -> Result<(), Stop>
-    ensures all { OnOk result (Appends (O.written out.old) (O.written out.new) text.now) }
-    ensures part { IfErr result (λ stop. StopsAt stop text.now (O.written out.old) (O.written out.new)) }
-    ensures ok { OnOk result (O.faults out.new ≡ O.faults out.old) }
-    ensures cause { IfErr result (λ stop. HasStopCause stop (O.faults out.old) (O.faults out.new)) }
-{
-    match write_all(out, text) {
-        Ok(()) => Ok(()),
-        Err(_) => Err(Stop::Out),
-    }
-}
 
 // Writes the record of a packet, over a buffer that is used again.
 fn print_packet<O: Sink>(

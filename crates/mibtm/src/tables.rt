@@ -1,19 +1,17 @@
-// The tables of a folder.
-ghost use Rattle.std.specs.Prelude.{◌≡◌, ◌≤◌, vec_len, string_bytes, filter_map, IfOk, IfErr, OnOk, IfSome, Ok, Option};
+// The tables that a packet of fixed layout is printed by.
+ghost use Rattle.std.specs.Prelude.{◌≡◌, filter_map, IfOk, Option};
+ghost use Rattle.std.specs.Arc.{arc_value};
 ghost use Rattle.mib_model.specs.declared.rows.Row.{Row};
 ghost use Rattle.mib_model.specs.declared.kind.Kind.{Kind};
-ghost use Rattle.mib_model.specs.Attempts.{made_into};
+ghost use Rattle.mib_model.specs.Database.{database_of};
 ghost use Rattle.mib_model.specs.DatabaseTexts as Texts;
-ghost use Rattle.mib_model.specs.Reading.{table_of};
-ghost use Rattle.mibtm.specs.Causes.{HasTablesCause, IsLoadStop, IsTextStop};
-ghost use Rattle.mibtm.specs.Sources as Sources;
-ghost use Rattle.mibtm.specs.Sources.{Picks, Refuses, RefusesTable};
+ghost use Rattle.mib_model.specs.Drafts.{rows_of};
+ghost use Rattle.mibtm.specs.Sources.{fixed_by, fixed_tables};
 
-use crate::text_file::read_file;
-use mib_model::{Code, Kind, PcfRow, PidRow, PlfRow, Row};
-use mib_rows::{ReadFault, read_table};
+use mib_model::{Kind, PcfRow, PidRow, PlfRow, Row, Tables, TpcfRow};
+use mib_tables::Book;
 use std::alloc::{AllocError, Global};
-use tm_io::Shelf;
+use std::sync::Arc;
 
 // A row of one of the tables.
 pub(crate) trait TableRow: Copy + Drop {
@@ -68,6 +66,25 @@ impl TableRow for PidRow {
     }
 }
 
+impl TableRow for TpcfRow {
+    ghost use Rattle.mib_model.specs.declared.kind.Kind.TheVariants.{Tpcf};
+
+    ghost kind = { Tpcf };
+
+    ghost from_row = { Texts.as_tpcf };
+
+    fn kind() -> Kind {
+        Kind::Tpcf
+    }
+
+    fn from_row(row: &Row) -> Option<TpcfRow> {
+        match row {
+            Row::Tpcf(row) => Some(*row),
+            _ => None,
+        }
+    }
+}
+
 impl TableRow for PlfRow {
     ghost use Rattle.mib_model.specs.declared.kind.Kind.TheVariants.{Plf};
 
@@ -87,60 +104,58 @@ impl TableRow for PlfRow {
     }
 }
 
-// The rows of one table among rows.
-fn rows_of<R: TableRow>(alloc: Global, rows: &[Row]) -> Result<Vec<R>, AllocError>
-    ensures { IfOk result (λ kept. kept.items ≡ filter_map R.from_row rows.now) }
+// The rows of one table among shared rows.
+fn rows_of<R: TableRow>(alloc: Global, rows: &[Arc<Row>]) -> Result<Vec<R>, AllocError>
+    ensures { IfOk result (λ kept. kept.items ≡ filter_map (λ row. R.from_row (arc_value row)) rows.now) }
 {
     rows.iter()
         .filter_map(|row| R::from_row(row))
         .collect(alloc)
 }
 
-// The name of a table's file.
-fn file_name(alloc: Global, folder: &str, table: Kind) -> Result<String, AllocError>
-    ensures { IfOk result (λ name. string_bytes name ≡ Sources.table_file folder.now table) }
+// The rows of a table of a book.
+fn table<R: TableRow>(alloc: Global, book: &Book) -> Result<Vec<R>, AllocError>
+    ensures { IfOk result (λ rows. rows.items ≡ filter_map R.from_row (rows_of book.now R.kind)) }
 {
-    let mut name = String::from_str(alloc, folder)?;
-    name.push_str("/")?;
-    name.push_str(table.name())?;
-    name.push_str(".dat")?;
-    Ok(name)
+    rows_of(alloc, book.rows(R::kind()))
 }
 
-// The rows of a table's text.
-fn read_rows<R: TableRow>(alloc: Global, text: &[u8]) -> Result<Vec<R>, Code>
-    ensures told { IfOk result (λ rows. made_into (filter_map R.from_row) (table_of R.kind text.now) ≡ Ok rows.items) }
-    ensures refused { IfErr result (λ code. Refuses code (table_of R.kind text.now)) }
-    ensures few { IfOk result (λ rows. vec_len rows ≤ 100000) }
-    ensures stop { IfErr result IsTextStop }
+// The tables that have these rows, and no others.
+fn assemble(
+    alloc: Global,
+    pcf: Vec<PcfRow>,
+    pid: Vec<PidRow>,
+    tpcf: Vec<TpcfRow>,
+    plf: Vec<PlfRow>,
+) -> Tables
+    ensures { database_of result ≡ fixed_by pcf.items pid.items tpcf.items plf.items }
 {
-    match read_table(alloc, R::kind(), text) {
-        Ok(rows) => match rows_of(alloc, &rows) {
-            Ok(kept) => Ok(kept),
-            Err(_) => Err(Code::Want),
-        },
-        Err(ReadFault::Mib(fault)) => Err(Code::BadMib(fault)),
-        Err(ReadFault::Memory) => Err(Code::Want),
+    Tables {
+        pcf,
+        pid,
+        pic: Vec::new(alloc),
+        tpcf,
+        plf,
+        vpd: Vec::new(alloc),
+        cur: Vec::new(alloc),
+        caf: Vec::new(alloc),
+        cap: Vec::new(alloc),
+        txf: Vec::new(alloc),
+        txp: Vec::new(alloc),
+        mcf: Vec::new(alloc),
+        lgf: Vec::new(alloc),
+        ocf: Vec::new(alloc),
+        ocp: Vec::new(alloc),
     }
 }
 
-// The rows of a table of a folder.
-pub(crate) fn table<R: TableRow, T: Shelf>(
-    alloc: Global,
-    folder: &str,
-    shelf: &mut T,
-) -> Result<Vec<R>, Code>
-    ensures told { IfOk result (λ rows. IfSome (T.holds shelf.old) (Picks R.from_row R.kind folder.now rows.items)) }
-    ensures refused { IfErr result (λ code. IfSome (T.holds shelf.old) (RefusesTable R.kind folder.now code)) }
-    ensures few { IfOk result (λ rows. vec_len rows ≤ 100000) }
-    ensures ok { OnOk result (T.faults shelf.new ≡ T.faults shelf.old) }
-    ensures cause { IfErr result (λ code. HasTablesCause code (T.faults shelf.old) (T.faults shelf.new)) }
-    ensures stop { IfErr result IsLoadStop }
-    ensures holds { T.holds shelf.new ≡ T.holds shelf.old }
+/// The parameters, packets, packets' names and places of a book, and no rows of the other tables.
+pub(crate) fn read_tables(alloc: Global, book: &Book) -> Result<Tables, AllocError>
+    ensures { IfOk result (λ tables. database_of tables ≡ fixed_tables book.now) }
 {
-    let Ok(name) = file_name(alloc, folder, R::kind()) else {
-        return Err(Code::Want);
-    };
-    let text = read_file(alloc, shelf, name.as_str())?;
-    read_rows(alloc, &text)
+    let pcf = table::<PcfRow>(alloc, book)?;
+    let pid = table::<PidRow>(alloc, book)?;
+    let tpcf = table::<TpcfRow>(alloc, book)?;
+    let plf = table::<PlfRow>(alloc, book)?;
+    Ok(assemble(alloc, pcf, pid, tpcf, plf))
 }

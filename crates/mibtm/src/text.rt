@@ -1,11 +1,12 @@
 // The lines of a packet's record.
-ghost use Rattle.std.specs.Prelude.{◌≡◌, ◌≤◌, ◌++◌, length, OnOk, codes, decimal, None};
+ghost use Rattle.std.specs.Prelude.{◌≡◌, ◌≤◌, ◌++◌, length, OnOk, codes, decimal, Some, []};
 ghost use Rattle.mib_model.specs.Headers.{header_of};
-ghost use Rattle.mib_model.specs.Texts.{found_text, head_text, type_text, why_text, cut_text};
+ghost use Rattle.mib_model.specs.Texts.{found_text, head_text, title_text, type_text, why_text, cut_text};
 
 use crate::kinds::header;
+use crate::quoted::add_quoted;
 use itoa::Buffer;
-use mib_model::{BadWhy, Found};
+use mib_model::{BadWhy, Found, Text};
 use std::alloc::AllocError;
 
 // Appends a number's digits.
@@ -24,8 +25,23 @@ fn add_types(out: &mut Vec<u8>, service: u8, subtype: u8) -> Result<(), AllocErr
     add_number(out, u64::from(subtype))
 }
 
-fn add_found(out: &mut Vec<u8>, found: &Found) -> Result<(), AllocError>
-    ensures { OnOk result (out.new.items ≡ out.old.items ++ found_text found.now None) }
+// Appends the name of a packet, where there is one that isn't empty.
+fn add_title(out: &mut Vec<u8>, title: Option<Text>) -> Result<(), AllocError>
+    ensures { OnOk result (out.new.items ≡ out.old.items ++ title_text title) }
+{
+    let Some(title) = title else {
+        return Ok(());
+    };
+    if title.bytes().is_empty() {
+        return Ok(());
+    }
+    out.extend_from_slice(b" NAME ")?;
+    add_quoted(out, title.bytes())
+}
+
+// Appends what a packet is.
+fn add_found(out: &mut Vec<u8>, found: &Found, title: Option<Text>) -> Result<(), AllocError>
+    ensures { OnOk result (out.new.items ≡ out.old.items ++ found_text found.now title) }
 {
     match *found {
         Found::Spid {
@@ -36,7 +52,8 @@ fn add_found(out: &mut Vec<u8>, found: &Found) -> Result<(), AllocError>
         } => {
             add_types(out, service, subtype)?;
             out.extend_from_slice(b" SPID ")?;
-            add_number(out, u64::from(spid))
+            add_number(out, u64::from(spid))?;
+            add_title(out, title)
         }
         Found::Unknown { service, subtype } => {
             add_types(out, service, subtype)?;
@@ -56,9 +73,10 @@ pub(crate) fn add_head(
     number: u64,
     packet: &[u8],
     found: &Found,
+    title: Option<Text>,
 ) -> Result<(), AllocError>
     requires { 7 ≤ length packet.now }
-    ensures { OnOk result (out.new.items ≡ out.old.items ++ head_text number (header_of packet.now) found.now None) }
+    ensures { OnOk result (out.new.items ≡ out.old.items ++ head_text number (header_of packet.now) found.now title) }
 {
     let header = header(packet);
     out.extend_from_slice(b"PKT ")?;
@@ -67,7 +85,7 @@ pub(crate) fn add_head(
     add_number(out, u64::from(header.apid))?;
     out.extend_from_slice(b" COUNT ")?;
     add_number(out, u64::from(header.count))?;
-    add_found(out, found)?;
+    add_found(out, found, title)?;
     out.extend_from_slice(b"\n")
 }
 

@@ -1,12 +1,13 @@
 ghost use Rattle.std.specs.Prelude.{◌≡◌, ℕ, List, Option, Some, Ok, map, string_bytes, IfSome, IfOk, MatchResult};
 ghost use Rattle.mib_model.specs.declared.database.Database.{Database};
 ghost use Rattle.mibtm.specs.Causes.{HasTablesCause, HasFeedCause, HasOutCause};
-ghost use Rattle.mibtm.specs.Inputs.{inputs_in};
-ghost use Rattle.mibtm.specs.Sources.{database_in};
-ghost use Rattle.mibtm.specs.Tool.{AnswersTables, Completes, Decodes, IsBeforeFeed, IsBeforeRun, IsDecodeCode, IsUnfailed, IsUsage, Standing};
+ghost use Rattle.mibtm.specs.Inputs.{IfCheck, IfDecode, command_in};
+ghost use Rattle.mibtm.specs.Sources.{built_in, sound_in};
+ghost use Rattle.mibtm.specs.Tool.{AnswersFor, AnswersTables, Checks, Completes, CompletesCheck, Decodes, IsBeforeFeed, IsBeforeRun, IsCheckCode, IsCodeOf, IsDecodeCode, IsUnfailed, IsUsage, Standing};
 
+use crate::check::check;
 use crate::decode::decode;
-use crate::words::inputs;
+use crate::words::{Request, request_in};
 use mib_model::Code;
 use std::alloc::Global;
 use std::sync::Wait;
@@ -19,9 +20,9 @@ pub struct Status {
     pub code: Code,
 }
 
-/// Does what the words ask for, which stand behind the program's name. Tables are read from `tables`, packets from
-/// `feed`, and what is decoded is written to `out`. The command is `decode DIR FEED`; `desk`, `replies` and `gate`
-/// are not called by it.
+/// Does what the words ask for, which stand behind the program's name. `check DIR` reads tables from `tables` and writes
+/// their summary to `out`; `decode DIR FEED` reads packets from `feed` too, and writes what is decoded of them. `desk`,
+/// `replies` and `gate` are not called, nor is `feed` by a check.
 pub fn tool<
     T: Shelf,
     F: Shelf + Send,
@@ -42,16 +43,20 @@ pub fn tool<
     gate: &G,
 ) -> Status
     // Wrong words, and only they, are answered as such, and then no object was called.
-    ensures words { MatchResult (inputs_in (map string_bytes words.now)) (λ _. IsDecodeCode result.code) (λ misuse. result.code ≡ Code.Usage misuse) }
+    ensures words { MatchResult (command_in (map string_bytes words.now)) (λ command. IsCodeOf command result.code) (λ misuse. result.code ≡ Code.Usage misuse) }
     ensures tables_untouched { IsUsage result.code → tables.new ≡ tables.old }
 
     // The tables are refused just where they are faulty, and for their first fault.
-    ensures tables { IfOk (inputs_in (map string_bytes words.now)) (λ inputs. IfSome (T.holds tables.old) (λ files. AnswersTables result.code (database_in files inputs.folder))) }
+    ensures tables { IfOk (command_in (map string_bytes words.now)) (λ command. IfSome (T.holds tables.old) (AnswersFor command result.code)) }
     ensures feed_untouched { IsBeforeFeed result.code → feed.new ≡ feed.old }
     ensures out_untouched { IsBeforeRun result.code → out.new ≡ out.old }
 
-    // With accepted tables: what was read of the feed, and what was written.
-    ensures decodes { IfOk (inputs_in (map string_bytes words.now)) (λ inputs. IfSome (T.holds tables.old) (λ files. IfOk (database_in files inputs.folder) (λ db. IfSome (F.holds feed.old) (λ feeds. Decodes result.code db (feeds inputs.feed) (record { missed_before = F.missed feed.old; missed_now = F.missed feed.new; faults_before = F.faults feed.old; faults_now = F.faults feed.new; left = F.left feed.new; old = O.written out.old; new = O.written out.new }))))) }
+    // A check of sound tables: what was written. The feed is not called.
+    ensures checks { IfOk (command_in (map string_bytes words.now)) (λ command. IfCheck command (λ folder. IfSome (T.holds tables.old) (λ files. IfOk (sound_in files folder) (λ db. Checks result.code db (O.written out.old) (O.written out.new))))) }
+    ensures check_feed { IfOk (command_in (map string_bytes words.now)) (λ command. IfCheck command (λ folder. feed.new ≡ feed.old)) }
+
+    // A decoding by accepted tables: what was read of the feed, and what was written.
+    ensures decodes { IfOk (command_in (map string_bytes words.now)) (λ command. IfDecode command (λ folder name. IfSome (T.holds tables.old) (λ files. IfOk (built_in files folder) (λ db. IfSome (F.holds feed.old) (λ feeds. Decodes result.code db (feeds name) (record { missed_before = F.missed feed.old; missed_now = F.missed feed.new; faults_before = F.faults feed.old; faults_now = F.faults feed.new; left = F.left feed.new; old = O.written out.old; new = O.written out.new })))))) }
 
     // A fault is answered just where its count rose; one of the output goes before one of the feed.
     ensures tables_cause { HasTablesCause result.code (T.faults tables.old) (T.faults tables.new) }
@@ -61,8 +66,11 @@ pub fn tool<
     ensures desk { desk.new ≡ desk.old }
     ensures replies { replies.new ≡ replies.old }
 {
-    let code = match inputs(words) {
-        Ok((folder, name)) => decode(alloc, folder, name, tables, feed, out),
+    let code = match request_in(words) {
+        Ok(Request::Check { folder }) => check(alloc, folder, tables, out),
+        Ok(Request::Decode { folder, feed: name }) => {
+            decode(alloc, folder, name, tables, feed, out)
+        }
         Err(misuse) => Code::Usage(misuse),
     };
     Status { code }
@@ -76,4 +84,12 @@ pub fn decoding_is_complete()
         → HasTablesCause c tables tables_now → HasFeedCause c s.faults_before s.faults_now → HasOutCause c out out_now
         → IsUnfailed tables tables_now → IsUnfailed s.faults_before s.faults_now → IsUnfailed out out_now
         → Completes c db octets s.old s.new }
+{}
+
+/// Where the tables are sound and nothing fails, a check writes their summary whole, unless memory runs out.
+pub fn checking_is_complete()
+    ensures { (c : Code) (db : Database) (old new : Option (List ℕ)) (tables tables_now out out_now : ℕ)
+        → IsCheckCode c → AnswersTables c (Ok db) → Checks c db old new → HasTablesCause c tables tables_now → HasOutCause c out out_now
+        → IsUnfailed tables tables_now → IsUnfailed out out_now
+        → CompletesCheck c db old new }
 {}

@@ -1,9 +1,17 @@
 // The words of the command line.
 ghost use Rattle.std.specs.Prelude.{◌≡◌, map, string_bytes, MatchResult, Ok, Err};
 ghost use Rattle.mib_model.specs.Words as Words;
-ghost use Rattle.mibtm.specs.Inputs.{inputs_in, inputs_of};
+ghost use Rattle.mibtm.specs.Inputs.{check_in, command_in, decode_in};
+ghost use Rattle.mibtm.specs.Requests.{command_of};
 
 use mib_model::Misuse;
+
+/// What the words ask for.
+#[derive(Clone, Copy)]
+pub(crate) enum Request<'a> {
+    Check { folder: &'a str },
+    Decode { folder: &'a str, feed: &'a str },
+}
 
 // A word that begins with `-`, other than `-` itself.
 fn is_option(word: &str) -> bool
@@ -12,24 +20,40 @@ fn is_option(word: &str) -> bool
     word.as_bytes().first() == Some(&b'-') && word != "-"
 }
 
-// The folder and the feed that the words behind the command name.
-fn names(words: &[String]) -> Result<(&str, &str), Misuse>
-    ensures { MatchResult result (λ names. inputs_of (map string_bytes words.now) ≡ Ok (record { folder = names.0.now; feed = names.1.now })) (λ misuse. inputs_of (map string_bytes words.now) ≡ Err misuse) }
+// The folder behind `check`.
+fn check_words(words: &[String]) -> Result<Request<'_>, Misuse>
+    ensures { MatchResult result (λ request. check_in (map string_bytes words.now) ≡ Ok (command_of request)) (λ misuse. check_in (map string_bytes words.now) ≡ Err misuse) }
+{
+    match words {
+        [folder] if !is_option(folder.as_str()) => Ok(Request::Check {
+            folder: folder.as_str(),
+        }),
+        _ => Err(Misuse::Words),
+    }
+}
+
+// The folder and the feed behind `decode`.
+fn decode_words(words: &[String]) -> Result<Request<'_>, Misuse>
+    ensures { MatchResult result (λ request. decode_in (map string_bytes words.now) ≡ Ok (command_of request)) (λ misuse. decode_in (map string_bytes words.now) ≡ Err misuse) }
 {
     match words {
         [folder, feed] if !is_option(folder.as_str()) && !is_option(feed.as_str()) => {
-            Ok((folder.as_str(), feed.as_str()))
+            Ok(Request::Decode {
+                folder: folder.as_str(),
+                feed: feed.as_str(),
+            })
         }
         _ => Err(Misuse::Words),
     }
 }
 
-// The folder of the tables and the feed that all words name.
-pub(crate) fn inputs(words: &[String]) -> Result<(&str, &str), Misuse>
-    ensures { MatchResult result (λ names. inputs_in (map string_bytes words.now) ≡ Ok (record { folder = names.0.now; feed = names.1.now })) (λ misuse. inputs_in (map string_bytes words.now) ≡ Err misuse) }
+/// What all words ask for: the command, and then the words behind it.
+pub(crate) fn request_in(words: &[String]) -> Result<Request<'_>, Misuse>
+    ensures { MatchResult result (λ request. command_in (map string_bytes words.now) ≡ Ok (command_of request)) (λ misuse. command_in (map string_bytes words.now) ≡ Err misuse) }
 {
     match words {
-        [command, rest @ ..] if command.as_str() == "decode" => names(rest),
+        [command, rest @ ..] if command.as_str() == "check" => check_words(rest),
+        [command, rest @ ..] if command.as_str() == "decode" => decode_words(rest),
         _ => Err(Misuse::Command),
     }
 }

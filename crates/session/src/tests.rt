@@ -111,13 +111,18 @@ fn a_row_has_at_most_4096_octets(rt: HostRuntime) -> Result<(), Fail> {
     Ok(())
 }
 
+// A text of so many empty lines.
+fn empty_lines(alloc: Global, count: usize) -> Result<Vec<u8>, Fail> {
+    Ok(Vec::from_elem(alloc, b'\n', count)?)
+}
+
 #[test]
 fn a_text_has_at_most_67_108_864_octets(rt: HostRuntime) -> Result<(), Fail> {
     let alloc = rt.alloc();
-    let full = Vec::from_elem(alloc, b'\n', TEXT_MOST)?;
+    let full = empty_lines(alloc, TEXT_MOST)?;
     let book = load(alloc, "mib", &mut folder(alloc, "mib/vpd.dat", full)?)?;
     assert_eq!(rt; book.count(Kind::Vpd), 0);
-    let over = Vec::from_elem(alloc, b'\n', TEXT_MOST + 1)?;
+    let over = empty_lines(alloc, TEXT_MOST + 1)?;
     assert_eq!(rt;
         load(alloc, "mib", &mut folder(alloc, "mib/vpd.dat", over)?).err(),
         fault(Kind::Vpd, 0, MibCode::Big)

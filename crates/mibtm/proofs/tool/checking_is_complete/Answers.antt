@@ -1,0 +1,5 @@
+use Rattle.mibtm.proofs.Completeness.{completes_check}
+use Rattle.mibtm.proofs.tool.checking_is_complete.Goals as goal
+
+pub returns : goal.returns
+returns c = completes_check

@@ -1,0 +1,52 @@
+// The command `check`: tables, and their summary.
+ghost use Rattle.std.specs.Prelude.{◌≡◌, IfSome, IfOk};
+ghost use Rattle.mibtm.specs.Causes.{HasTablesCause, HasOutCause};
+ghost use Rattle.mibtm.specs.Sources.{sound_in};
+ghost use Rattle.mibtm.specs.Tool.{AnswersTables, Checks, IsBeforeRun, IsCheckCode, IsSummaryCode};
+
+use crate::load::sound_book;
+use crate::print::print;
+use book_summary::add_summary;
+use mib_model::Code;
+use mib_tables::Book;
+use std::alloc::Global;
+use tm_io::{Shelf, Sink};
+
+// Writes the summary of a book, and hands it on.
+fn print_summary<O: Sink>(alloc: Global, book: &Book, out: &mut O) -> Code
+    ensures checks { Checks result book.now (O.written out.old) (O.written out.new) }
+    ensures code { IsSummaryCode result }
+    ensures out { HasOutCause result (O.faults out.old) (O.faults out.new) }
+{
+    let mut text = Vec::new(alloc);
+    if add_summary(alloc, &mut text, book).is_err() {
+        return Code::Want;
+    }
+    if let Err(stop) = print(&text, out) {
+        return stop.code();
+    }
+    match out.flush() {
+        Ok(()) => Code::Ok,
+        Err(_) => Code::OutFault,
+    }
+}
+
+/// Writes the summary of the tables of a folder, where they are sound.
+pub(crate) fn check<T: Shelf, O: Sink>(
+    alloc: Global,
+    folder: &str,
+    tables: &mut T,
+    out: &mut O,
+) -> Code
+    ensures tables { IfSome (T.holds tables.old) (λ files. AnswersTables result (sound_in files folder.now)) }
+    ensures checks { IfSome (T.holds tables.old) (λ files. IfOk (sound_in files folder.now) (λ db. Checks result db (O.written out.old) (O.written out.new))) }
+    ensures code { IsCheckCode result }
+    ensures tables_cause { HasTablesCause result (T.faults tables.old) (T.faults tables.new) }
+    ensures out_cause { HasOutCause result (O.faults out.old) (O.faults out.new) }
+    ensures before_run { IsBeforeRun result → out.new ≡ out.old }
+{
+    match sound_book(alloc, folder, tables) {
+        Ok(book) => print_summary(alloc, &book, out),
+        Err(code) => code,
+    }
+}
