@@ -110,10 +110,10 @@ unbuilt-over db =
       in_table kind.Ocf row.Ocf db.ocf,
       no_row kind.Ocp row.Ocp db.ocp (λ r. refl),
     ) (ap (λ t. first_of_two (unbuilt_in kind.Pcf is_unbuilt_pcf db.pcf)
-      (first_of_two (unbuilt_in kind.Pid is_unbuilt_pid db.pid)
-      (first_of_two (unbuilt_in kind.Pic any_row db.pic)
-      (first_of_two (unbuilt_in kind.Plf is_unbuilt_plf db.plf)
-      (first_of_two (unbuilt_in kind.Cur any_row db.cur) t))))) (last-none (unbuilt_in kind.Ocf any_row db.ocf)))
+    (first_of_two (unbuilt_in kind.Pid is_unbuilt_pid db.pid)
+    (first_of_two (unbuilt_in kind.Pic any_row db.pic)
+    (first_of_two (unbuilt_in kind.Plf is_unbuilt_plf db.plf)
+    (first_of_two (unbuilt_in kind.Cur any_row db.cur) t))))) (last-none (unbuilt_in kind.Ocf any_row db.ocf)))
 
 pub keeps_built : (db kept : Database) → unbuilt db ≡ None → kept ≡ fixed_tables db → Keeps (if_built db) kept
 keeps_built db kept is same = (db, ap (free_of db) is, all-built db is, same)

@@ -20,7 +20,7 @@ impl Stop {
     pub(crate) fn code(self) -> Code
         ensures code { result ≡ code_of_stop self }
         ensures run { IsRunCode result }
-    ensures summary { IsSummaryCode result }
+        ensures summary { IsSummaryCode result }
     {
         match self {
             Stop::Memory => Code::Want,

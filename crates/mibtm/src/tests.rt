@@ -1,20 +1,20 @@
 ghost use Rattle.std.specs.Prelude.{◌≤◌};
 
 use crate::tool::tool;
-use mib_model::{Code, Input, Kind, MibCode, MibFault, Misuse};
+use mib_model::{Code, Input, Misuse};
 use std::alloc::Global;
 use std::sync::Wait;
 use std::test::Fail;
 use std::thread::Threads;
 use tm_io::{MemFile, MemShelf, MemSink, NoGate, Source};
 
-const PCF: &[u8] = b"T1\t\t\t\t3\t12\t\t\t\tN\tR\n";
+pub(crate) const PCF: &[u8] = b"T1\t\t\t\t3\t12\t\t\t\tN\tR\n";
 
-const PID: &[u8] = b"3\t25\t100\t\t\t4001\n";
+pub(crate) const PID: &[u8] = b"3\t25\t100\t\t\t4001\n";
 
-const PLF: &[u8] = b"T1\t4001\t10\t0\n";
+pub(crate) const PLF: &[u8] = b"T1\t4001\t10\t0\n";
 
-const PACKET: &[u8] = &[
+pub(crate) const PACKET: &[u8] = &[
     0x08, 0x64, 0xC0, 0x00, 0x00, 0x05, 0x10, 0x03, 0x19, 0x00, 0x07, 0xD0,
 ];
 
@@ -29,7 +29,12 @@ const RECORDS: &[u8] =
 // The octets of one record of these.
 const RECORD_SIZE: usize = 53;
 
-fn file(alloc: Global, name: &str, octets: &[u8], fails: &[u64]) -> Result<MemFile, Fail> {
+pub(crate) fn file(
+    alloc: Global,
+    name: &str,
+    octets: &[u8],
+    fails: &[u64],
+) -> Result<MemFile, Fail> {
     Ok(MemFile {
         name: String::from_str(alloc, name)?,
         bytes: Vec::from_slice(alloc, octets)?,
@@ -49,14 +54,19 @@ fn tables(alloc: Global, pcf: &[u8], pid: &[u8], plf: &[u8], most: usize) -> Res
     Ok(MemShelf::new(files, most))
 }
 
-fn feed(alloc: Global, octets: &[u8], fails: &[u64], most: usize) -> Result<MemShelf, Fail>
+pub(crate) fn feed(
+    alloc: Global,
+    octets: &[u8],
+    fails: &[u64],
+    most: usize,
+) -> Result<MemShelf, Fail>
     requires { 1 ≤ most }
 {
     let files = vec![in alloc; file(alloc, "feed", octets, fails)?]?;
     Ok(MemShelf::new(files, most))
 }
 
-fn sink(alloc: Global, fails: &[u64], most: usize) -> Result<MemSink, Fail>
+pub(crate) fn sink(alloc: Global, fails: &[u64], most: usize) -> Result<MemSink, Fail>
     requires { 1 ≤ most }
 {
     Ok(MemSink::new(alloc, most, Vec::from_slice(alloc, fails)?)?)
@@ -71,7 +81,7 @@ fn words(alloc: Global, words: &[&str]) -> Result<Vec<String>, Fail> {
 }
 
 // Calls the tool for these words.
-fn call<X: Threads + Wait + Sync>(
+pub(crate) fn call<X: Threads + Wait + Sync>(
     rt: &X,
     alloc: Global,
     given: &[&str],
@@ -223,7 +233,7 @@ fn a_failed_flush_is_a_fault_of_the_output(rt: HostRuntime) -> Result<(), Fail> 
 #[test]
 fn a_failing_turn_or_read_of_a_table_is_a_fault_of_the_tables(rt: HostRuntime) -> Result<(), Fail> {
     let alloc = rt.alloc();
-    for skip in 0..3 {
+    for skip in 0..15 {
         let mut shelf = tables(alloc, PCF, PID, PLF, 7)?;
         shelf.fail_aim(skip);
         let mut out = sink(alloc, &[], 9)?;
@@ -291,10 +301,12 @@ fn a_failing_turn_to_the_feed_is_a_fault_and_a_missing_feed_is_none(
 #[test]
 fn wrong_words_are_refused_by_the_command_first(rt: HostRuntime) -> Result<(), Fail> {
     let alloc = rt.alloc();
-    let cases: [(&[&str], Misuse); 8] = [
+    let cases: [(&[&str], Misuse); 10] = [
         (&[], Misuse::Command),
         (&["frob"], Misuse::Command),
-        (&["check", "mib"], Misuse::Command),
+        (&["check"], Misuse::Words),
+        (&["check", "mib", "more"], Misuse::Words),
+        (&["check", "-x"], Misuse::Words),
         (&["decode"], Misuse::Words),
         (&["decode", "mib"], Misuse::Words),
         (&["decode", "mib", "feed", "more"], Misuse::Words),
@@ -313,81 +325,6 @@ fn wrong_words_are_refused_by_the_command_first(rt: HostRuntime) -> Result<(), F
             &mut sink(alloc, &[], 9)?,
         )?;
         assert_eq!(rt; code, Code::Usage(misuse));
-    }
-    Ok(())
-}
-
-#[test]
-fn tables_are_refused_by_their_first_fault_or_row_that_is_not_built(
-    rt: HostRuntime,
-) -> Result<(), Fail> {
-    let alloc = rt.alloc();
-    let unbuilt = |table, row| MibFault {
-        table,
-        row,
-        column: 0,
-        first: 0,
-        code: MibCode::Unbuilt,
-    };
-    let signed = b"T1\t\t\t\t4\t12\t\t\t\tN\tR\n";
-    let cases: [(&[u8], &[u8], &[u8], MibFault); 7] = [
-        (signed, PID, PLF, unbuilt(Kind::Pcf, 1)),
-        (
-            b"T1\t\t\t\t3\t12\t\t\t\tN\tR\tC1\n",
-            PID,
-            PLF,
-            unbuilt(Kind::Pcf, 1),
-        ),
-        (
-            b"A\t\t\t\t3\t12\t\t\t\tN\tR\nT1\t\t\t\t3\t12\t\tA\t\tN\tR\n",
-            PID,
-            PLF,
-            unbuilt(Kind::Pcf, 2),
-        ),
-        (
-            PCF,
-            b"3\t25\t100\t\t\t4001\t\t\t10\n",
-            PLF,
-            unbuilt(Kind::Pid, 1),
-        ),
-        (PCF, PID, b"T1\t4001\t10\t0\t2\t16\n", unbuilt(Kind::Plf, 1)),
-        (
-            signed,
-            b"3\t256\t100\t\t\t4001\n",
-            PLF,
-            MibFault {
-                table: Kind::Pid,
-                row: 1,
-                column: 2,
-                first: 0,
-                code: MibCode::BadNumber,
-            },
-        ),
-        (
-            b"\xEF\xBB\xBFT1\t\t\t\t3\t12\t\t\t\tN\tR\n",
-            PID,
-            PLF,
-            MibFault {
-                table: Kind::Pcf,
-                row: 0,
-                column: 0,
-                first: 0,
-                code: MibCode::Mark,
-            },
-        ),
-    ];
-    for (pcf, pid, plf, fault) in cases {
-        let mut out = sink(alloc, &[], 9)?;
-        let code = call(
-            &rt,
-            alloc,
-            DECODE,
-            &mut tables(alloc, pcf, pid, plf, 7)?,
-            &mut feed(alloc, PACKET, &[], 5)?,
-            &mut out,
-        )?;
-        assert_eq!(rt; code, Code::BadMib(fault));
-        assert!(rt; out.bytes().is_empty());
     }
     Ok(())
 }
