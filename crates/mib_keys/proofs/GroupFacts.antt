@@ -1,63 +1,32 @@
--- Rows of structures by POS: where a row goes, what is noted of a structure, and the groups around a place.
-use Rattle.std.proofs.Common.{◌≡◌, ℕ, suc, ◌+◌, ◌<◌, pos, Bool, true, false, not, cond, ◌&&◌, ◌||◌, List, [], ◌∷◌, ◌++◌, map, take, length, filter, get_or, Option, Some, None, unwrap_or, is_some, refl, sym, ap, ◌∙◌, nat_eq, nat_lt, nat_le, arith}
-use Rattle.std.proofs.lemmas.Bool.{ltb-false}
-use Rattle.std.proofs.lemmas.List.{take_more, length-take-le}
+-- Rows of structures by POS: what is noted of a structure, and the groups around a place.
+use Rattle.std.proofs.Common.{◌≡◌, ℕ, suc, ◌+◌, pos, Bool, true, false, cond, ◌&&◌, ◌||◌, List, [], ◌∷◌, map, take, length, filter, Option, Some, None, is_some, refl, sym, ap, subst, ◌∙◌, nat_eq, nat_lt, nat_le, arith}
+use Rattle.std.proofs.lemmas.List.{length-map, take-map}
 use Rattle.std.proofs.lemmas.List.Elements.{filter_agree}
-use Rattle.std.proofs.lemmas.List.Sums.{prefix_len-le-length}
-use Rattle.std.specs.List.{position, position_or_len, list_any, enumerate_from, insert}
+use Rattle.std.specs.Cmp.{nat_eq_equiv}
+use Rattle.std.specs.List.{position, list_any, enumerate_from, filter_map, cons_option}
 use Rattle.std.specs.Ordering.{int_eq}
 use Rattle.mib_model.specs.declared.database.Database.{Database}
+use Rattle.mib_model.specs.declared.key.Key.TheVariants as key
 use Rattle.mib_model.specs.declared.rows.Row.TheVariants as row
 use Rattle.mib_model.specs.declared.rows.VpdRow.{VpdRow}
+use Rattle.mib_model.specs.Drafts.{rows_of}
 use Rattle.mib_model.specs.GroupFlaws.{place_of, passes_end, passes_group}
+use Rattle.mib_model.specs.Keys.{has_key, same_key}
 use Rattle.mib_model.specs.Orders.{insert_by, sorted_by}
 use Rattle.mib_model.specs.Structures.{structure}
-use Rattle.mib_keys.specs.declared.groups.Spot.{Spot}
-use Rattle.mib_keys.specs.Structures.{spot_of, by_pos, spots_from, passes, passes_spots}
-use Rattle.std.proofs.lemmas.List.{length-map, take-map}
-use Rattle.std.specs.Cmp.{nat_eq_equiv}
-use Rattle.mib_model.specs.declared.key.Key.TheVariants as key
-use Rattle.mib_model.specs.Drafts.{rows_of}
-use Rattle.mib_model.specs.Keys.{has_key, same_key}
+use Rattle.mib_keys.specs.declared.structures.Spot.{Spot}
 use Rattle.mib_keys.specs.Firsts.{alike_in, least}
 use Rattle.mib_keys.specs.Indexes.{cut}
+use Rattle.mib_keys.specs.Structures.{spot_of, spots_from, by_pos, is_in, RisesByPos, passes, passes_spots}
 use Rattle.mib_keys.proofs.AnyFacts.{same-number, any-agree}
 use Rattle.mib_keys.proofs.KeyFacts.{both-same, false-true}
 use Rattle.mib_keys.proofs.LookupFacts.{found-any, position-map, count-map}
+use Rattle.mib_keys.proofs.OrderFacts.{sorted-rises}
 use Rattle.mib_keys.proofs.PointFacts.{position-take}
 
--- the first place, or the end
-pub place-or-end : {X : Type 0} (p : X → Bool) (xs : List X) → unwrap_or (position p xs) (length xs) ≡ position_or_len p xs
-place-or-end p xs = go (nat_lt (position_or_len p xs) (length xs)) refl where
-  go : (b : Bool) → nat_lt (position_or_len p xs) (length xs) ≡ b → unwrap_or (cond b (Some (position_or_len p xs)) None) (length xs) ≡ position_or_len p xs
-  go true h = refl
-  go false h = let n = ltb-false (position_or_len p xs) (length xs) h in let m = prefix_len-le-length (λ x. not (p x)) xs in omega (arith, n, m)
-
--- an item put before the first that it may stand before
-pub put-at : {A : Type 0} (before : A → A → Bool) (x : A) (xs : List A) → insert xs (position_or_len (before x) xs) x ≡ insert_by before x xs
-put-at before x [] = refl
-put-at before x (y ∷ ys) = go (before x y) (position_or_len (before x) ys) (put-at before x ys) where
-  go : (b : Bool) (n : ℕ) → insert ys n x ≡ insert_by before x ys → insert (y ∷ ys) (cond (not b) (1 + n) 0) x ≡ cond b (x ∷ y ∷ ys) (y ∷ insert_by before x ys)
-  go true n h = refl
-  go false n h = let e : 1 + n ≡ suc n = omega arith in ap (λ k. insert (y ∷ ys) k x) e ∙ ap (λ (zs : List _). y ∷ zs) h
-
--- one more row among those before
-pub any-more : {X : Type 0} (p : ℕ × X → Bool) (start : ℕ) (xs : List X) (x : X) → list_any p (enumerate_from start (xs ++ x ∷ [])) ≡ (list_any p (enumerate_from start xs) || p (start + length xs, x))
-any-more p start [] x = (let e : start + 0 ≡ start = omega arith in last (p (start, x)) ∙ ap (λ n. p (n, x)) (sym e)) where
-  last : (b : Bool) → (b || false) ≡ b
-  last true = refl
-  last false = refl
-any-more p start (y ∷ ys) x =
-    ap (λ b. p (start, y) || b) (any-more p (start + 1) ys x) ∙ (assoc (p (start, y)) (list_any p (enumerate_from (start + 1) ys)) (p (start + 1 + length ys, x)) ∙
-    (let e : start + 1 + length ys ≡ start + suc (length ys) = omega arith in ap (λ n. p (start, y) || list_any p (enumerate_from (start + 1) ys) || p (n, x)) e)) where
-      assoc : (a b c : Bool) → (a || (b || c)) ≡ (a || b || c)
-      assoc true b c = refl
-      assoc false b c = refl
-
-pub any-next : {X : Type 0} (p : ℕ × X → Bool) (xs : List X) (i : ℕ) (d : X) → i < length xs → list_any p (enumerate_from 0 (take (i + 1) xs)) ≡ (list_any p (enumerate_from 0 (take i xs)) || p (i, get_or xs i d))
-any-next p xs i d below =
-    ap (λ ys. list_any p (enumerate_from 0 ys)) (take_more xs i d below) ∙ (any-more p 0 (take i xs) (get_or xs i d) ∙
-    (let e : 0 + length (take i xs) ≡ i = (let l = length-take-le i xs (omega (arith, below)) in omega (arith, l)) in ap (λ n. list_any p (enumerate_from 0 (take i xs)) || p (n, get_or xs i d)) e))
+pub filter_map-map : {X Y Z : Type 0} (h : Y → Option Z) (f : X → Y) (xs : List X) → filter_map h (map f xs) ≡ filter_map (λ x. h (f x)) xs
+filter_map-map h f [] = refl
+filter_map-map h f (x ∷ xs) = ap (cons_option (h (f x))) (filter_map-map h f xs)
 
 -- what is noted of a structure is the structure
 module _ where
@@ -69,20 +38,30 @@ module _ where
   insert-spots x [] = refl
   insert-spots x (y ∷ ys) = insert-way (nat_le x.pos y.pos) x y ys (insert_by (λ a b. nat_le a.pos b.pos) x ys) (insert_by by_pos (spot_of x) (map spot_of ys)) (insert-spots x ys)
 
-  one_row : (q : ℕ) (b : Bool) (r : VpdRow) (mine : List VpdRow) (spots : List Spot) → spots ≡ map spot_of (sorted_by (λ x y. nat_le x.pos y.pos) mine) → cond b (insert_by by_pos (spot_of r) spots) spots ≡ map spot_of (sorted_by (λ x y. nat_le x.pos y.pos) (cond b (r ∷ mine) mine))
+  sorted-spots : (rows : List VpdRow) → sorted_by by_pos (map spot_of rows) ≡ map spot_of (sorted_by (λ x y. nat_le x.pos y.pos) rows)
   unfolding sorted_by
-  one_row q true r mine spots h = ap (insert_by by_pos (spot_of r)) h ∙ insert-spots r (sorted_by (λ x y. nat_le x.pos y.pos) mine)
-  one_row q false r mine spots h = h
+  sorted-spots [] = refl
+  sorted-spots (r ∷ rs) = ap (insert_by by_pos (spot_of r)) (sorted-spots rs) ∙ insert-spots r (sorted_by (λ x y. nat_le x.pos y.pos) rs)
 
-  spots-sorted : (q : ℕ) (rows : List VpdRow) → spots_from q (map row.Vpd rows) ≡ map spot_of (sorted_by (λ x y. nat_le x.pos y.pos) (filter (λ (r : VpdRow). nat_eq r.tpsd q) rows))
-  unfolding sorted_by
-  spots-sorted q [] = refl
-  spots-sorted q (r ∷ rs) = one_row q (nat_eq r.tpsd q) r (filter (λ (o : VpdRow). nat_eq o.tpsd q) rs) (spots_from q (map row.Vpd rs)) (spots-sorted q rs)
+  all-spots : (rows : List VpdRow) → spots_from (map row.Vpd rows) ≡ map spot_of rows
+  all-spots [] = refl
+  all-spots (r ∷ rs) = ap (λ (zs : List Spot). spot_of r ∷ zs) (all-spots rs)
 
-pub spots-structure : (db : Database) (q : ℕ) → spots_from q (map row.Vpd db.vpd) ≡ map spot_of (structure db (pos q))
+  own-spots : (q : ℕ) (rows : List VpdRow) → filter (is_in q) (map spot_of rows) ≡ map spot_of (filter (λ (r : VpdRow). nat_eq r.tpsd q) rows)
+  own-spots q [] = refl
+  own-spots q (r ∷ rs) = go (nat_eq r.tpsd q) (filter (λ (o : VpdRow). nat_eq o.tpsd q) rs) (own-spots q rs) where
+    go : (b : Bool) (mine : List VpdRow) → filter (is_in q) (map spot_of rs) ≡ map spot_of mine → cond b (spot_of r ∷ filter (is_in q) (map spot_of rs)) (filter (is_in q) (map spot_of rs)) ≡ map spot_of (cond b (r ∷ mine) mine)
+    go true mine h = ap (λ (zs : List Spot). spot_of r ∷ zs) h
+    go false mine h = h
+
+pub spots-structure : (db : Database) (q : ℕ) → sorted_by by_pos (filter (is_in q) (spots_from (map row.Vpd db.vpd))) ≡ map spot_of (structure db (pos q))
 unfolding structure
 spots-structure db q =
-    spots-sorted q db.vpd ∙ ap (λ rows. map spot_of (sorted_by (λ x y. nat_le x.pos y.pos) rows)) (filter_agree (λ (r : VpdRow). nat_eq r.tpsd q) (λ (r : VpdRow). int_eq (pos r.tpsd) (pos q)) (λ (r : VpdRow). same-number r.tpsd q) db.vpd)
+    ap (λ spots. sorted_by by_pos (filter (is_in q) spots)) (all-spots db.vpd) ∙ (ap (sorted_by by_pos) (own-spots q db.vpd) ∙ (sorted-spots (filter (λ (r : VpdRow). nat_eq r.tpsd q) db.vpd) ∙
+    ap (λ rows. map spot_of (sorted_by (λ x y. nat_le x.pos y.pos) rows)) (filter_agree (λ (r : VpdRow). nat_eq r.tpsd q) (λ (r : VpdRow). int_eq (pos r.tpsd) (pos q)) (λ (r : VpdRow). same-number r.tpsd q) db.vpd)))
+
+pub structure-rises : (db : Database) (q : ℕ) → RisesByPos (map spot_of (structure db (pos q)))
+structure-rises db q = subst RisesByPos (spots-structure db q) (sorted-rises (λ (spot : Spot). spot.pos) (filter (is_in q) (spots_from (map row.Vpd db.vpd))))
 
 -- how many rows pass a test is the same in order
 module _ (test : VpdRow → Bool) where

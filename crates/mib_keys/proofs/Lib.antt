@@ -5,5 +5,7 @@ pub mod LookupFacts
 pub mod CountFacts
 pub mod AnyFacts
 pub mod PointFacts
+pub mod OrderFacts
+pub mod SweepFacts
 pub mod GroupFacts
 pub mod FlawFacts

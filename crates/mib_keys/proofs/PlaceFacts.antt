@@ -45,7 +45,7 @@ few-way : {X : Type 0} (b : Bool) (x : X) (kept xs : List X) → length kept ≤
 few-way true x kept xs h = omega arith
 few-way false x kept xs h = omega arith
 
-pub filter-few : {X : Type 0} (p : X → Bool) (xs : List X) → length (filter p xs) ≤ length xs
+filter-few : {X : Type 0} (p : X → Bool) (xs : List X) → length (filter p xs) ≤ length xs
 filter-few p [] = omega arith
 filter-few p (x ∷ xs) = few-way (p x) x (filter p xs) xs (filter-few p xs)
 
@@ -82,5 +82,3 @@ module _ {A X : Type 0} (f : A → X) (rows : List A) (i : ℕ) (row : A) where
 pub noted-more : (new so_far old before after : Option ℕ) (here holds : Bool) (i : ℕ) → new ≡ first_of_two so_far (some_if here i) → so_far ≡ first_of_two old before → here ≡ holds → after ≡ first_of_two before (some_if holds i) → new ≡ first_of_two old after
 noted-more new so_far old before after here holds i step behind same more =
     step ∙ (ap (λ o. first_of_two o (some_if here i)) behind ∙ (first-assoc old before (some_if here i) ∙ (ap (λ b. first_of_two old (first_of_two before (some_if b i))) same ∙ ap (first_of_two old) (sym more))))
-
-pub ruleset few = (filter-few)

@@ -1,44 +1,42 @@
 -- The rows of structures by POS, as they are noted. [SCOS-2000 Database Import ICD, vpd; this profile.]
-use Rattle.std.specs.Prelude.{◌≡◌, ℕ, ◌+◌, pos, Bool, List, [], ◌∷◌, map, length, take, nat_le, nat_lt, nat_eq, filter, ◌&&◌, ◌||◌, Option, Some, None, if◌then◌else◌}
+use Rattle.std.specs.Prelude.{◌≡◌, ℕ, ◌+◌, ◌<◌, ◌≤◌, pos, Bool, true, false, List, [], map, length, take, nat_le, nat_lt, nat_eq, filter, ◌&&◌, ◌||◌, Option, Some, None}
 use Rattle.std.specs.BTreeMap.{get, BTreeMap}
-use Rattle.std.specs.List.{list_any, enumerate_from}
+use Rattle.std.specs.BTreeSet.{contains, BTreeSet}
+use Rattle.std.specs.List.{list_any, enumerate_from, filter_map, slice_index_or}
+use Rattle.std.specs.List.Sorted.{IsNonDecreasingBy, IsStableByKey}
 use Rattle.std.specs.Ordering.{nat_cmp}
-use Rattle.std.specs.declared.alloc.Global.{Global}
-use Rattle.std.specs.declared.vec.Vec.{Vec}
 use Rattle.mib_model.specs.declared.database.Database.{Database}
 use Rattle.mib_model.specs.declared.rows.Row.{Row}
 use Rattle.mib_model.specs.declared.rows.Row.TheVariants as row
 use Rattle.mib_model.specs.declared.rows.VpdRow.{VpdRow}
-use Rattle.mib_model.specs.Orders.{insert_by}
 use Rattle.mib_model.specs.Structures.{structure}
-use Rattle.mib_keys.specs.declared.groups.Spot.{Spot}
+use Rattle.mib_keys.specs.declared.structures.Spot.{Spot}
 
 -- what the groups of a structure are told by
 abbrev pub spot_of : VpdRow → Spot
-spot_of r = record { pos = r.pos; grpsize = r.grpsize }
+spot_of r = record { tpsd = r.tpsd; pos = r.pos; grpsize = r.grpsize }
+
+abbrev pub spot_in : Row → Option Spot
+spot_in (row.Vpd r) = Some (spot_of r)
+spot_in other = None
+
+-- those of rows, in their order
+abbrev pub spots_from : List Row → List Spot
+spots_from rows = filter_map spot_in rows
+
+abbrev pub is_in : ℕ → Spot → Bool
+is_in tpsd spot = nat_eq spot.tpsd tpsd
 
 abbrev pub by_pos : Spot → Spot → Bool
 by_pos x y = nat_le x.pos y.pos
 
-abbrev pub spots_in : Option (Vec Spot Global) → List Spot
-spots_in None = []
-spots_in (Some v) = v.items
+abbrev pub RisesByPos : List Spot → Type 0
+RisesByPos spots = IsNonDecreasingBy (λ (spot : Spot). spot.pos) spots
 
-abbrev pub spots_at : BTreeMap ℕ (Vec Spot Global) → ℕ → List Spot
-spots_at noted q = spots_in (get nat_cmp noted q)
-
--- the spots of a structure with those of one more row
-abbrev pub with_row : ℕ → Row → List Spot → List Spot
-with_row q (row.Vpd r) spots = if nat_eq r.tpsd q then insert_by by_pos (spot_of r) spots else spots
-with_row q other spots = spots
-
-abbrev pub spots_from : ℕ → List Row → List Spot
-spots_from q [] = []
-spots_from q (r ∷ rs) = with_row q r (spots_from q rs)
-
--- each structure is noted
-abbrev pub AreStructures : BTreeMap ℕ (Vec Spot Global) → Database → Type 0
-AreStructures noted db = (q : ℕ) → spots_at noted q ≡ map spot_of (structure db (pos q))
+-- the rows in order, those of one POS as they stood before
+pub record IsByPos (rows spots : List Spot) : Type 0 where
+  pub rises : RisesByPos spots
+  pub stable : IsStableByKey (λ (spot : Spot). spot.pos) nat_cmp rows spots
 
 -- a group of so many rows behind a place passes the end of a group in which the place stands
 abbrev pub passes : ℕ → ℕ → ℕ × Spot → Bool
@@ -50,3 +48,38 @@ passes_some spots place size = list_any (passes place size) (enumerate_from 0 (t
 abbrev pub passes_spots : List Spot → VpdRow → Bool
 passes_spots spots r =
     nat_lt (length spots) (length (filter (λ o. nat_lt o.pos r.pos) spots) + r.grpsize + 1) || passes_some spots (length (filter (λ o. nat_lt o.pos r.pos) spots)) r.grpsize
+
+-- the group of the row at a place ends here
+abbrev pub ends_at : ℕ → ℕ × Spot → Bool
+ends_at end outer = nat_eq (outer.0 + outer.1.grpsize) end
+
+abbrev pub is_end_before : ℕ → Option ℕ → Bool
+is_end_before bound None = false
+is_end_before bound (Some end) = nat_lt end bound
+
+-- the least of some ends from a place on
+pub record IsLeast (ends : BTreeSet ℕ) (place end : ℕ) : Type 0 where
+  pub behind : place ≤ end
+  pub noted : contains nat_cmp ends end ≡ true
+  pub least : (other : ℕ) → place ≤ other → contains nat_cmp ends other ≡ true → end ≤ other
+
+abbrev pub IsNearest : BTreeSet ℕ → ℕ → Option ℕ → Type 0
+IsNearest ends place None = (other : ℕ) → place ≤ other → contains nat_cmp ends other ≡ false
+IsNearest ends place (Some end) = IsLeast ends place end
+
+-- the ends are those of the groups; for each place the nearest end tells whether a group passes one around it
+pub record IsSwept (spots : List Spot) (nearest : List (Option ℕ)) (ends : BTreeSet ℕ) : Type 0 where
+  pub all : length nearest ≡ length spots
+  pub told : (place size : ℕ) → place < length spots → is_end_before (place + size) (slice_index_or nearest place None) ≡ passes_some spots place size
+  pub noted : (end : ℕ) → contains nat_cmp ends end ≡ list_any (ends_at end) (enumerate_from 0 spots)
+
+abbrev pub spots_in : Option (List Spot) → List Spot
+spots_in None = []
+spots_in (Some spots) = spots
+
+abbrev pub spots_at : BTreeMap ℕ (List Spot) → ℕ → List Spot
+spots_at noted q = spots_in (get nat_cmp noted q)
+
+-- each structure is noted
+abbrev pub AreStructures : BTreeMap ℕ (List Spot) → Database → Type 0
+AreStructures noted db = (q : ℕ) → spots_at noted q ≡ map spot_of (structure db (pos q))

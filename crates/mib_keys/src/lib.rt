@@ -15,6 +15,7 @@ mod places;
 mod points;
 mod rules;
 mod soundness;
+mod structures;
 #[cfg(test)]
 mod tests;
 mod types;

@@ -13,11 +13,12 @@ ghost use Rattle.mib_model.specs.RowTexts.{kind_in};
 ghost use Rattle.mib_keys.specs.Ready.{IsReady};
 
 use crate::fault::SoundFault;
-use crate::groups::{Spot, structures, vpd_flaw};
+use crate::groups::vpd_flaw;
 use crate::lookups::Tables;
 use crate::maps::{Maps, PointKey};
 use crate::points::{before, cap_flaw, points, txp_flaw};
 use crate::rules::{caf_flaw, cur_flaw, ocf_flaw, ocp_flaw, pcf_flaw, pid_flaw, plf_flaw};
+use crate::structures::{Structure, structures};
 use mib_model::{KINDS, Kind, MibCode, MibFault, Row};
 use mib_tables::Book;
 use std::alloc::{AllocError, Global};
@@ -59,7 +60,7 @@ fn alike(tables: &Tables<'_>, row: &Row) -> Option<u32>
 struct Checker<'a> {
     tables: Tables<'a>,
     points: &'a BTreeMap<PointKey, u32>,
-    structures: &'a BTreeMap<u32, Vec<Spot>>,
+    structures: &'a BTreeMap<u32, Structure>,
 }
 
 // The first flaw of a row but for a row that it repeats.
@@ -148,8 +149,7 @@ fn first_flaw(alloc: Global, book: &Book) -> Result<Option<MibFault>, AllocError
 }
 
 /// Whether a book is sound: `Ok` exactly where no flaw stands, and else the first flaw, by table, row and code, unless
-/// memory runs out. The time grows as n log n with the rows, but for the groups of one structure, whose rows are
-/// looked through for each of them.
+/// memory runs out. The time grows as n log n with the rows.
 pub fn sound(alloc: Global, book: &Book) -> Result<(), SoundFault>
     ensures { Gives result book.now }
 {
