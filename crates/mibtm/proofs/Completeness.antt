@@ -8,7 +8,8 @@ use Rattle.mib_model.specs.Packets.{IsCut}
 use Rattle.session.specs.Causes.{Failed}
 use Rattle.mibtm.specs.Causes.{HasTablesCause, HasFeedCause, HasOutCause}
 use Rattle.mibtm.specs.Run.{Ran}
-use Rattle.mibtm.specs.Tool.{AnswersTables, Checks, Completes, CompletesCheck, Decodes, IsCheckCode, IsDecodeCode, IsUnfailed, Standing}
+use Rattle.mibtm.specs.Tool.{AnswersTables, Completes, Decodes, IsDecodeCode, IsUnfailed, Standing}
+use Rattle.mibtm.specs.Checking.{Checks, CompletesCheck, IsCheckCode}
 
 -- a count that stays as it was, below its end, didn't rise
 not_failed : (before now : ℕ) → IsUnfailed before now → Failed before now → ⊥

@@ -13,7 +13,8 @@ use Rattle.session.specs.Sources.{Files}
 use Rattle.mib_model.specs.declared.code.Input.TheVariants as input
 use Rattle.mibtm.specs.Readings.{Keeps}
 use Rattle.mibtm.specs.Sources.{Refuses, built_in, sound_in}
-use Rattle.mibtm.specs.Tool.{AnswersTables, Checks, Decodes, IsFeedCode, IsSummaryCode, Standing, PrintsFront}
+use Rattle.mibtm.specs.Tool.{AnswersTables, Decodes, IsFeedCode, Standing, PrintsFront}
+use Rattle.mibtm.specs.Checking.{Checks, IsSummaryCode}
 
 -- no packet gives no text
 output-nothing : (db : Database) → output_of_one db [] [] ≡ []

@@ -4,5 +4,6 @@ pub mod Run
 pub mod Inputs
 pub mod Sources
 pub mod UnbuiltRows
+pub mod Checking
 pub mod Requests
 pub mod Tool

@@ -1,4 +1,4 @@
--- What a call of the tool for `decode` or `check` answers and leaves. [This profile.]
+-- What a call of the tool answers, and what one for `decode` leaves. [This profile.]
 use Rattle.std.specs.Prelude.{◌≡◌, ℕ, ◌⊎◌, List, [], ◌++◌, Option, Some, None, Result, Err, IsOk, ⊤, ◌<◌, ◌+◌, ◌^◌, length}
 use Rattle.std.specs.List.{All, concat}
 use Rattle.std.specs.Io.KnownBytes.{Appends}
@@ -9,11 +9,10 @@ use Rattle.mib_model.specs.declared.database.Database.{Database}
 use Rattle.mib_model.specs.declared.fault.MibFault.{MibFault}
 use Rattle.mib_model.specs.Packets.{IsPacket, IsCut}
 use Rattle.mib_model.specs.Texts.{cut_text}
-use Rattle.mib_model.specs.Summaries.{summary}
 use Rattle.mib_model.specs.Words.{Command, Check, Decode}
 use Rattle.session.specs.Causes.{Failed}
 use Rattle.session.specs.Sources.{Files}
-use Rattle.tm_io.specs.Octets.{AppendsPrefix}
+use Rattle.mibtm.specs.Checking.{IsCheckCode}
 use Rattle.mibtm.specs.Sources.{built_in, sound_in}
 use Rattle.mibtm.specs.Run.{Ran, Writes, most_packets}
 
@@ -24,22 +23,6 @@ IsDecodeCode (code.NoFile input.Desk) = ⊥
 IsDecodeCode code.DeskFault = ⊥
 IsDecodeCode code.ReplyFault = ⊥
 IsDecodeCode other = ⊤
-
--- the codes of `check`
-abbrev pub IsCheckCode : Code → Type 0
-IsCheckCode code.Ok = ⊤
-IsCheckCode (code.BadMib fault) = ⊤
-IsCheckCode code.TablesFault = ⊤
-IsCheckCode code.OutFault = ⊤
-IsCheckCode code.Want = ⊤
-IsCheckCode other = ⊥
-
--- the codes of a summary that is written
-abbrev pub IsSummaryCode : Code → Type 0
-IsSummaryCode code.Ok = ⊤
-IsSummaryCode code.OutFault = ⊤
-IsSummaryCode code.Want = ⊤
-IsSummaryCode other = ⊥
 
 -- the codes of a command
 abbrev pub IsCodeOf : Command → Code → Type 0
@@ -90,14 +73,6 @@ abbrev pub AnswersFor : Command → Code → Files → Type 0
 AnswersFor (Check folder) c files = AnswersTables c (sound_in files folder)
 AnswersFor (Decode folder feed workers) c files = AnswersTables c (built_in files folder)
 AnswersFor other c files = ⊥
-
--- what a code says of what a check wrote
-abbrev pub Checks : Code → Database → Option (List ℕ) → Option (List ℕ) → Type 0
-Checks code.Ok db old new = Appends old new (summary db)
-Checks code.OutFault db old new = AppendsPrefix old new (summary db)
-Checks code.TablesFault db old new = ⊤
-Checks code.Want db old new = Appends old new []
-Checks other db old new = ⊥
 
 -- packets at the front of the feed were printed, and nothing else
 abbrev pub PrintsFront : Database → List ℕ → Option (List ℕ) → Option (List ℕ) → Type 0
@@ -150,12 +125,6 @@ Completes code.Limit db octets old new =
     (packets : List (List ℕ)) × (more : List ℕ) × (octets ≡ concat packets ++ more) × All IsPacket packets × (length packets ≡ most_packets) × Writes db packets [] old new
 Completes code.Want db octets old new = ⊤
 Completes other db octets old new = ⊥
-
--- what a check wrote that nothing hindered
-abbrev pub CompletesCheck : Code → Database → Option (List ℕ) → Option (List ℕ) → Type 0
-CompletesCheck code.Ok db old new = Appends old new (summary db)
-CompletesCheck code.Want db old new = ⊤
-CompletesCheck other db old new = ⊥
 
 -- a count of faults that didn't rise, and could still
 pub record IsUnfailed (before now : ℕ) : Type 0 where

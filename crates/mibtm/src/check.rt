@@ -2,7 +2,8 @@
 ghost use Rattle.std.specs.Prelude.{◌≡◌, IfSome, IfOk};
 ghost use Rattle.mibtm.specs.Causes.{HasTablesCause, HasOutCause};
 ghost use Rattle.mibtm.specs.Sources.{sound_in};
-ghost use Rattle.mibtm.specs.Tool.{AnswersTables, Checks, IsBeforeRun, IsCheckCode, IsSummaryCode};
+ghost use Rattle.mibtm.specs.Checking.{Checks, IsCheckCode, IsSummaryCode};
+ghost use Rattle.mibtm.specs.Tool.{AnswersTables, IsBeforeRun};
 
 use crate::load::sound_book;
 use crate::print::print;

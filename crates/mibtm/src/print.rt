@@ -3,7 +3,7 @@ ghost use Rattle.std.specs.Prelude.{◌≡◌, OnOk, IfErr};
 ghost use Rattle.std.specs.Io.KnownBytes.{Appends};
 ghost use Rattle.mibtm.specs.Causes.{HasStopCause, code_of_stop};
 ghost use Rattle.mibtm.specs.Run.{IsRunCode, StopsAt};
-ghost use Rattle.mibtm.specs.Tool.{IsSummaryCode};
+ghost use Rattle.mibtm.specs.Checking.{IsSummaryCode};
 
 use mib_model::Code;
 use tm_io::{Sink, write_all};

@@ -3,7 +3,8 @@ ghost use Rattle.mib_model.specs.declared.database.Database.{Database};
 ghost use Rattle.mibtm.specs.Causes.{HasTablesCause, HasFeedCause, HasOutCause};
 ghost use Rattle.mibtm.specs.Inputs.{IfCheck, IfDecode, command_in};
 ghost use Rattle.mibtm.specs.Sources.{built_in, sound_in};
-ghost use Rattle.mibtm.specs.Tool.{AnswersFor, AnswersTables, Checks, Completes, CompletesCheck, Decodes, IsBeforeFeed, IsBeforeRun, IsCheckCode, IsCodeOf, IsDecodeCode, IsUnfailed, IsUsage, Standing};
+ghost use Rattle.mibtm.specs.Checking.{Checks, CompletesCheck, IsCheckCode};
+ghost use Rattle.mibtm.specs.Tool.{AnswersFor, AnswersTables, Completes, Decodes, IsBeforeFeed, IsBeforeRun, IsCodeOf, IsDecodeCode, IsUnfailed, IsUsage, Standing};
 
 use crate::check::check;
 use crate::decode::decode;

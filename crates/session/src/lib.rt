@@ -5,11 +5,11 @@
 //! all definitions.
 #![tactic(auto)]
 
-mod loading;
 mod load_fault;
+mod loading;
 #[cfg(test)]
 mod tests;
 mod text_file;
 
-pub use loading::load;
 pub use load_fault::LoadFault;
+pub use loading::load;

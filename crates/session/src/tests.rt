@@ -6,10 +6,11 @@ use tm_io::{MemFile, MemShelf};
 
 const PCF: &[u8] = b"T1\t\t\t\t3\t12\t\t\t\tN\tR\n";
 
-// The most octets of a table's text, and of a row.
+// The most octets of a table's text.
 const TEXT_MOST: usize = 67_108_864;
 
-const ROW_MOST: usize = 4_096;
+// The most octets of a description beside 9 others, in a row of at most 4,096.
+const DESCRIPTION_MOST: usize = 4_087;
 
 fn file(alloc: Global, name: &str, octets: Vec<u8>, fails: &[u64]) -> Result<MemFile, Fail> {
     Ok(MemFile {
@@ -56,7 +57,10 @@ fn a_file_that_fails_is_told_at_each_octet(rt: HostRuntime) -> Result<(), Fail> 
         let text = Vec::from_slice(alloc, PCF)?;
         let files = vec![in alloc; file(alloc, "mib/pcf.dat", text, &[at as u64])?]?;
         let mut shelf = MemShelf::new(files, 7);
-        assert_eq!(rt; load(alloc, "mib", &mut shelf).err(), Some(LoadFault::Failed));
+        assert_eq!(rt;
+            load(alloc, "mib", &mut shelf).err(),
+            Some(LoadFault::Failed)
+        );
     }
     Ok(())
 }
@@ -81,13 +85,19 @@ fn a_table_has_at_most_100_000_rows(rt: HostRuntime) -> Result<(), Fail> {
         load(alloc, "mib", &mut folder(alloc, "mib/tpcf.dat", over)?).err(),
         fault(Kind::Tpcf, 100_001, MibCode::Rows)
     );
+    let mut faulty = many_rows(alloc, 100_000)?;
+    faulty.extend_from_slice(b"x\n")?;
+    assert_eq!(rt;
+        load(alloc, "mib", &mut folder(alloc, "mib/tpcf.dat", faulty)?).err(),
+        fault(Kind::Tpcf, 100_001, MibCode::Rows)
+    );
     Ok(())
 }
 
-// A row of caf whose description fills the line up to so many octets.
+// A row of caf with a description of so many octets.
 fn long_row(alloc: Global, size: usize) -> Result<Vec<u8>, Fail> {
     let mut text = Vec::from_slice(alloc, b"C1\t")?;
-    while text.len() + 6 < size {
+    for _ in 0..size {
         text.push(b'x')?;
     }
     text.extend_from_slice(b"\tR\tU\tD\r\n")?;
@@ -97,16 +107,28 @@ fn long_row(alloc: Global, size: usize) -> Result<Vec<u8>, Fail> {
 #[test]
 fn a_row_has_at_most_4096_octets(rt: HostRuntime) -> Result<(), Fail> {
     let alloc = rt.alloc();
-    let book = load(
-        alloc,
-        "mib",
-        &mut folder(alloc, "mib/caf.dat", long_row(alloc, ROW_MOST)?)?,
-    )?;
+    let full = long_row(alloc, DESCRIPTION_MOST)?;
+    let book = load(alloc, "mib", &mut folder(alloc, "mib/caf.dat", full)?)?;
     assert_eq!(rt; book.count(Kind::Caf), 1);
-    let over = long_row(alloc, ROW_MOST + 1)?;
+    let over = long_row(alloc, DESCRIPTION_MOST + 1)?;
     assert_eq!(rt;
         load(alloc, "mib", &mut folder(alloc, "mib/caf.dat", over)?).err(),
         fault(Kind::Caf, 1, MibCode::LineLong)
+    );
+    Ok(())
+}
+
+// A line of more octets than a name and a row may have.
+#[test]
+fn a_long_row_is_refused_before_its_fields_are_read(rt: HostRuntime) -> Result<(), Fail> {
+    let alloc = rt.alloc();
+    let mut text = Vec::from_slice(alloc, b"L1\n\n")?;
+    for _ in 0..4_097 {
+        text.push(b'x')?;
+    }
+    assert_eq!(rt;
+        load(alloc, "mib", &mut folder(alloc, "mib/lgf.dat", text)?).err(),
+        fault(Kind::Lgf, 2, MibCode::LineLong)
     );
     Ok(())
 }
@@ -125,6 +147,12 @@ fn a_text_has_at_most_67_108_864_octets(rt: HostRuntime) -> Result<(), Fail> {
     let over = empty_lines(alloc, TEXT_MOST + 1)?;
     assert_eq!(rt;
         load(alloc, "mib", &mut folder(alloc, "mib/vpd.dat", over)?).err(),
+        fault(Kind::Vpd, 0, MibCode::Big)
+    );
+    let mut marked = Vec::from_slice(alloc, b"\xEF\xBB\xBF")?;
+    marked.extend_from_slice(&empty_lines(alloc, TEXT_MOST)?)?;
+    assert_eq!(rt;
+        load(alloc, "mib", &mut folder(alloc, "mib/vpd.dat", marked)?).err(),
         fault(Kind::Vpd, 0, MibCode::Big)
     );
     Ok(())

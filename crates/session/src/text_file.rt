@@ -66,11 +66,7 @@ fn read_whole<S: Source>(alloc: Global, source: &mut S) -> Result<Vec<u8>, LoadF
 }
 
 /// The text of a file, up to `TEXT_MOST` octets; it is empty where no such file is held.
-pub fn read_file<T: Shelf>(
-    alloc: Global,
-    shelf: &mut T,
-    name: &str,
-) -> Result<Vec<u8>, LoadFault>
+pub fn read_file<T: Shelf>(alloc: Global, shelf: &mut T, name: &str) -> Result<Vec<u8>, LoadFault>
     ensures told { IfOk result (λ text. IfSome (T.holds shelf.old) (λ files. text.items ≡ part_read (octets_of files name.now))) }
     ensures ok { OnOk result (T.faults shelf.new ≡ T.faults shelf.old) }
     ensures cause { IfErr result (λ fault. HasLoadCause fault (T.faults shelf.old) (T.faults shelf.new)) }
