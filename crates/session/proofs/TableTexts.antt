@@ -1,5 +1,5 @@
 -- A text that is read in part is refused as the whole is.
-use Rattle.std.proofs.Common.{◌≡◌, ◌≤◌, ℕ, refl, min, true, List, length, Result, Option, Some, None, IfSome, ap, sym, ◌∙◌, inl, inr, arith, subst}
+use Rattle.std.proofs.Common.{◌≡◌, ℕ, refl, min, true, List, length, Result, Option, Some, None, IfSome, ap, ◌∙◌, inl, inr, arith, subst}
 use Rattle.std.specs.Prelude.{nat_lt}
 use Rattle.std.proofs.lemmas.Bool.{cases_Bool}
 use borrow.Author.Tests.{ltb-true, ltb-false, lt-ltb}

@@ -1,4 +1,4 @@
-use Rattle.std.proofs.Common.{◌≡◌, List, Result, Ok, refl, ◌∙◌}
+use Rattle.std.proofs.Common.{List, Result, ◌∙◌}
 use Rattle.std.proofs.lemmas.Result.{err_from_is_err_and}
 use Rattle.mib_model.specs.declared.fault.MibFault.{MibFault}
 use Rattle.mib_model.specs.declared.rows.Row.{Row}
