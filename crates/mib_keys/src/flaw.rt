@@ -1,5 +1,5 @@
 // A flaw of a row, as a fault of its table.
-ghost use Rattle.std.specs.Prelude.{◌≡◌, ◌≤◌, ◌∷◌, not, Option, Some, None, option_map};
+ghost use Rattle.std.specs.Prelude.{◌≡◌, not, Option, Some, None, option_map};
 ghost use Rattle.std.specs.List.{find};
 ghost use Rattle.std.specs.Option.{option_copied};
 ghost use Rattle.mib_model.specs.Flaws.{fault_of, flaw_if, missing};

@@ -1,5 +1,5 @@
 // Maps from keys to the first rows that have them.
-ghost use Rattle.std.specs.Prelude.{◌≡◌, ◌+◌, ◌<◌, ◌≤◌, ℕ, length, Option, Some, None, OnOk, IfOk, if◌then◌else◌, map, unwrap_or};
+ghost use Rattle.std.specs.Prelude.{◌≡◌, ◌+◌, ◌<◌, ◌≤◌, length, Option, Some, OnOk, IfOk, if◌then◌else◌, unwrap_or};
 ghost use Rattle.std.specs.BTreeMap.{get};
 ghost use Rattle.mib_model.specs.declared.rows.Row.{Row};
 ghost use Rattle.mib_model.specs.Match.{first_of_two};

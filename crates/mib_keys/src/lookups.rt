@@ -1,15 +1,15 @@
 // Rows of a book, found by its maps.
-ghost use Rattle.std.specs.Prelude.{◌≡◌, ◌+◌, ◌==◌, ℕ, length, Option, position, is_some, map, unwrap_or};
+ghost use Rattle.std.specs.Prelude.{◌≡◌, ◌==◌, length, Option, position, is_some, map, unwrap_or};
 ghost use Rattle.std.specs.BTreeMap.{get};
 ghost use Rattle.std.specs.Option.{option_copied};
-ghost use Rattle.std.specs.List.{find, list_any, filter};
+ghost use Rattle.std.specs.List.{find, filter};
 ghost use Rattle.std.specs.Str.{bytes_eq};
 ghost use Rattle.mib_model.specs.Drafts.{rows_of, is_held};
 ghost use Rattle.mib_model.specs.DatabaseTexts.{as_pcf, as_caf, as_txf};
 ghost use Rattle.mib_model.specs.Keys.{has_key};
 ghost use Rattle.mib_model.specs.Parameters.{parameter};
-ghost use Rattle.mib_model.specs.References.{has_parameter, has_packet, has_structure, has_points, has_texts, has_polynomial, has_logarithm, has_check, has_curve};
-ghost use Rattle.mib_model.specs.RowFlaws.{points_in, has_selections};
+ghost use Rattle.mib_model.specs.References.{has_parameter, has_packet, has_points, has_texts, has_polynomial, has_logarithm, has_check};
+ghost use Rattle.mib_model.specs.RowFlaws.{points_in};
 ghost use Rattle.mib_tables.specs.Kinds.{kind_of_key};
 ghost use Rattle.mib_keys.specs.Columns.{packet_of};
 ghost use Rattle.mib_keys.specs.Known.{Known};

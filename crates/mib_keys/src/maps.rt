@@ -1,6 +1,5 @@
 // What rows are looked up by, made in one pass over each table.
-ghost use Rattle.std.specs.Prelude.{◌≡◌, Option, Some, IfOk, position};
-ghost use Rattle.std.specs.BTreeMap.{get};
+ghost use Rattle.std.specs.Prelude.{Option, Some, IfOk};
 ghost use Rattle.mib_keys.specs.Known.{Known};
 
 use crate::index::{By, count, note};

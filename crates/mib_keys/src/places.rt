@@ -1,8 +1,6 @@
 // The first place of each key of the 15 tables.
-ghost use Rattle.std.specs.Prelude.{◌≡◌, Option, Some, IfOk, position};
+ghost use Rattle.std.specs.Prelude.{Option, Some, IfOk};
 ghost use Rattle.std.specs.BTreeMap.{get};
-ghost use Rattle.mib_model.specs.Drafts.{rows_of};
-ghost use Rattle.mib_model.specs.Keys.{has_key};
 ghost use Rattle.mib_keys.specs.Indexes.{AreKeyPlaces};
 
 use crate::index::{By, note};

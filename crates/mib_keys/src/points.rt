@@ -1,10 +1,9 @@
 // The rules for points and texts of curves, whose bounds are whole numbers.
 // [SCOS-2000 Database Import ICD, cap and txp.]
-ghost use Rattle.std.specs.Prelude.{◌≡◌, ◌≤◌, ◌-◌, ◌&&◌, ◌||◌, not, drop, take, is_none, length, Option, Some, None, OnOk, IfOk, ℤ};
+ghost use Rattle.std.specs.Prelude.{◌≡◌, ◌≤◌, ◌-◌, ◌&&◌, ◌||◌, not, drop, take, is_none, length, Option, Some, None, IfOk};
 ghost use Rattle.std.specs.BTreeMap.{get};
 ghost use Rattle.std.specs.Option.{option_copied};
-ghost use Rattle.mib_model.specs.RowFlaws.{txp_rules, cap_rules, is_bad_range, is_bad_point, is_bad_x};
-ghost use Rattle.mib_model.specs.Match.{first_of_two};
+ghost use Rattle.mib_model.specs.RowFlaws.{txp_rules, cap_rules, is_bad_range, is_bad_point};
 ghost use Rattle.mib_model.specs.WholeNumbers.{decimal_whole, whole_number};
 ghost use Rattle.mib_tables.specs.Shelves.{values_in};
 ghost use Rattle.mib_keys.specs.Firsts.{flaw_by};

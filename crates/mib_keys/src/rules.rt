@@ -1,8 +1,7 @@
 // The rules of soundness, table by table, but for rows that stand twice: the first flaw of a row.
 // [SCOS-2000 Database Import ICD, integrity of the tables.]
-ghost use Rattle.std.specs.Prelude.{◌≡◌, ◌-◌, ◌==◌, ◌&&◌, ◌||◌, not, nat_lt, int_lt, pos, drop, take, is_some, is_none, Option, Some, None, option_map};
+ghost use Rattle.std.specs.Prelude.{◌≡◌, ◌-◌, ◌==◌, ◌&&◌, ◌||◌, int_lt, pos, drop, take, is_some, is_none, Option, Some, None};
 ghost use Rattle.std.specs.Option.{option_copied};
-ghost use Rattle.mib_model.specs.Curves.{is_real_format};
 ghost use Rattle.mib_model.specs.Parameters.{parameter, is_measured, parameter_encoding};
 ghost use Rattle.mib_model.specs.References.{has_parameter, has_structure, has_curve, if_given};
 ghost use Rattle.mib_model.specs.RowFlaws.{pcf_rules, pid_rules, plf_rules, cur_rules, caf_rules, ocf_rules, ocp_rules, has_selections, is_narrow, is_measured_deduced, has_curve_of};

@@ -1,12 +1,10 @@
 // The first flaw of a book's tables.
-ghost use Rattle.std.specs.Prelude.{◌≡◌, ◌≤◌, ◌<◌, ◌-◌, length, Option, Some, None, option_map, position, IfOk};
-ghost use Rattle.std.specs.BTreeMap.{get};
-ghost use Rattle.mib_model.specs.Drafts.{rows_of};
+ghost use Rattle.std.specs.Prelude.{◌≡◌, ◌≤◌, ◌<◌, ◌-◌, length, Option, Some, None, IfOk};
 ghost use Rattle.mib_model.specs.Soundness.{first_flaw};
 ghost use Rattle.mib_tables.specs.Kinds.{AreOf};
 ghost use Rattle.mib_tables.specs.Shelves.{values_in};
 ghost use Rattle.mib_keys.specs.Answers.{Gives};
-ghost use Rattle.mib_keys.specs.Firsts.{alike_in, packet_alike, rest_in, flaw_in, first_in, first_over, least};
+ghost use Rattle.mib_keys.specs.Firsts.{alike_in, packet_alike, rest_in, flaw_in, first_in, least};
 ghost use Rattle.mib_keys.specs.Indexes.{cut};
 ghost use Rattle.mib_keys.specs.Known.{Known};
 ghost use Rattle.mib_model.specs.RowTexts.{kind_in};

@@ -1,5 +1,5 @@
 // Lists of shared rows.
-ghost use Rattle.std.specs.Prelude.{◌≡◌, ◌≤◌, ◌<◌, IfOk, OnErr, OnOk, length, vec_len, map, position, set, is_ok, List};
+ghost use Rattle.std.specs.Prelude.{◌≡◌, ◌≤◌, ◌<◌, IfOk, OnErr, OnOk, length, map, position, is_ok, List};
 ghost use Rattle.std.specs.Arc.{arc_value};
 ghost use Rattle.mib_model.specs.Drafts.{put_in, without_key, is_held};
 ghost use Rattle.mib_model.specs.Keys.{has_key, key_in, same_key};

@@ -1,5 +1,5 @@
 -- What is said of a feed that is printed by the tables that were kept is said of the database that they were kept of.
-use Rattle.std.proofs.Common.{◌≡◌, ℕ, List, [], Option, Some, None, Result, Ok, Err, IfSome, IfOk, sym, subst, inl, inr, ◌≤◌, ◌<◌}
+use Rattle.std.proofs.Common.{◌≡◌, ℕ, List, [], Option, Some, None, Result, IfSome, IfOk, subst, inl, inr}
 use Rattle.std.specs.Io.KnownBytes.{Appends}
 use Rattle.tm_io.specs.Octets.{AppendsPrefix}
 use Rattle.mib_model.specs.declared.code.Code.{Code}

@@ -1,5 +1,5 @@
 -- Rows of any table that aren't built. [This profile.]
-use Rattle.std.specs.Prelude.{◌+◌, Bool, true, false, List, [], ◌∷◌, Option, None}
+use Rattle.std.specs.Prelude.{Bool, true, false, List, [], ◌∷◌, Option, None}
 use Rattle.mib_model.specs.declared.database.Database.{Database}
 use Rattle.mib_model.specs.declared.fault.MibFault.{MibFault}
 use Rattle.mib_model.specs.declared.kind.Kind.{Kind}

@@ -185,7 +185,10 @@ fn a_row_that_stands_twice_names_the_first(rt: HostRuntime) -> Result<(), Fail> 
     refused(
         &rt,
         alloc,
-        &[("mib/pcf.dat", b"A||||3\nB||||3\nC||||3\nD||||3\nE||||3\nF||||3\nB||||3\nB||||3")],
+        &[(
+            "mib/pcf.dat",
+            b"A||||3\nB||||3\nC||||3\nD||||3\nE||||3\nF||||3\nB||||3\nB||||3",
+        )],
         b"BADMIB pcf 7 TWICE 2",
     )?;
     refused(

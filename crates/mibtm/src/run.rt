@@ -1,5 +1,5 @@
 // A run: packets are read and printed one after the other.
-ghost use Rattle.std.specs.Prelude.{◌≡◌, ◌≤◌, ◌<◌, length, IfOk, OnOk, IfErr};
+ghost use Rattle.std.specs.Prelude.{◌≡◌, ◌≤◌, ◌<◌, length, OnOk, IfErr};
 ghost use Rattle.std.specs.Io.KnownBytes.{Appends};
 ghost use Rattle.mib_model.specs.Database.{database_of};
 ghost use Rattle.mib_model.specs.Texts.{cut_text};

@@ -1,7 +1,7 @@
 // The lines of a packet's record.
-ghost use Rattle.std.specs.Prelude.{◌≡◌, ◌≤◌, ◌++◌, length, OnOk, codes, decimal, Some, []};
+ghost use Rattle.std.specs.Prelude.{◌≡◌, ◌≤◌, ◌++◌, length, OnOk, decimal, Some};
 ghost use Rattle.mib_model.specs.Headers.{header_of};
-ghost use Rattle.mib_model.specs.Texts.{found_text, head_text, title_text, type_text, why_text, cut_text};
+ghost use Rattle.mib_model.specs.Texts.{found_text, head_text, title_text, type_text, cut_text};
 
 use crate::kinds::header;
 use crate::quoted::add_quoted;

@@ -1,5 +1,5 @@
 // The first row that asks for what decoding doesn't do.
-ghost use Rattle.std.specs.Prelude.{◌≡◌, ◌≤◌, ◌<◌, ◌+◌, length, position, IfSome};
+ghost use Rattle.std.specs.Prelude.{◌≡◌, ◌<◌, ◌+◌, length, position, IfSome};
 ghost use Rattle.std.specs.Arc.{arc_value};
 ghost use Rattle.mib_model.specs.Unbuilt as Spec;
 ghost use Rattle.mibtm.specs.UnbuiltRows.{is_unbuilt, unbuilt_of};

@@ -1,5 +1,5 @@
 // The values of a packet of fixed layout.
-ghost use Rattle.std.specs.Prelude.{◌≡◌, ◌≢◌, ◌≤◌, ◌<◌, ◌++◌, ◌+◌, ◌*◌, length, OnOk, IfOk, IfSome, IsTrue, false, Some, option_map};
+ghost use Rattle.std.specs.Prelude.{◌≡◌, ◌≢◌, ◌≤◌, ◌<◌, ◌++◌, ◌+◌, ◌*◌, OnOk, IfOk, IfSome, IsTrue, false, Some, option_map};
 ghost use Rattle.std.specs.Option.{option_copied};
 ghost use Rattle.std.specs.List.{All};
 ghost use Rattle.mib_model.specs.Encodings as Encodings;
