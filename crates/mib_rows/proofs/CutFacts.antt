@@ -33,23 +33,23 @@ behind-onto_first : (octets : List ℕ) (c : ℕ) (parts : List (List ℕ)) → 
 behind-onto_first octets c [] = refl
 behind-onto_first octets c (part ∷ parts) = ap (λ first. first ∷ parts) (sym (append_assoc octets (c ∷ []) part))
 
-onto_first-behind : (c : ℕ) (parts : List (List ℕ)) → behind (c ∷ []) parts ≡ onto_first c parts
+pub onto_first-behind : (c : ℕ) (parts : List (List ℕ)) → behind (c ∷ []) parts ≡ onto_first c parts
 onto_first-behind c [] = refl
 onto_first-behind c (part ∷ parts) = refl
 
-behind-nothing : (line : List ℕ) → behind [] (fields line) ≡ fields line
+pub behind-nothing : (line : List ℕ) → behind [] (fields line) ≡ fields line
 behind-nothing [] = refl
 behind-nothing (c ∷ rest) = elim (cases_Bool (eqb c 9)) [
   | inl tab ↦ rw tab refl
   | inr other ↦ rw other (behind-onto_first [] c (fields rest) ∙ onto_first-behind c (fields rest))
 ]
 
-behind_tab : (done : List (List ℕ)) (octets rest : List ℕ) → whole ((done ++ octets ∷ []) ++ behind [] (fields rest)) ≡ whole (done ++ behind octets ([] ∷ fields rest))
-behind_tab done octets rest = ap whole (append_assoc done (octets ∷ []) (behind [] (fields rest))
-    ∙ ap (λ parts. done ++ octets ∷ parts) (behind-nothing rest) ∙ ap (λ first. done ++ first ∷ fields rest) (sym (append-nil octets)))
+pub behind_tab : (done : List (List ℕ)) (octets rest : List ℕ) → (done ++ octets ∷ []) ++ behind [] (fields rest) ≡ done ++ behind octets ([] ∷ fields rest)
+behind_tab done octets rest = append_assoc done (octets ∷ []) (behind [] (fields rest))
+    ∙ ap (λ parts. done ++ octets ∷ parts) (behind-nothing rest) ∙ ap (λ first. done ++ first ∷ fields rest) (sym (append-nil octets))
 
-behind_octet : (done : List (List ℕ)) (octets : List ℕ) (c : ℕ) (rest : List ℕ) → whole (done ++ behind (octets ++ c ∷ []) (fields rest)) ≡ whole (done ++ behind octets (onto_first c (fields rest)))
-behind_octet done octets c rest = ap (λ parts. whole (done ++ parts)) (sym (behind-onto_first octets c (fields rest)))
+pub behind_octet : (done : List (List ℕ)) (octets : List ℕ) (c : ℕ) (rest : List ℕ) → done ++ behind (octets ++ c ∷ []) (fields rest) ≡ done ++ behind octets (onto_first c (fields rest))
+behind_octet done octets c rest = ap (λ parts. done ++ parts) (sym (behind-onto_first octets c (fields rest)))
 
 -- inside a line the fields are those that are done, the one at hand, and those of the rest
 next_inside : (start : Bool) (done : List (List ℕ)) (octets line : List ℕ)
@@ -58,12 +58,12 @@ unfolding next_record
 next_inside true done octets [] = ap (λ first. whole (done ++ first ∷ [])) (sym (append-nil octets))
 next_inside false done octets [] = ap (λ first. whole (done ++ first ∷ [])) (sym (append-nil octets))
 next_inside true done octets (c ∷ rest) = elim (cases_Bool (eqb c 9)) [
-  | inl tab ↦ rw tab (next_inside true (done ++ octets ∷ []) [] rest ∙ behind_tab done octets rest)
-  | inr other ↦ rw other (next_inside false done (octets ++ c ∷ []) rest ∙ behind_octet done octets c rest)
+  | inl tab ↦ rw tab (next_inside true (done ++ octets ∷ []) [] rest ∙ ap whole (behind_tab done octets rest))
+  | inr other ↦ rw other (next_inside false done (octets ++ c ∷ []) rest ∙ ap whole (behind_octet done octets c rest))
 ]
 next_inside false done octets (c ∷ rest) = elim (cases_Bool (eqb c 9)) [
-  | inl tab ↦ rw tab (next_inside true (done ++ octets ∷ []) [] rest ∙ behind_tab done octets rest)
-  | inr other ↦ rw other (next_inside false done (octets ++ c ∷ []) rest ∙ behind_octet done octets c rest)
+  | inl tab ↦ rw tab (next_inside true (done ++ octets ∷ []) [] rest ∙ ap whole (behind_tab done octets rest))
+  | inr other ↦ rw other (next_inside false done (octets ++ c ∷ []) rest ∙ ap whole (behind_octet done octets c rest))
 ]
 
 -- a line behind a field of one dash

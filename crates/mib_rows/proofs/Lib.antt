@@ -2,8 +2,11 @@ pub mod AgainFacts
 pub mod CutFacts
 pub mod FieldFacts
 pub mod LawFacts
+pub mod LongFacts
 pub mod NumberFacts
 pub mod PlainFacts
+pub mod ReturnFacts
 pub mod RowAgainFacts
 pub mod RowFacts
 pub mod TableFacts
+pub mod TextFacts

@@ -1,3 +1,3 @@
 pub mod Answers
-pub mod Pieces
+pub mod Left
 pub mod Laws

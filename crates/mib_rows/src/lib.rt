@@ -1,7 +1,7 @@
 //! Rows of the 15 monitoring tables, read from their texts and written as lines.
 //!
 //! What is read is exactly what the definitions of `mib_model` give, the first fault included, unless memory runs
-//! out; what is written is read again as the same row. Lines are cut by `csv`, numbers are printed by `itoa`.
+//! out; what is written is read again as the same row. Texts and lines are cut by `csv`, numbers are printed by `itoa`.
 #![tactic(auto)]
 
 mod curves;

@@ -15,7 +15,7 @@ use std::alloc::Global;
 // The octets of the greatest text and of the longest row.
 const TEXT_MOST: usize = 67_108_864;
 
-const ROW_MOST: usize = 4_096;
+const ROW_MOST: u16 = 4_096;
 
 /// A fault of a table and a row.
 pub fn fault_in_row(table: Kind, row: u32, fault: LineFault) -> MibFault
@@ -33,7 +33,6 @@ pub fn fault_in_row(table: Kind, row: u32, fault: LineFault) -> MibFault
 // What reads the rows of a table.
 #[derive(Drop)]
 struct TableReader {
-    alloc: Global,
     kind: Kind,
 }
 
@@ -43,9 +42,9 @@ impl ReadsRows for TableReader {
     ghost reads = { λ reader. row_at reader.kind };
 
     #[tactic(auto, unfolding(mib_model::specs::Reading::row_at))]
-    fn read(&self, number: u32, line: &[u8]) -> Result<Row, ReadFault> {
+    fn read(&self, number: u32, line: &Fields) -> Result<Row, ReadFault> {
         let kind = self.kind;
-        if line.len() > ROW_MOST {
+        if line.are_longer(ROW_MOST) {
             let long = fault(0, MibCode::LineLong);
             return Err(ReadFault::Mib(fault_in_row(kind, number, long)));
         }
@@ -53,10 +52,7 @@ impl ReadsRows for TableReader {
             let more = fault(0, MibCode::Rows);
             return Err(ReadFault::Mib(fault_in_row(kind, number, more)));
         }
-        let Ok(fields) = Fields::cut(self.alloc, line) else {
-            return Err(ReadFault::Memory);
-        };
-        match row(kind, &fields) {
+        match row(kind, line) {
             Ok(row) => Ok(row),
             Err(e) => Err(ReadFault::Mib(fault_in_row(kind, number, e))),
         }
@@ -82,7 +78,7 @@ pub fn read_table(alloc: Global, kind: Kind, text: &[u8]) -> Result<Vec<Row>, Re
         let mark = fault(0, MibCode::Mark);
         return Err(ReadFault::Mib(fault_in_row(kind, 0, mark)));
     }
-    rows(alloc, &TableReader { alloc, kind }, text)
+    rows(alloc, &TableReader { kind }, text)
 }
 
 /// The row that a line apart from a text is. Its faults have the row 0 and a code from FewFields to BadName.

@@ -1,5 +1,6 @@
 use crate::{ReadFault, read_key, read_row, read_table, write_row};
 use mib_model::{Key, Kind, MibCode, MibFault, Row};
+use std::alloc::Global;
 use std::test::Fail;
 
 #[test]
@@ -33,6 +34,46 @@ fn the_first_fault_is_told(rt: HostRuntime) -> Result<(), Fail> {
         }
         _ => panic!(rt; "no fault"),
     }
+    Ok(())
+}
+
+// The code of the fault of a table of packet identities, if it has one.
+fn code_of(alloc: Global, text: &[u8]) -> Option<MibCode> {
+    match read_table(alloc, Kind::Pid, text) {
+        Err(ReadFault::Mib(fault)) => Some(fault.code),
+        _ => None,
+    }
+}
+
+#[test]
+fn one_return_at_the_end_is_no_part_of_a_line(rt: HostRuntime) -> Result<(), Fail> {
+    assert_eq!(rt;
+        code_of(rt.alloc(), b"\r\n\n3\t25\t100\t\t\t4001\r\n\r"),
+        None
+    );
+    assert_eq!(rt;
+        code_of(rt.alloc(), b"3\t25\t100\t\t\t4001\r\r\n"),
+        Some(MibCode::BadNumber)
+    );
+    assert_eq!(rt; code_of(rt.alloc(), b"\r\r\n"), Some(MibCode::FewFields));
+    assert_eq!(rt;
+        code_of(rt.alloc(), b"3\t\"25\"\t100\t\t\t4001"),
+        Some(MibCode::BadNumber)
+    );
+    Ok(())
+}
+
+#[test]
+fn a_line_of_4096_octets_is_not_too_long(rt: HostRuntime) -> Result<(), Fail> {
+    let mut text = Vec::new(rt.alloc());
+    text.extend_from_slice(b"3\t25\t100\t\t\t4001\t")?;
+    for _ in text.len()..4_096 {
+        text.push(b'x')?;
+    }
+    text.extend_from_slice(b"\r\n")?;
+    assert_eq!(rt; code_of(rt.alloc(), &text), None);
+    text.insert(text.len() - 2, b'x')?;
+    assert_eq!(rt; code_of(rt.alloc(), &text), Some(MibCode::LineLong));
     Ok(())
 }
 

@@ -1,46 +1,46 @@
-use Rattle.std.proofs.Common.{sym, List, ℕ, Bor}
-use Rattle.std.specs.Prelude.{option_map}
 use Rattle.std.proofs.lemmas.Result.{err_from_is_err_and}
 use Rattle.mib_model.specs.Lines.{lines}
 use Rattle.mib_model.specs.Reading.{rows_from}
-use Rattle.mib_rows.specs.Pieces.{pieces_of}
+use Rattle.mib_rows.specs.Left.{left_in, line_of, lines_left}
 use Rattle.mib_rows.proofs.TableFacts.{passes_over, goes_on, ends, is_done}
 use Rattle.mib_rows.proofs.rows.rows.Goals as goal
 
-pub loop-rest-preserved-then-is_empty : goal.loop-rest-preserved-then-is_empty
-loop-rest-preserved-then-is_empty g c =
+pub loop-line-preserved-then-not-are_longer : goal.loop-line-preserved-then-not-are_longer
+loop-line-preserved-then-not-are_longer g c =
     let read = g.L.ReadsRows.reads c.args.reader.now in
-    let pieces = pieces_of (option_map (λ (r : Bor (List ℕ)). r.now) c.first_piece.result.1) in
     record {
-      few = c.loop-rest.invariant.few;
-      so_far = passes_over read c.loop-rest.rows.items c.loop-rest.number (rows_from read 1 (lines c.args.text.now)) c.first_piece.result.0.now pieces
-          (rw c.without_return-line.ensures at (sym c.if-is_empty.ensures))
-          (rw (c.in-Some.is, c.first_piece.ensures.pieces) at c.loop-rest.invariant.so_far);
+      few = c.loop-line.invariant.few;
+      at_record = c.in_ok-read.ensures.at_record c.if-branch.true;
+      so_far = passes_over read c.loop-line.rows.items c.loop-line.number (rows_from read 1 (lines c.args.text.now)) (line_of c.read.new.self) (lines_left (left_in c.read.new.reader))
+          c.if-not-are_longer.ensures
+          (rw (c.in_ok-read.ensures.line.some c.if-branch.true) at c.loop-line.invariant.so_far);
     }
 
 pub returns-in_err-row : goal.returns-in_err-row
 returns-in_err-row g c =
     let read = g.L.ReadsRows.reads c.args.reader.now in
-    let pieces = pieces_of (option_map (λ (r : Bor (List ℕ)). r.now) c.first_piece.result.1) in
-    let p = err_from_is_err_and c.from_residual.result c.from_residual.ensures.1 in
-    rw (p.1, p.2) (ends read c.loop-rest.rows.items c.loop-rest.number (rows_from read 1 (lines c.args.text.now)) c.first_piece.result.0.now pieces c.in_err-row.field-0.0
-    (rw c.without_return-line.ensures at (sym c.if-is_empty.ensures))
-    (rw c.without_return-line.ensures at c.in_err-row.ensures.row)
-    (rw (c.in-Some.is, c.first_piece.ensures.pieces) at c.loop-rest.invariant.so_far))
+    let p = err_from_is_err_and c.from_residual-in_err-row.result c.from_residual-in_err-row.ensures.1 in
+    rw (p.1, p.2) (ends read c.loop-line.rows.items c.loop-line.number (rows_from read 1 (lines c.args.text.now)) (line_of c.read.new.self) (lines_left (left_in c.read.new.reader))
+    c.in_err-row.field-0.0
+    c.if-not-are_longer.ensures
+    c.in_err-row.ensures.row
+    (rw (c.in_ok-read.ensures.line.some c.if-branch.true) at c.loop-line.invariant.so_far))
 
-pub loop-rest-preserved : goal.loop-rest-preserved
-loop-rest-preserved g c =
+pub loop-line-preserved : goal.loop-line-preserved
+loop-line-preserved g c =
     let read = g.L.ReadsRows.reads c.args.reader.now in
-    let pieces = pieces_of (option_map (λ (r : Bor (List ℕ)). r.now) c.first_piece.result.1) in
     record {
       few = c.in_ok-row.ensures.few;
-      so_far = rw c.in_ok-add.ensures.rows (goes_on read c.loop-rest.rows.items c.loop-rest.number (rows_from read 1 (lines c.args.text.now)) c.first_piece.result.0.now pieces c.in_ok-row.row
-          (rw c.without_return-line.ensures at (sym c.if-is_empty.ensures))
-          (rw c.without_return-line.ensures at c.in_ok-row.ensures.row)
-          (rw (c.in-Some.is, c.first_piece.ensures.pieces) at c.loop-rest.invariant.so_far));
+      at_record = c.in_ok-read.ensures.at_record c.if-branch.true;
+      so_far = rw c.in_ok-add.ensures.rows (goes_on read c.loop-line.rows.items c.loop-line.number (rows_from read 1 (lines c.args.text.now)) (line_of c.read.new.self)
+          (lines_left (left_in c.read.new.reader)) c.in_ok-row.row
+          c.if-not-are_longer.ensures
+          c.in_ok-row.ensures.row
+          (rw (c.in_ok-read.ensures.line.some c.if-branch.true) at c.loop-line.invariant.so_far));
     }
 
 pub returns : goal.returns
 returns g c =
     let read = g.L.ReadsRows.reads c.args.reader.now in
-    is_done read c.loop-rest.rows.items c.loop-rest.number (rows_from read 1 (lines c.args.text.now)) (rw c.in_default.is at c.loop-rest.invariant.so_far)
+    is_done read c.loop-line.rows.items c.loop-line.number (rows_from read 1 (lines c.args.text.now)) (lines_left (left_in c.loop-line.left))
+    (c.in_ok-read.ensures.line.none c.if-branch.false) c.loop-line.invariant.so_far

@@ -1,16 +1,16 @@
 use Rattle.std.proofs.Common.{◌≡◌, ◌≤◌, ◌+◌}
-use Rattle.std.specs.Prelude.{option_map}
-use Rattle.mib_model.specs.Lines.{lines, lines_of}
+use Rattle.mib_model.specs.Lines.{lines}
 use Rattle.mib_model.specs.Reading.{rows_from}
-use Rattle.mib_rows.specs.Pieces.{pieces_of}
-use Rattle.mib_rows.proofs.TableFacts.{behind, left_of}
+use Rattle.mib_rows.specs.Left.{IsAtRecord, left_in, lines_left, octets_left}
+use Rattle.mib_rows.proofs.TableFacts.{behind}
 use Rattle.mib_rows.proofs.rows.rows.Given as goal
 
-abbrev pub invariant-loop-rest : goal.invariant-loop-rest
-invariant-loop-rest g l = record {
+abbrev pub invariant-loop-line : goal.invariant-loop-line
+invariant-loop-line g l = record {
   few : l.number ≤ 100000;
-  so_far : behind l.rows.items (rows_from (g.L.ReadsRows.reads l.reader) (l.number + 1) (lines_of (pieces_of (option_map (λ r. r.now) l.rest)))) ≡ rows_from (g.L.ReadsRows.reads l.reader) 1 (lines l.text);
+  at_record : IsAtRecord l.left;
+  so_far : behind l.rows.items (rows_from (g.L.ReadsRows.reads l.reader) (l.number + 1) (lines_left (left_in l.left))) ≡ rows_from (g.L.ReadsRows.reads l.reader) 1 (lines l.text);
 }
 
-abbrev pub decreases-loop-rest : goal.decreases-loop-rest
-decreases-loop-rest g l = left_of (option_map (λ r. r.now) l.rest)
+abbrev pub decreases-loop-line : goal.decreases-loop-line
+decreases-loop-line g l = octets_left (left_in l.left)
