@@ -7,7 +7,6 @@
 //! `book_summary` for the summary, on `packet_feed` for packets, and on `mib_model` for all definitions.
 #![tactic(auto)]
 
-mod bits;
 mod buffer;
 mod check;
 mod code_text;

@@ -9,8 +9,8 @@ ghost use Rattle.mib_model.specs.Texts.{ended_text};
 ghost use Rattle.mib_model.specs.Unbuilt.{is_unbuilt_pcf};
 ghost use Rattle.mibtm.specs.Readings.{AddsValue, AddsValues, unsigned_of, plain_value_text, readings_text, places_in};
 
-use crate::bits::unsigned;
 use crate::text::add_number;
+use bit_field::unsigned;
 use mib_model::{Ended, Name, PcfRow, PlfRow};
 use std::alloc::AllocError;
 
