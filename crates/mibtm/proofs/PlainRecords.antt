@@ -1,25 +1,27 @@
 -- What the interpreter prints of packets of one edition is their plain records.
-use Rattle.std.proofs.Common.{◌≡◌, ◌+◌, ℕ, suc, Bool, true, false, List, [], ◌∷◌, ◌++◌, Option, Some, None, length, refl, sym, ap, ◌∙◌, append-nil, append_assoc, cond, arith, not, int_lt, pos, eq-eqb, ◌==◌}
+use Rattle.std.proofs.Common.{◌≡◌, ◌+◌, ℕ, suc, Bool, true, false, List, [], ◌∷◌, ◌++◌, Option, Some, None, length, map, refl, sym, ap, ◌∙◌, append-nil, append_assoc, cond, arith, not, int_lt, pos, ◌==◌}
 use Rattle.std.specs.List.{All, flat_map, find}
 use Rattle.mib_model.specs.declared.database.Database.{Database}
 use Rattle.mib_model.specs.declared.packet.Found.{Found}
+use Rattle.mib_model.specs.declared.kind.Kind.TheVariants as kind
 use Rattle.mib_model.specs.declared.packet.Found.TheVariants as found
+use Rattle.mib_model.specs.declared.packet.Value.{Value}
 use Rattle.mib_model.specs.declared.rows.PidRow.{PidRow}
-use Rattle.mib_model.specs.Finish.{all_finished}
 use Rattle.mib_model.specs.Fixed.{places, values_at}
 use Rattle.mib_model.specs.Headers.{header_of}
-use Rattle.mib_model.specs.Interpreter.{Course, start, values_of, title_of, record_for, course_after, interpret, records_text}
-use Rattle.mib_model.specs.Kept.{Memory, all_entered}
+use Rattle.mib_model.specs.Interpreter.{values_of, title_of, records_text}
 use Rattle.mib_model.specs.Match.{match_of, found_with, found_by, agrees, lacks_service, discriminants, criterion, idle_apid}
-use Rattle.mib_model.specs.Output.{stamped_first, stamped_from, output_of_one}
+use Rattle.mib_model.specs.Output.{output_of_one}
 use Rattle.mib_model.specs.Texts.{record_text, record_body, head_text, told_text, ended_text}
-use Rattle.mib_model.specs.Unbuilt.{is_unbuilt_pid}
+use Rattle.mib_model.specs.Match.{first_of_two}
+use Rattle.mib_model.specs.Unbuilt.{any_row, is_unbuilt_pcf, is_unbuilt_pid, is_unbuilt_plf, unbuilt, unbuilt_in}
+use Rattle.mib_laws.specs.Runs as Laws
+use Rattle.mib_laws.proofs.PlainRunFacts.{interpret-plain}
 use Rattle.mibtm.specs.Readings.{IsBuilt, plain_record, found_values_text, readings_text}
 use Rattle.mibtm.specs.Sources.{fixed_tables}
 use Rattle.mibtm.proofs.ListFacts.{All-find}
 use Rattle.mibtm.proofs.PlaceSteps.{places-all}
-use Rattle.mibtm.proofs.PlainReadings.{readings-values}
-use Rattle.mibtm.proofs.PlainValues.{finished-lines, values-bare}
+use Rattle.mibtm.proofs.PlainReadings.{plain_line, readings-values}
 
 -- a packet that is found has no structure
 abbrev IsFixed : Found → Type 0
@@ -55,54 +57,48 @@ match-fixed db packet built =
     (fixed_if (lacks_service packet) _ _ tt
     (found_with-fixed db.pid packet built.pid (discriminants packet (criterion db.pic packet))))))
 
--- the lines of the values of a packet that is found, and how they end
-values_lines : (db : Database) (packet : List ℕ) (memory : Memory) (f : Found) → IsBuilt db → IsFixed f
-    → flat_map (told_text packet) (all_finished db memory (values_of db packet f).0).1 ++ ended_text (values_of db packet f).1 ≡ found_values_text db packet f
-unfolding values_of found_values_text all_finished
-values_lines db packet memory (found.Spid spid service subtype tpsd dfhsize) built fixed =
-    rw fixed
-    (ap (λ t. t ++ ended_text (values_at packet (places db spid)).1) (finished-lines db packet memory (values_at packet (places db spid)).0 built (values-bare db spid packet built))
-    ∙ sym (readings-values packet (places db spid)) ∙ ap (readings_text packet 0) (places-all db spid))
-values_lines db packet memory (found.Unknown service subtype) built fixed = refl
-values_lines db packet memory found.Idle built fixed = refl
-values_lines db packet memory (found.Bad why) built fixed = refl
+-- values that nothing is told of
+plain-lines : (packet : List ℕ) (values : List Value) → flat_map (told_text packet) (map Laws.plainly values) ≡ flat_map (plain_line packet) values
+plain-lines packet [] = refl
+plain-lines packet (v ∷ vs) = rw (append-nil (plain_line packet v)) (ap (λ t. plain_line packet v ++ t) (plain-lines packet vs))
 
--- the record of a packet of the edition that was before
-record-plain : (db : Database) (c : Course) (number : ℕ) (packet : List ℕ) → IsBuilt db → c.edition ≡ 1
-    → record_text (record_for c (stamped_first db (number, packet))) ≡ plain_record db number packet
-unfolding record_for record_text record_body plain_record
-record-plain db c number packet built first =
+-- the lines of the values of a packet that is found, and how they end
+values_lines : (db : Database) (packet : List ℕ) (f : Found) → IsFixed f
+    → flat_map (told_text packet) (map Laws.plainly (values_of db packet f).0) ++ ended_text (values_of db packet f).1 ≡ found_values_text db packet f
+unfolding values_of found_values_text
+values_lines db packet (found.Spid spid service subtype tpsd dfhsize) fixed =
+    rw fixed
+    (ap (λ t. t ++ ended_text (values_at packet (places db spid)).1) (plain-lines packet (values_at packet (places db spid)).0)
+    ∙ sym (readings-values packet (places db spid)) ∙ ap (readings_text packet 0) (places-all db spid))
+values_lines db packet (found.Unknown service subtype) fixed = refl
+values_lines db packet found.Idle fixed = refl
+values_lines db packet (found.Bad why) fixed = refl
+
+-- the text of a plain record
+record-plain : (db : Database) (number : ℕ) (packet : List ℕ) → IsBuilt db → record_text (Laws.plain_record db number packet) ≡ plain_record db number packet
+unfolding record_text record_body Laws.plain_record plain_record
+record-plain db number packet built =
     let f = match_of db packet in
     let head = head_text number (header_of packet) f (title_of db f) in
-    let memory = all_entered c.memory (values_of db packet f).0 in
-    let lines = flat_map (told_text packet) (all_finished db memory (values_of db packet f).0).1 in
-    let ends = ended_text (values_of db packet f).1 in
-    rw (eq-eqb 1 c.edition (sym first))
-    (append_assoc head lines ends
-    ∙ ap (λ t. head ++ t) (values_lines db packet memory f built (match-fixed db packet built)))
-
--- a packet of edition 1 leaves it so
-after_first : (db : Database) (c : Course) (number : ℕ) (packet : List ℕ) → (course_after c (stamped_first db (number, packet))).edition ≡ 1
-unfolding course_after
-after_first db c number packet = refl
+    append_assoc head (flat_map (told_text packet) (map Laws.plainly (values_of db packet f).0)) (ended_text (values_of db packet f).1)
+    ∙ ap (λ t. head ++ t) (values_lines db packet f (match-fixed db packet built))
 
 -- the plain records of packets, the first of which has this number
 unfoldable pub plain_records : Database → ℕ → List (List ℕ) → List ℕ
 plain_records db number [] = []
 plain_records db number (packet ∷ packets) = plain_record db number packet ++ plain_records db (number + 1) packets
 
-interpreted : (db : Database) (c : Course) (number : ℕ) (packets : List (List ℕ)) → IsBuilt db → c.edition ≡ 1
-    → records_text (interpret c (stamped_from db number packets)) ≡ plain_records db number packets
-unfolding interpret stamped_from plain_records
-interpreted db c number [] built first = refl
-interpreted db c number (packet ∷ packets) built first =
-    let next = course_after c (stamped_first db (number, packet)) in
-    rw (record-plain db c number packet built first) (ap (λ t. plain_record db number packet ++ t) (interpreted db next (number + 1) packets built (after_first db c number packet)))
+records-plain : (db : Database) (number : ℕ) (packets : List (List ℕ)) → IsBuilt db → records_text (Laws.plain_records db number packets) ≡ plain_records db number packets
+unfolding plain_records
+records-plain db number [] built = refl
+records-plain db number (packet ∷ packets) built =
+    rw (record-plain db number packet built) (ap (λ t. plain_record db number packet ++ t) (records-plain db (number + 1) packets built))
 
 -- the text of a run of packets
 pub output-plain : (db : Database) (packets : List (List ℕ)) (tail : List ℕ) → IsBuilt db → output_of_one db packets tail ≡ plain_records db 1 packets ++ tail
 unfolding output_of_one
-output-plain db packets tail built = ap (λ t. t ++ tail) (interpreted db (start db) 1 packets built refl)
+output-plain db packets tail built =
+    ap (λ records. records_text records ++ tail) (interpret-plain db built.all 1 packets) ∙ ap (λ t. t ++ tail) (records-plain db 1 packets built)
 
 pub plain_records-nil : (db : Database) (number : ℕ) → plain_records db number [] ≡ []
 unfolding plain_records
@@ -161,8 +157,23 @@ records-kept db number (packet ∷ packets) built =
     ap (λ t. t ++ plain_records db (number + 1) packets) (record-kept db number packet built)
     ∙ ap (λ t. plain_record (fixed_tables db) number packet ++ t) (records-kept db (number + 1) packets built)
 
+-- none of six, and so none where two of them are left out
+none_kept : {A : Type 0} (a b c d e f : Option A) → first_of_two a (first_of_two b (first_of_two c (first_of_two d (first_of_two e f)))) ≡ None
+    → first_of_two a (first_of_two b (first_of_two None (first_of_two d (first_of_two None None)))) ≡ None
+none_kept None None c None e f is = refl
+none_kept None None None (Some x) e f is = cc
+none_kept None None (Some y) (Some x) e f is = cc
+none_kept None (Some x) c d e f is = cc
+none_kept (Some x) b c d e f is = cc
+
+unbuilt-kept : (db : Database) → unbuilt db ≡ None → unbuilt (fixed_tables db) ≡ None
+unfolding unbuilt
+unbuilt-kept db is =
+    none_kept (unbuilt_in kind.Pcf is_unbuilt_pcf db.pcf) (unbuilt_in kind.Pid is_unbuilt_pid db.pid) (unbuilt_in kind.Pic any_row db.pic)
+    (unbuilt_in kind.Plf is_unbuilt_plf db.plf) (unbuilt_in kind.Cur any_row db.cur) (unbuilt_in kind.Ocf any_row db.ocf) is
+
 pub built-kept : (db : Database) → IsBuilt db → IsBuilt (fixed_tables db)
-built-kept db built = record { pcf = built.pcf; pid = built.pid; pic = refl; cur = refl; ocf = refl }
+built-kept db built = record { all = unbuilt-kept db built.all; pcf = built.pcf; pid = built.pid; pic = refl }
 
 -- the text of a run is the same by the tables that are kept
 pub output-kept : (db : Database) (packets : List (List ℕ)) (tail : List ℕ) → IsBuilt db → output_of_one (fixed_tables db) packets tail ≡ output_of_one db packets tail

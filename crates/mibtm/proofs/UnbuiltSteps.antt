@@ -26,6 +26,7 @@ use Rattle.mib_keys.proofs.PlaceFacts.{position-cons}
 use Rattle.mibtm.specs.Readings.{IsBuilt, Keeps}
 use Rattle.mibtm.specs.Sources.{fixed_tables, free_of, if_built}
 use Rattle.mibtm.specs.UnbuiltRows.{is_unbuilt, unbuilt_of, unbuilt_over}
+use Rattle.mibtm.proofs.ListFacts.{first-none}
 use Rattle.mibtm.proofs.PlainRecords.{built-kept}
 
 -- where no place is found, no element passes
@@ -47,11 +48,6 @@ any-none : {A : Type 0} (xs : List A) → position any_row xs ≡ None → xs �
 any-none [] is = refl
 any-none {A} (x ∷ xs) is = absurd (let bad : position {X = A} any_row (x ∷ xs) ≡ Some 0 = position-cons any_row x xs in cc (bad, is))
 
--- neither of two
-first-none : {A : Type 0} (o r : Option A) → first_of_two o r ≡ None → (o ≡ None) × (r ≡ None)
-first-none None r is = (refl, is)
-first-none (Some x) r is = cc
-
 map-none : {A B : Type 0} (f : A → B) (o : Option A) → option_map f o ≡ None → o ≡ None
 map-none f None is = refl
 map-none f (Some x) is = cc
@@ -63,14 +59,11 @@ all-built db is =
     let (pcf, others) = first-none _ _ is in
     let (pid, next) = first-none _ _ others in
     let (pic, more) = first-none _ _ next in
-    let (plf, last) = first-none _ _ more in
-    let (cur, ocf) = first-none _ _ last in
     record {
+      all = is;
       pcf = position-none is_unbuilt_pcf db.pcf (map-none _ _ pcf);
       pid = position-none is_unbuilt_pid db.pid (map-none _ _ pid);
       pic = any-none db.pic (map-none _ _ pic);
-      cur = any-none db.cur (map-none _ _ cur);
-      ocf = any-none db.ocf (map-none _ _ ocf);
     }
 
 -- a table of which each row is built has none that isn't

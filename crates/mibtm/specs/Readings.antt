@@ -1,5 +1,5 @@
 -- The text of a packet's record, place by place, where no value has a curve or a check. [This profile.]
-use Rattle.std.specs.Prelude.{◌≡◌, ℕ, ◌+◌, Bool, false, List, [], ◌∷◌, ◌++◌, codes, decimal, Option, MatchOption, Result, Ok, ◌==◌, if◌then◌else◌}
+use Rattle.std.specs.Prelude.{◌≡◌, ℕ, ◌+◌, Bool, false, List, [], ◌∷◌, ◌++◌, codes, decimal, Option, None, MatchOption, Result, Ok, ◌==◌, if◌then◌else◌}
 use Rattle.std.specs.Bool.{MatchBool}
 use Rattle.std.specs.List.{All, filter, flat_map}
 use Rattle.mib_model.specs.declared.fault.MibFault.{MibFault}
@@ -19,16 +19,15 @@ use Rattle.mib_model.specs.Match.{match_of}
 use Rattle.mib_model.specs.Parameters.{parameter, measured_encoding}
 use Rattle.mib_model.specs.Tails.{Plain}
 use Rattle.mib_model.specs.Texts.{head_text, value_text, ended_text}
-use Rattle.mib_model.specs.Unbuilt.{is_unbuilt_pcf, is_unbuilt_pid}
+use Rattle.mib_model.specs.Unbuilt.{is_unbuilt_pcf, is_unbuilt_pid, unbuilt}
 use Rattle.mibtm.specs.Sources.{fixed_tables}
 
 -- the rows ask for nothing but fixed layouts of unsigned integers without curves, conditions and checks
 pub record IsBuilt (db : Database) : Type 0 where
+  pub all : unbuilt db ≡ None
   pub pcf : All (λ row. is_unbuilt_pcf row ≡ false) db.pcf
   pub pid : All (λ row. is_unbuilt_pid row ≡ false) db.pid
   pub pic : db.pic ≡ []
-  pub cur : db.cur ≡ []
-  pub ocf : db.ocf ≡ []
 
 -- the tables that were kept of an accepted database, which is built
 abbrev pub Keeps : Result Database MibFault → Database → Type 0
