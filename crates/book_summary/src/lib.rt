@@ -1,6 +1,6 @@
 //! The summary of a monitoring database: how many rows each of its tables has, and how many plans it asks for.
 //!
-//! `add_summary` appends exactly the text that the definitions of `mib_model` give for the database of a `Book`. It rests
+//! `summary_of` makes exactly the text that the definitions of `mib_model` give for the database of a `Book`. It rests
 //! on those definitions, on the `Book` of `mib_tables`, and on `itoa` for the digits of a number.
 #![tactic(auto)]
 
@@ -9,4 +9,4 @@ mod summary;
 #[cfg(test)]
 mod tests;
 
-pub use summary::add_summary;
+pub use summary::summary_of;

@@ -1,5 +1,5 @@
 // The text of a summary.
-ghost use Rattle.std.specs.Prelude.{◌≡◌, ◌++◌, OnOk, decimal};
+ghost use Rattle.std.specs.Prelude.{◌≡◌, ◌++◌, IfOk, OnOk, decimal};
 ghost use Rattle.std.specs.List.{flat_map};
 ghost use Rattle.mib_model.specs.Kinds.{kinds};
 ghost use Rattle.mib_model.specs.Summaries.{count_line, summary};
@@ -37,15 +37,17 @@ fn add_tables(out: &mut Vec<u8>, book: &Book) -> Result<(), AllocError>
     Ok(())
 }
 
-/// Appends the summary of a database: a line for each table with its name and its number of rows, and a last line with
-/// the number of plans. Where memory runs out, a part of it may have been appended.
+/// The summary of a database: a line for each table with its name and its number of rows, and a last line with the
+/// number of plans.
 #[tactic(auto, unfolding(mib_model::specs::Summaries::summary))]
-pub fn add_summary(alloc: Global, out: &mut Vec<u8>, book: &Book) -> Result<(), AllocError>
-    ensures { OnOk result (out.new.items ≡ out.old.items ++ summary book.now) }
+pub fn summary_of(alloc: Global, book: &Book) -> Result<Vec<u8>, AllocError>
+    ensures { IfOk result (λ text. text.items ≡ summary book.now) }
 {
     let plans = count_plans(alloc, book)?;
-    add_tables(out, book)?;
-    out.extend_from_slice(b"PLANS ")?;
-    add_number(out, plans)?;
-    out.extend_from_slice(b"\n")
+    let mut text = Vec::new(alloc);
+    add_tables(&mut text, book)?;
+    text.extend_from_slice(b"PLANS ")?;
+    add_number(&mut text, plans)?;
+    text.extend_from_slice(b"\n")?;
+    Ok(text)
 }

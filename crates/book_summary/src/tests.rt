@@ -1,4 +1,4 @@
-use crate::add_summary;
+use crate::summary_of;
 use mib_model::{Kind, Name, PcfRow, PidRow, PlfRow, Row, VpdRow};
 use mib_tables::Book;
 use std::alloc::{AllocError, Global};
@@ -11,9 +11,7 @@ fn summary(alloc: Global, rows: &[Row]) -> Result<Vec<u8>, AllocError> {
     for row in rows {
         book.put(*row)?;
     }
-    let mut out = Vec::new(alloc);
-    add_summary(alloc, &mut out, &book)?;
-    Ok(out)
+    summary_of(alloc, &book)
 }
 
 fn name(rt: &impl Abort, text: &[u8]) -> Name {

@@ -172,7 +172,7 @@ fixed-measured db spid packet =
     (all-take (λ place. IsMeasured db place.name) most_values all (places-measured db spid)))
 
 -- what is found has a fixed layout
-IsFixed : Found → Type 0
+unfoldable pub IsFixed : Found → Type 0
 IsFixed (found.Spid spid service subtype tpsd dfhsize) = int_lt tpsd (pos 1) ≡ true
 IsFixed other = Unit {0}
 
@@ -191,7 +191,7 @@ unfolding IsFixed
 found_with-fixed db b packet None = tt
 found_with-fixed db b packet (Some values) = found_by-fixed db b packet values (find (agrees packet values) db.pid) refl
 
-match-fixed : (db : Database) → IsBuilt db → (packet : List ℕ) → IsFixed (match_of db packet)
+pub match-fixed : (db : Database) → IsBuilt db → (packet : List ℕ) → IsFixed (match_of db packet)
 unfolding match_of IsFixed
 match-fixed db b packet =
     choice IsFixed (not (nat_eq (header_of packet).version 0)) _ _ tt

@@ -1,61 +1,25 @@
 -- What the interpreter prints of packets of one edition is their plain records.
-use Rattle.std.proofs.Common.{◌≡◌, ◌+◌, ℕ, suc, Bool, true, false, List, [], ◌∷◌, ◌++◌, Option, Some, None, length, map, refl, sym, ap, ◌∙◌, append-nil, append_assoc, cond, arith, not, int_lt, pos, ◌==◌}
-use Rattle.std.specs.List.{All, flat_map, find}
+use Rattle.std.proofs.Common.{◌≡◌, ◌+◌, ℕ, suc, List, [], ◌∷◌, ◌++◌, Option, Some, None, length, map, refl, sym, ap, ◌∙◌, append-nil, append_assoc, arith}
+use Rattle.std.specs.List.{flat_map}
 use Rattle.mib_model.specs.declared.database.Database.{Database}
 use Rattle.mib_model.specs.declared.packet.Found.{Found}
 use Rattle.mib_model.specs.declared.kind.Kind.TheVariants as kind
 use Rattle.mib_model.specs.declared.packet.Found.TheVariants as found
 use Rattle.mib_model.specs.declared.packet.Value.{Value}
-use Rattle.mib_model.specs.declared.rows.PidRow.{PidRow}
 use Rattle.mib_model.specs.Fixed.{places, values_at}
 use Rattle.mib_model.specs.Headers.{header_of}
 use Rattle.mib_model.specs.Interpreter.{values_of, title_of, records_text}
-use Rattle.mib_model.specs.Match.{match_of, found_with, found_by, agrees, lacks_service, discriminants, criterion, idle_apid}
+use Rattle.mib_model.specs.Match.{match_of}
 use Rattle.mib_model.specs.Output.{output_of_one}
 use Rattle.mib_model.specs.Texts.{record_text, record_body, head_text, told_text, ended_text}
 use Rattle.mib_model.specs.Match.{first_of_two}
 use Rattle.mib_model.specs.Unbuilt.{any_row, is_unbuilt_pcf, is_unbuilt_pid, is_unbuilt_plf, unbuilt, unbuilt_in}
 use Rattle.mib_laws.specs.Runs as Laws
-use Rattle.mib_laws.proofs.PlainRunFacts.{interpret-plain}
+use Rattle.mib_laws.proofs.PlainRunFacts.{IsFixed, built-from, interpret-plain, match-fixed}
 use Rattle.mibtm.specs.Readings.{IsBuilt, plain_record, found_values_text, readings_text}
 use Rattle.mibtm.specs.Sources.{fixed_tables}
-use Rattle.mibtm.proofs.ListFacts.{All-find}
 use Rattle.mibtm.proofs.PlaceSteps.{places-all}
 use Rattle.mibtm.proofs.PlainReadings.{plain_line, readings-values}
-
--- a packet that is found has no structure
-abbrev IsFixed : Found → Type 0
-IsFixed (found.Spid spid service subtype tpsd dfhsize) = int_lt tpsd (pos 1) ≡ true
-IsFixed (found.Unknown service subtype) = Unit {0}
-IsFixed found.Idle = Unit {0}
-IsFixed (found.Bad why) = Unit {0}
-
-fixed_if : (b : Bool) (f g : Found) → IsFixed f → IsFixed g → IsFixed (cond b f g)
-fixed_if true f g one other = one
-fixed_if false f g one other = other
-
-not-false : (b : Bool) → not b ≡ false → b ≡ true
-not-false true is = refl
-not-false false is = absurd (let bad : true ≡ false = is in cc bad)
-
-found_by-fixed : (pids : List PidRow) (packet : List ℕ) (values : ℕ × ℕ) → All (λ row. is_unbuilt_pid row ≡ false) pids
-    → (o : Option PidRow) → find (agrees packet values) pids ≡ o → IsFixed (found_by packet o)
-found_by-fixed pids packet values built None is = tt
-found_by-fixed pids packet values built (Some row) is =
-    not-false (int_lt row.tpsd (pos 1)) (All-find (λ (r : PidRow). is_unbuilt_pid r ≡ false) (agrees packet values) pids row built is)
-
-found_with-fixed : (pids : List PidRow) (packet : List ℕ) → All (λ row. is_unbuilt_pid row ≡ false) pids → (o : Option (ℕ × ℕ)) → IsFixed (found_with pids packet o)
-found_with-fixed pids packet built None = tt
-found_with-fixed pids packet built (Some values) = found_by-fixed pids packet values built _ refl
-
-match-fixed : (db : Database) (packet : List ℕ) → IsBuilt db → IsFixed (match_of db packet)
-unfolding match_of
-match-fixed db packet built =
-    fixed_if (not ((header_of packet).version == 0)) _ _ tt
-    (fixed_if (header_of packet).telecommand _ _ tt
-    (fixed_if ((header_of packet).apid == idle_apid) _ _ tt
-    (fixed_if (lacks_service packet) _ _ tt
-    (found_with-fixed db.pid packet built.pid (discriminants packet (criterion db.pic packet))))))
 
 -- values that nothing is told of
 plain-lines : (packet : List ℕ) (values : List Value) → flat_map (told_text packet) (map Laws.plainly values) ≡ flat_map (plain_line packet) values
@@ -65,7 +29,7 @@ plain-lines packet (v ∷ vs) = rw (append-nil (plain_line packet v)) (ap (λ t.
 -- the lines of the values of a packet that is found, and how they end
 values_lines : (db : Database) (packet : List ℕ) (f : Found) → IsFixed f
     → flat_map (told_text packet) (map Laws.plainly (values_of db packet f).0) ++ ended_text (values_of db packet f).1 ≡ found_values_text db packet f
-unfolding values_of found_values_text
+unfolding values_of found_values_text IsFixed
 values_lines db packet (found.Spid spid service subtype tpsd dfhsize) fixed =
     rw fixed
     (ap (λ t. t ++ ended_text (values_at packet (places db spid)).1) (plain-lines packet (values_at packet (places db spid)).0)
@@ -81,7 +45,7 @@ record-plain db number packet built =
     let f = match_of db packet in
     let head = head_text number (header_of packet) f (title_of db f) in
     append_assoc head (flat_map (told_text packet) (map Laws.plainly (values_of db packet f).0)) (ended_text (values_of db packet f).1)
-    ∙ ap (λ t. head ++ t) (values_lines db packet f (match-fixed db packet built))
+    ∙ ap (λ t. head ++ t) (values_lines db packet f (match-fixed db (built-from db built.all) packet))
 
 -- the plain records of packets, the first of which has this number
 unfoldable pub plain_records : Database → ℕ → List (List ℕ) → List ℕ
@@ -173,7 +137,7 @@ unbuilt-kept db is =
     (unbuilt_in kind.Plf is_unbuilt_plf db.plf) (unbuilt_in kind.Cur any_row db.cur) (unbuilt_in kind.Ocf any_row db.ocf) is
 
 pub built-kept : (db : Database) → IsBuilt db → IsBuilt (fixed_tables db)
-built-kept db built = record { all = unbuilt-kept db built.all; pcf = built.pcf; pid = built.pid; pic = refl }
+built-kept db built = record { all = unbuilt-kept db built.all; pcf = built.pcf; pic = refl }
 
 -- the text of a run is the same by the tables that are kept
 pub output-kept : (db : Database) (packets : List (List ℕ)) (tail : List ℕ) → IsBuilt db → output_of_one (fixed_tables db) packets tail ≡ output_of_one db packets tail

@@ -62,7 +62,6 @@ all-built db is =
     record {
       all = is;
       pcf = position-none is_unbuilt_pcf db.pcf (map-none _ _ pcf);
-      pid = position-none is_unbuilt_pid db.pid (map-none _ _ pid);
       pic = any-none db.pic (map-none _ _ pic);
     }
 

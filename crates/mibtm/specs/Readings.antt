@@ -19,14 +19,13 @@ use Rattle.mib_model.specs.Match.{match_of}
 use Rattle.mib_model.specs.Parameters.{parameter, measured_encoding}
 use Rattle.mib_model.specs.Tails.{Plain}
 use Rattle.mib_model.specs.Texts.{head_text, value_text, ended_text}
-use Rattle.mib_model.specs.Unbuilt.{is_unbuilt_pcf, is_unbuilt_pid, unbuilt}
+use Rattle.mib_model.specs.Unbuilt.{is_unbuilt_pcf, unbuilt}
 use Rattle.mibtm.specs.Sources.{fixed_tables}
 
 -- the rows ask for nothing but fixed layouts of unsigned integers without curves, conditions and checks
 pub record IsBuilt (db : Database) : Type 0 where
   pub all : unbuilt db ≡ None
   pub pcf : All (λ row. is_unbuilt_pcf row ≡ false) db.pcf
-  pub pid : All (λ row. is_unbuilt_pid row ≡ false) db.pid
   pub pic : db.pic ≡ []
 
 -- the tables that were kept of an accepted database, which is built

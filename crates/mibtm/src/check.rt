@@ -7,7 +7,7 @@ ghost use Rattle.mibtm.specs.Tool.{AnswersTables, IsBeforeRun};
 
 use crate::load::sound_book;
 use crate::print::print;
-use book_summary::add_summary;
+use book_summary::summary_of;
 use mib_model::Code;
 use mib_tables::Book;
 use std::alloc::Global;
@@ -19,10 +19,9 @@ fn print_summary<O: Sink>(alloc: Global, book: &Book, out: &mut O) -> Code
     ensures code { IsSummaryCode result }
     ensures out { HasOutCause result (O.faults out.old) (O.faults out.new) }
 {
-    let mut text = Vec::new(alloc);
-    if add_summary(alloc, &mut text, book).is_err() {
+    let Ok(text) = summary_of(alloc, book) else {
         return Code::Want;
-    }
+    };
     if let Err(stop) = print(&text, out) {
         return stop.code();
     }
