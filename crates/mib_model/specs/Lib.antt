@@ -1,4 +1,5 @@
 pub mod Padding
+pub mod Letters
 pub mod Names
 pub mod Kinds
 pub mod Keys
