@@ -22,7 +22,7 @@ use Rattle.mib_model.specs.Fixed.{places, occurrence, occurrences, places_inside
 use Rattle.mib_model.specs.Headers.{header_of}
 use Rattle.mib_model.specs.Interpreter.{Course, Stamped, values_of, start, interpret, record_for, course_after}
 use Rattle.mib_model.specs.Kept.{Memory, empty_memory, all_entered, has_number}
-use Rattle.mib_model.specs.Match.{first_of_two, match_of, agrees, found_by, found_with, idle_apid, lacks_service, discriminants, criterion}
+use Rattle.mib_model.specs.Match.{first_of_two, match_of, agrees, found_by, found_with, lacks_service, discriminants, criterion}
 use Rattle.mib_model.specs.Orders.{sorted_by}
 use Rattle.mib_model.specs.Output.{stamped_from}
 use Rattle.mib_model.specs.Parameters.{parameter, is_measured, measured_encoding, parameter_encoding}
@@ -196,7 +196,7 @@ unfolding match_of IsFixed
 match-fixed db b packet =
     choice IsFixed (not (nat_eq (header_of packet).version 0)) _ _ tt
     (choice IsFixed (header_of packet).telecommand _ _ tt
-    (choice IsFixed (nat_eq (header_of packet).apid idle_apid) _ _ tt
+    (choice IsFixed (nat_eq (header_of packet).apid 2047) _ _ tt
     (choice IsFixed (lacks_service packet) _ _ tt
     (found_with-fixed db b packet (discriminants packet (criterion db.pic packet))))))
 

@@ -10,13 +10,10 @@ use Rattle.mib_model.specs.declared.rows.PidRow.{PidRow}
 use Rattle.mib_model.specs.declared.packet.Found.{Found}
 use Rattle.mib_model.specs.declared.packet.Found.TheVariants.{Spid, Unknown, Idle, Bad}
 use Rattle.mib_model.specs.declared.packet.BadWhy.TheVariants as why
+use Rattle.mib_model.specs.declared.packet.TheConstants.{IDLE_APID}
 use Rattle.mib_model.specs.Bits.{bits, is_inside}
 use Rattle.mib_model.specs.Database.{Database}
 use Rattle.mib_model.specs.Headers.{header_of}
-
--- the APID of idle packets
-abbrev pub idle_apid : ℕ
-idle_apid = 2047
 
 -- the service type and subtype: octets 7 and 8 behind a secondary header, else 0
 abbrev pub service_of : List ℕ → ℕ
@@ -80,11 +77,15 @@ abbrev pub found_with : List PidRow → List ℕ → Option (ℕ × ℕ) → Fou
 found_with pids packet None = Bad why.Short
 found_with pids packet (Some values) = found_by packet (find (agrees packet values) pids)
 
--- the first rule that applies
-unfoldable pub match_of : Database → List ℕ → Found
-match_of db packet =
+-- what a packet is by rows of pid and pic: the first rule that applies
+abbrev pub match_by : List PidRow → List PicRow → List ℕ → Found
+match_by pids pics packet =
     if not ((header_of packet).version == 0) then Bad why.Version
     else if (header_of packet).telecommand then Bad why.Telecommand
-    else if (header_of packet).apid == idle_apid then Idle
+    else if (header_of packet).apid == IDLE_APID then Idle
     else if lacks_service packet then Bad why.Short
-    else found_with db.pid packet (discriminants packet (criterion db.pic packet))
+    else found_with pids packet (discriminants packet (criterion pics packet))
+
+-- what a packet is by a database
+unfoldable pub match_of : Database → List ℕ → Found
+match_of db packet = match_by db.pid db.pic packet

@@ -38,7 +38,7 @@ pub use line_fault::LineFault;
 pub use meaning::{MadeFor, Rows};
 pub use name::{Name, Text};
 pub use number::{Dec, DecFault, Eng, Over};
-pub use packet::{BadWhy, Ended, Found, Header, Value};
+pub use packet::{BadWhy, Ended, Found, Header, IDLE_APID, Value};
 pub use plan::{PlanName, TypeItem};
 pub use register::{Answer, Entry, Intake, Scheduled};
 pub use reply::Reply;

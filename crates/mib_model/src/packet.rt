@@ -2,6 +2,9 @@ use crate::name::Name;
 use crate::shape::Shape;
 use byteorder::{BigEndian, ByteOrder};
 
+/// The APID of idle packets (CCSDS 133.0-B, idle packets).
+pub const IDLE_APID: u16 = 2047;
+
 /// The primary header of a space packet (CCSDS 133.0-B, packet primary header).
 #[derive(Clone, Copy, Debug, PartialEq, Eq)]
 pub struct Header {

@@ -7,10 +7,7 @@ ghost use Rattle.mib_model.specs.Match.{service_of, subtype_of, lacks_service, m
 ghost use Rattle.mib_model.specs.Database.{database_of};
 ghost use Rattle.mib_model.specs.Interpreter.{title_of};
 
-use mib_model::{BadWhy, Found, Header, PidRow, Tables, Text, TpcfRow};
-
-// The APID of idle packets.
-const IDLE_APID: u16 = 2047;
+use mib_model::{BadWhy, Found, Header, IDLE_APID, PidRow, Tables, Text, TpcfRow};
 
 // The header that a packet begins with.
 pub(crate) fn header(packet: &[u8]) -> Header
