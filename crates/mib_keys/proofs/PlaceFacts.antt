@@ -3,7 +3,7 @@ use Rattle.std.proofs.Common.{◌≡◌, ℕ, suc, ◌+◌, ◌<◌, ◌≤◌, 
 use Rattle.std.proofs.lemmas.Bool.{ltb-true, ltb-false, lt-ltb, le-ltb}
 use Rattle.std.proofs.lemmas.List.{map_more, length-map, length-take-le}
 use Rattle.std.specs.List.{position, prefix_len}
-use Rattle.mib_model.specs.Match.{first_of_two}
+use Rattle.std.specs.Option.{option_or}
 use Rattle.mib_keys.specs.Indexes.{some_if}
 
 pub below_one_more : (n m : ℕ) → nat_lt (1 + n) (suc m) ≡ nat_lt n m
@@ -24,19 +24,19 @@ position-cons {X} p x xs = go (p x) where
   go false = rw (below_one_more (prefix_len (λ y. not (p y)) xs) (length xs)) (later (prefix_len (λ y. not (p y)) xs) (length xs) (nat_lt (prefix_len (λ y. not (p y)) xs) (length xs)))
 
 -- of one more item
-pub position-push : {X : Type 0} (p : X → Bool) (xs : List X) (y : X) → position p (xs ++ y ∷ []) ≡ first_of_two (position p xs) (some_if (p y) (length xs))
+pub position-push : {X : Type 0} (p : X → Bool) (xs : List X) (y : X) → position p (xs ++ y ∷ []) ≡ option_or (position p xs) (some_if (p y) (length xs))
 position-push p [] y = position-cons p y [] ∙ go (p y) where
   go : (b : Bool) → cond b (Some 0) None ≡ some_if b 0
   go true = refl
   go false = refl
-position-push p (x ∷ xs) y = position-cons p x (xs ++ y ∷ []) ∙ (ap (λ o. cond (p x) (Some 0) (option_map (λ i. i + 1) o)) (position-push p xs y) ∙ (go (p x) (position p xs) (p y) ∙ ap (λ o. first_of_two o (some_if (p y) (suc (length xs)))) (sym (position-cons p x xs)))) where
-  go : (b : Bool) (o : Option ℕ) (c : Bool) → cond b (Some 0) (option_map (λ i. i + 1) (first_of_two o (some_if c (length xs)))) ≡ first_of_two (cond b (Some 0) (option_map (λ i. i + 1) o)) (some_if c (suc (length xs)))
+position-push p (x ∷ xs) y = position-cons p x (xs ++ y ∷ []) ∙ (ap (λ o. cond (p x) (Some 0) (option_map (λ i. i + 1) o)) (position-push p xs y) ∙ (go (p x) (position p xs) (p y) ∙ ap (λ o. option_or o (some_if (p y) (suc (length xs)))) (sym (position-cons p x xs)))) where
+  go : (b : Bool) (o : Option ℕ) (c : Bool) → cond b (Some 0) (option_map (λ i. i + 1) (option_or o (some_if c (length xs)))) ≡ option_or (cond b (Some 0) (option_map (λ i. i + 1) o)) (some_if c (suc (length xs)))
   go true o c = refl
   go false (Some i) c = refl
   go false None true = let e : length xs + 1 ≡ suc (length xs) = omega arith in ap Some e
   go false None false = refl
 
-pub first-assoc : {A : Type 0} (a b c : Option A) → first_of_two (first_of_two a b) c ≡ first_of_two a (first_of_two b c)
+pub first-assoc : {A : Type 0} (a b c : Option A) → option_or (option_or a b) c ≡ option_or a (option_or b c)
 first-assoc None b c = refl
 first-assoc (Some x) b c = refl
 
@@ -69,8 +69,8 @@ module _ {A X : Type 0} (f : A → X) (rows : List A) (i : ℕ) (row : A) where
   taken-long : i < length rows → length (map f (take i rows)) ≡ i
   taken-long below = length-map (take i rows) f ∙ length-take-le i rows (omega (arith, below))
 
-  pub position-more : (p : X → Bool) → i < length rows → row ≡ get_or rows i row → position p (map f (take (i + 1) rows)) ≡ first_of_two (position p (map f (take i rows))) (some_if (p (f row)) i)
-  position-more p below is = ap (position p) (taken-more below is) ∙ (position-push p (map f (take i rows)) (f row) ∙ ap (λ n. first_of_two (position p (map f (take i rows))) (some_if (p (f row)) n)) (taken-long below))
+  pub position-more : (p : X → Bool) → i < length rows → row ≡ get_or rows i row → position p (map f (take (i + 1) rows)) ≡ option_or (position p (map f (take i rows))) (some_if (p (f row)) i)
+  position-more p below is = ap (position p) (taken-more below is) ∙ (position-push p (map f (take i rows)) (f row) ∙ ap (λ n. option_or (position p (map f (take i rows))) (some_if (p (f row)) n)) (taken-long below))
 
   pub count-more : (p : X → Bool) → i < length rows → row ≡ get_or rows i row → length (filter p (map f (take (i + 1) rows))) ≡ cond (p (f row)) (length (filter p (map f (take i rows))) + 1) (length (filter p (map f (take i rows))))
   count-more p below is = ap (λ xs. length (filter p xs)) (taken-more below is) ∙ count-push p (map f (take i rows)) (f row)
@@ -79,6 +79,6 @@ module _ {A X : Type 0} (f : A → X) (rows : List A) (i : ℕ) (row : A) where
   count-below p below = subst (λ n. length (filter p (map f (take i rows))) ≤ n) (taken-long below) (filter-few p (map f (take i rows)))
 
 -- one more place noted behind those that are there
-pub noted-more : (new so_far old before after : Option ℕ) (here holds : Bool) (i : ℕ) → new ≡ first_of_two so_far (some_if here i) → so_far ≡ first_of_two old before → here ≡ holds → after ≡ first_of_two before (some_if holds i) → new ≡ first_of_two old after
+pub noted-more : (new so_far old before after : Option ℕ) (here holds : Bool) (i : ℕ) → new ≡ option_or so_far (some_if here i) → so_far ≡ option_or old before → here ≡ holds → after ≡ option_or before (some_if holds i) → new ≡ option_or old after
 noted-more new so_far old before after here holds i step behind same more =
-    step ∙ (ap (λ o. first_of_two o (some_if here i)) behind ∙ (first-assoc old before (some_if here i) ∙ (ap (λ b. first_of_two old (first_of_two before (some_if b i))) same ∙ ap (first_of_two old) (sym more))))
+    step ∙ (ap (λ o. option_or o (some_if here i)) behind ∙ (first-assoc old before (some_if here i) ∙ (ap (λ b. option_or old (option_or before (some_if b i))) same ∙ ap (option_or old) (sym more))))

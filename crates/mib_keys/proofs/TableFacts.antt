@@ -11,7 +11,7 @@ use Rattle.mib_model.specs.declared.rows.Row.TheVariants as row
 use Rattle.mib_model.specs.Drafts.{rows_of, same_kind}
 use Rattle.mib_model.specs.Keys.{key_in, same_key, has_key}
 use Rattle.mib_model.specs.Kinds.{kinds}
-use Rattle.mib_model.specs.Match.{first_of_two}
+use Rattle.std.specs.Option.{option_or}
 use Rattle.mib_model.specs.RowTexts.{kind_in}
 use Rattle.mib_tables.specs.Kinds.{kind_of_key}
 use Rattle.mib_tables.proofs.KindFacts.{same_by_name, same_kind_itself}
@@ -83,29 +83,29 @@ other-table db q k other = position-absent (has_key q) (rows_of db k) (own-rows 
 -- the first answer of some tables
 abbrev pub noted_over : (Kind → Option ℕ) → List Kind → Option ℕ
 noted_over f [] = None
-noted_over f (k ∷ ks) = first_of_two (f k) (noted_over f ks)
+noted_over f (k ∷ ks) = option_or (f k) (noted_over f ks)
 
-pub noted-push : (f : Kind → Option ℕ) (ks : List Kind) (k : Kind) → noted_over f (ks ++ k ∷ []) ≡ first_of_two (noted_over f ks) (f k)
+pub noted-push : (f : Kind → Option ℕ) (ks : List Kind) (k : Kind) → noted_over f (ks ++ k ∷ []) ≡ option_or (noted_over f ks) (f k)
 noted-push f [] k = last (f k) where
-  last : (o : Option ℕ) → first_of_two o None ≡ o
+  last : (o : Option ℕ) → option_or o None ≡ o
   last None = refl
   last (Some x) = refl
-noted-push f (j ∷ ks) k = ap (first_of_two (f j)) (noted-push f ks k) ∙ sym (first-assoc (f j) (noted_over f ks) (f k))
+noted-push f (j ∷ ks) k = ap (option_or (f j)) (noted-push f ks k) ∙ sym (first-assoc (f j) (noted_over f ks) (f k))
 
 abbrev is_table : Kind → Kind → Bool
 is_table t k = same_kind k t
 
 module _ (f : Kind → Option ℕ) (t : Kind) (others : (k : Kind) → k ≢ t → f k ≡ None) where
-  twice-same : (o : Option ℕ) (b : Bool) → first_of_two o (cond b o None) ≡ o
+  twice-same : (o : Option ℕ) (b : Bool) → option_or o (cond b o None) ≡ o
   twice-same (Some x) b = refl
   twice-same None true = refl
   twice-same None false = refl
 
-  only-way : (b : Bool) (k : Kind) → is_table t k ≡ b → (any : Bool) (rest : Option ℕ) → rest ≡ cond any (f t) None → first_of_two (f k) rest ≡ cond (b || any) (f t) None
+  only-way : (b : Bool) (k : Kind) → is_table t k ≡ b → (any : Bool) (rest : Option ℕ) → rest ≡ cond any (f t) None → option_or (f k) rest ≡ cond (b || any) (f t) None
   only-way true k is any rest h =
-      ap (λ o. first_of_two o rest) (ap f (same_by_name k t is)) ∙ (ap (first_of_two (f t)) h ∙ twice-same (f t) any)
+      ap (λ o. option_or o rest) (ap f (same_by_name k t is)) ∙ (ap (option_or (f t)) h ∙ twice-same (f t) any)
   only-way false k is any rest h =
-      ap (λ o. first_of_two o rest) (others k (λ e. false-true (sym is ∙ (ap (λ j. same_kind j t) e ∙ same_kind_itself t)))) ∙ h
+      ap (λ o. option_or o rest) (others k (λ e. false-true (sym is ∙ (ap (λ j. same_kind j t) e ∙ same_kind_itself t)))) ∙ h
 
   only-one : (ks : List Kind) → noted_over f ks ≡ cond (list_any (is_table t) ks) (f t) None
   only-one [] = refl
@@ -134,11 +134,11 @@ own-place db q =
     ap (λ b. cond b (position (has_key q) (rows_of db (kind_of_key q))) None) (all-there (kind_of_key q))
 
 -- one more table
-pub one-more : (db : Database) (q : Key) (new so_far : Option ℕ) (i : ℕ) (d : Kind) (rows : List Row) → i < 15 → rows ≡ rows_of db (get_or kinds i d) → new ≡ first_of_two so_far (first_place key_cmp (λ r. Some (key_in r)) rows q) → so_far ≡ noted_over (λ k. position (has_key q) (rows_of db k)) (take i kinds) → new ≡ noted_over (λ k. position (has_key q) (rows_of db k)) (take (i + 1) kinds)
+pub one-more : (db : Database) (q : Key) (new so_far : Option ℕ) (i : ℕ) (d : Kind) (rows : List Row) → i < 15 → rows ≡ rows_of db (get_or kinds i d) → new ≡ option_or so_far (first_place key_cmp (λ r. Some (key_in r)) rows q) → so_far ≡ noted_over (λ k. position (has_key q) (rows_of db k)) (take i kinds) → new ≡ noted_over (λ k. position (has_key q) (rows_of db k)) (take (i + 1) kinds)
 one-more db q new so_far i d rows below own step before =
     let f : Kind → Option ℕ = λ k. position (has_key q) (rows_of db k) in
-    step ∙ (ap (λ o. first_of_two o (first_place key_cmp (λ r. Some (key_in r)) rows q)) before ∙
-    (ap (first_of_two (noted_over f (take i kinds))) (key-place rows q ∙ ap (position (has_key q)) own) ∙
+    step ∙ (ap (λ o. option_or o (first_place key_cmp (λ r. Some (key_in r)) rows q)) before ∙
+    (ap (option_or (noted_over f (take i kinds))) (key-place rows q ∙ ap (position (has_key q)) own) ∙
     (sym (noted-push f (take i kinds) (get_or kinds i d)) ∙ ap (noted_over f) (sym (take_more kinds i d below)))))
 
 -- all tables

@@ -2,7 +2,7 @@
 ghost use Rattle.std.specs.Prelude.{◌≡◌, ◌+◌, ◌<◌, ◌≤◌, length, Option, Some, OnOk, IfOk, if◌then◌else◌, unwrap_or};
 ghost use Rattle.std.specs.BTreeMap.{get};
 ghost use Rattle.mib_model.specs.declared.rows.Row.{Row};
-ghost use Rattle.mib_model.specs.Match.{first_of_two};
+ghost use Rattle.std.specs.Option.{option_or};
 ghost use Rattle.mib_tables.specs.Shelves.{values_in};
 ghost use Rattle.mib_keys.specs.Indexes.{has_by, first_place, some_if, count_with};
 
@@ -28,7 +28,7 @@ pub fn note_key<K: Ord + Copy + Drop>(
     key: Option<K>,
     place: u32,
 ) -> Result<(), AllocError>
-    ensures { OnOk result ((q : K) → get K.cmp places.new q ≡ first_of_two (get K.cmp places.old q) (some_if (has_by K.cmp q key) place)) }
+    ensures { OnOk result ((q : K) → get K.cmp places.new q ≡ option_or (get K.cmp places.old q) (some_if (has_by K.cmp q key) place)) }
 {
     let Some(key) = key else {
         return Ok(());
@@ -46,7 +46,7 @@ pub fn note<B: By>(
     places: &mut BTreeMap<B::Key, u32>,
 ) -> Result<(), AllocError>
     requires { length rows.now ≤ 1000000000 }
-    ensures { OnOk result ((q : B.Key) → get B.Key.cmp places.new q ≡ first_of_two (get B.Key.cmp places.old q) (first_place B.Key.cmp (B.key by.now) (values_in rows.now) q)) }
+    ensures { OnOk result ((q : B.Key) → get B.Key.cmp places.new q ≡ option_or (get B.Key.cmp places.old q) (first_place B.Key.cmp (B.key by.now) (values_in rows.now) q)) }
 {
     for (place, row) in rows.iter().enumerate() {
         note_key(places, by.key(row), place as u32)?;

@@ -3,12 +3,11 @@ use Rattle.std.proofs.Common.{◌≡◌, ℕ, suc, ◌+◌, ◌≤◌, Bool, tru
 use Rattle.std.proofs.lemmas.Bool.{ltb-false}
 use Rattle.std.proofs.lemmas.Option.{none-some}
 use Rattle.std.specs.List.{position, find, list_any, prefix_len}
-use Rattle.std.specs.Option.{unwrap_or}
-use Rattle.mib_model.specs.Match.{first_of_two}
+use Rattle.std.specs.Option.{unwrap_or, option_or}
 
-pub first_of_two-none : {A : Type 0} (x y : Option A) → first_of_two x y ≡ None → (x ≡ None) × (y ≡ None)
-first_of_two-none None y h = (refl, h)
-first_of_two-none (Some x) y h = absurd (none-some x (sym h))
+pub option_or-none : {A : Type 0} (x y : Option A) → option_or x y ≡ None → (x ≡ None) × (y ≡ None)
+option_or-none None y h = (refl, h)
+option_or-none (Some x) y h = absurd (none-some x (sym h))
 
 pub option_map-none : {A B : Type 0} (f : A → B) (o : Option A) → option_map f o ≡ None → o ≡ None
 option_map-none f None h = refl

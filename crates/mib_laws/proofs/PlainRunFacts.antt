@@ -2,7 +2,7 @@
 use Rattle.std.proofs.Common.{◌≡◌, ℕ, zero, suc, ◌+◌, pos, int_lt, nat_eq, Bool, true, false, not, cond, ◌&&◌, List, [], ◌∷◌, ◌++◌, map, filter, take, Option, Some, None, refl, ap, subst}
 use Rattle.std.proofs.lemmas.Option.{none-some}
 use Rattle.std.specs.List.{AllByRecursion, find, list_any, flat_map, take_while, prefix_len, position, range_with_len}
-use Rattle.std.specs.Option.{is_some}
+use Rattle.std.specs.Option.{is_some, option_or}
 use Rattle.std.specs.Str.{bytes_eq}
 use Rattle.mib_model.specs.declared.database.Database.{Database}
 use Rattle.mib_model.specs.declared.fault.MibCode.TheVariants.{Unbuilt}
@@ -22,12 +22,12 @@ use Rattle.mib_model.specs.Fixed.{places, occurrence, occurrences, places_inside
 use Rattle.mib_model.specs.Headers.{header_of}
 use Rattle.mib_model.specs.Interpreter.{Course, Stamped, values_of, start, interpret, record_for, course_after}
 use Rattle.mib_model.specs.Kept.{Memory, empty_memory, all_entered, has_number}
-use Rattle.mib_model.specs.Match.{first_of_two, match_of, agrees, found_by, found_with, lacks_service, discriminants, criterion}
+use Rattle.mib_model.specs.Match.{match_of, agrees, found_by, found_with, lacks_service, discriminants, criterion}
 use Rattle.mib_model.specs.Orders.{sorted_by}
 use Rattle.mib_model.specs.Output.{stamped_from}
 use Rattle.mib_model.specs.Parameters.{parameter, is_measured, measured_encoding, parameter_encoding}
 use Rattle.mib_model.specs.Unbuilt.{unbuilt, unbuilt_in, is_plain, is_unbuilt_pcf, is_unbuilt_pid, is_unbuilt_plf, any_row}
-use Rattle.mib_laws.proofs.Options.{first_of_two-none, option_map-none, position-none, find-fails}
+use Rattle.mib_laws.proofs.Options.{option_or-none, option_map-none, position-none, find-fails}
 use Rattle.mib_laws.specs.Runs.{plainly, plain_record, plain_records}
 
 -- no check and no selection stands, and each measured parameter is plain
@@ -55,15 +55,15 @@ built-from db h =
     let in_plf = unbuilt_in kind.Plf is_unbuilt_plf db.plf in
     let in_cur = unbuilt_in kind.Cur any_row db.cur in
     let in_ocf = unbuilt_in kind.Ocf any_row db.ocf in
-    let after_plf = first_of_two in_cur in_ocf in
-    let after_pic = first_of_two in_plf after_plf in
-    let after_pid = first_of_two in_pic after_pic in
-    let after_pcf = first_of_two in_pid after_pid in
-    let pcf = first_of_two-none in_pcf after_pcf h in
-    let pid = first_of_two-none in_pid after_pid pcf.1 in
-    let pic = first_of_two-none in_pic after_pic pid.1 in
-    let plf = first_of_two-none in_plf after_plf pic.1 in
-    let cur = first_of_two-none in_cur in_ocf plf.1 in
+    let after_plf = option_or in_cur in_ocf in
+    let after_pic = option_or in_plf after_plf in
+    let after_pid = option_or in_pic after_pic in
+    let after_pcf = option_or in_pid after_pid in
+    let pcf = option_or-none in_pcf after_pcf h in
+    let pid = option_or-none in_pid after_pid pcf.1 in
+    let pic = option_or-none in_pic after_pic pid.1 in
+    let plf = option_or-none in_plf after_plf pic.1 in
+    let cur = option_or-none in_cur in_ocf plf.1 in
     record {
       no_checks = no_row db.ocf (none_unbuilt kind.Ocf any_row db.ocf cur.1);
       no_selections = no_row db.cur (none_unbuilt kind.Cur any_row db.cur cur.0);

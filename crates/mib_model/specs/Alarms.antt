@@ -5,7 +5,7 @@ use Rattle.mib_model.specs.declared.check.Class.TheVariants.{Nominal, Hard, Stat
 use Rattle.mib_model.specs.declared.check.Change.{Change}
 use Rattle.mib_model.specs.declared.check.Change.TheVariants.{Alarm, Clear}
 
--- the same class
+-- whether two classes are equal
 abbrev pub same_class : Class → Class → Bool
 same_class Nominal Nominal = true
 same_class Hard Hard = true

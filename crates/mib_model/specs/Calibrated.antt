@@ -5,14 +5,14 @@ use Rattle.mib_model.specs.declared.number.Over.{Over}
 -- a count of 10^-12, a status text, or why there is none
 pub data Calibrated : Type 0 where
   Counted : (count : ℤ) → Calibrated
-  Worded : (text : List ℕ) → Calibrated
+  StatusText : (text : List ℕ) → Calibrated
   NoText : Calibrated
   Outside : Calibrated
   TooLarge : Calibrated
   LogCurve : Calibrated
   RealCurve : Calibrated
 
--- a step may not reach 10^37, and a result may not reach 10^36
+-- a step that reaches 10^37
 abbrev pub is_wide : ℤ → Bool
 is_wide z = nat_le (10 ^ 37) (nat_abs z)
 

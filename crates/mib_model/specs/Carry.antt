@@ -2,6 +2,7 @@
 use Rattle.std.specs.Prelude.{ℕ, min, Bool, true, false, List, Option, Some, None, ◌&&◌, if◌then◌else◌}
 use Rattle.std.specs.List.{find}
 use Rattle.std.specs.Str.{bytes_eq}
+use Rattle.std.specs.Cmp.Lexicographic.{pointwise}
 use Rattle.mib_model.specs.declared.rows.OcfRow.{OcfRow}
 use Rattle.mib_model.specs.declared.rows.PcfRow.{PcfRow}
 use Rattle.mib_model.specs.Checks.{checks_of}
@@ -9,18 +10,17 @@ use Rattle.mib_model.specs.Database.{Database}
 use Rattle.mib_model.specs.Kept.{Memory, nothing_kept}
 use Rattle.mib_model.specs.Parameters.{parameter}
 use Rattle.mib_model.specs.SameRows.{same_pcf, same_ocf, same_ocp}
-use Rattle.mib_model.specs.Sameness.{same_list}
 
 -- the check of a parameter
 abbrev pub check_of : Database → List ℕ → Option OcfRow
 check_of db name = find (λ row. bytes_eq row.name name) db.ocf
 
--- both there, and the same
+-- whether a parameter is in both editions with the same row
 abbrev pub stays : Option PcfRow → Option PcfRow → Bool
 stays (Some old) (Some new) = same_pcf old new
 stays old new = false
 
--- both missing, or both there and the same but for the number of checks
+-- whether a check is in neither edition, or in both with the same row but for the number of checks
 abbrev pub same_check : Option OcfRow → Option OcfRow → Bool
 same_check None None = true
 same_check (Some old) (Some new) = same_ocf old (record new { nbchck = old.nbchck })
@@ -31,7 +31,7 @@ unfoldable pub is_carried : Database → Database → List ℕ → Bool
 is_carried old new name =
     stays (parameter old.pcf name) (parameter new.pcf name) &&
     same_check (check_of old name) (check_of new name) &&
-    same_list same_ocp (checks_of old name) (checks_of new name)
+    pointwise same_ocp (checks_of old name) (checks_of new name)
 
 -- a run is held to the new number of checks
 abbrev pub run_for : Option OcfRow → ℕ → ℕ

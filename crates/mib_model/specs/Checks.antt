@@ -1,6 +1,6 @@
 -- How a sample stands to the checks of its parameter. [SCOS-2000 Database Import ICD, ocf and ocp; the order of the classes and the
 -- rules of a violation are this profile's.]
-use Rattle.std.specs.Prelude.{ℕ, ℤ, ◌-ℤ◌, int_lt, Bool, true, false, List, Option, Some, None, ◌==◌, ◌&&◌, ◌||◌, not, if◌then◌else◌, filter, Result, Ok, Err}
+use Rattle.std.specs.Prelude.{ℕ, ℤ, ◌-ℤ◌, int_lt, Bool, false, List, Option, Some, None, ◌==◌, ◌&&◌, ◌||◌, not, if◌then◌else◌, filter, Result, Ok, Err}
 use Rattle.std.specs.List.{list_any}
 use Rattle.std.specs.Ordering.{int_eq}
 use Rattle.std.specs.Str.{bytes_eq}
@@ -13,7 +13,8 @@ use Rattle.mib_model.specs.declared.rows.Bound.TheVariants as bound
 use Rattle.mib_model.specs.declared.rows.OcpRow.{OcpRow}
 use Rattle.mib_model.specs.Database.{Database}
 use Rattle.mib_model.specs.Decimals.{count_of, dec_of}
-use Rattle.mib_model.specs.Kept.{Memory, holds}
+use Rattle.mib_model.specs.Kept.{Memory, is_met}
+use Rattle.mib_model.specs.Letters.{letter}
 use Rattle.mib_model.specs.Orders.{sorted_by_number}
 
 -- what is checked: a count of 10^-12, or a status text
@@ -21,41 +22,36 @@ pub data Sample : Type 0 where
   Numbered : (count : ℤ) → Sample
   Worded : (text : List ℕ) → Sample
 
--- the kinds of a check by its letter: `H`, `S`, `D`, `C`
+-- a hard limit: `H`
 abbrev pub is_hard : OcpRow → Bool
-is_hard row = row.sort == 72
+is_hard row = row.sort == letter "H"
 
--- a soft limit
+-- a soft limit: `S`
 abbrev pub is_soft : OcpRow → Bool
-is_soft row = row.sort == 83
+is_soft row = row.sort == letter "S"
 
--- a limit of the step from the sample before
+-- a limit of the step from the sample before: `D`
 abbrev pub is_delta : OcpRow → Bool
-is_delta row = row.sort == 68
+is_delta row = row.sort == letter "D"
 
--- an expected state
+-- an expected state: `C`
 abbrev pub is_status : OcpRow → Bool
-is_status row = row.sort == 67
+is_status row = row.sort == letter "C"
 
 -- the checks of a parameter, by POS
 unfoldable pub checks_of : Database → List ℕ → List OcpRow
 checks_of db name = sorted_by_number (λ row. row.pos) (filter (λ row. bytes_eq row.name name) db.ocp)
 
--- a check with no condition, or whose condition holds
-abbrev pub is_met : Memory → Option (List ℕ) → ℤ → Bool
-is_met memory None number = true
-is_met memory (Some name) number = holds memory name number
-
 -- a check applies where it has no condition, or where its condition holds
 abbrev pub applies : Memory → OcpRow → Bool
 applies memory row = is_met memory row.rlchk row.valpar
 
--- a count below or above a bound; a bound that is empty or a text doesn't bind
+-- a count below a bound; a bound that is empty or a text doesn't bind
 abbrev pub is_below : Bound → ℤ → Bool
 is_below (bound.Number d) count = int_lt count (count_of d)
 is_below other count = false
 
--- a count above a bound
+-- a count above a bound; a bound that is empty or a text doesn't bind
 abbrev pub is_above : Bound → ℤ → Bool
 is_above (bound.Number d) count = int_lt (count_of d) count
 is_above other count = false
@@ -69,7 +65,7 @@ abbrev pub violates_limit : Sample → OcpRow → Bool
 violates_limit (Numbered count) row = is_out row count
 violates_limit (Worded text) row = false
 
--- a delta is violated by a number that is too far from the one before, if there was one
+-- whether the step from the number before, if there was one, is out of the bounds of a row
 abbrev pub is_out_from : Option ℤ → ℤ → OcpRow → Bool
 is_out_from None count row = false
 is_out_from (Some previous) count row = is_out row (count -ℤ previous)
@@ -79,7 +75,7 @@ abbrev pub violates_delta : Option ℤ → Sample → OcpRow → Bool
 violates_delta previous (Numbered count) row = is_out_from previous count row
 violates_delta previous (Worded text) row = false
 
--- a number agrees with a text that reads as a decimal of the same count
+-- whether a text reads as a decimal of this count
 abbrev pub is_count_of : ℤ → Result Dec DecFault → Bool
 is_count_of count (Ok d) = int_eq count (count_of d)
 is_count_of count (Err fault) = false

@@ -3,6 +3,7 @@
 use Rattle.std.specs.Prelude.{ℕ, ℤ, Bool, List, Option, Some, None, option_map, option_and_then, ◌==◌, if◌then◌else◌, filter}
 use Rattle.std.specs.List.{find}
 use Rattle.std.specs.Str.{bytes_eq}
+use Rattle.std.specs.Option.{option_or}
 use Rattle.mib_model.specs.declared.rows.PcfRow.{PcfRow}
 use Rattle.mib_model.specs.declared.rows.CurRow.{CurRow}
 use Rattle.mib_model.specs.declared.rows.CafRow.{CafRow}
@@ -11,10 +12,10 @@ use Rattle.mib_model.specs.declared.rows.TxfRow.{TxfRow}
 use Rattle.mib_model.specs.declared.rows.TxpRow.{TxpRow}
 use Rattle.mib_model.specs.declared.rows.McfRow.{McfRow}
 use Rattle.mib_model.specs.declared.rows.LgfRow.{LgfRow}
-use Rattle.mib_model.specs.Calibrated.{Calibrated, Worded, NoText, LogCurve, RealCurve, calibrated}
+use Rattle.mib_model.specs.Calibrated.{Calibrated, StatusText, NoText, LogCurve, RealCurve, calibrated}
 use Rattle.mib_model.specs.Database.{Database}
 use Rattle.mib_model.specs.Kept.{Memory, holds}
-use Rattle.mib_model.specs.Match.{first_of_two}
+use Rattle.mib_model.specs.Letters.{letter}
 use Rattle.mib_model.specs.Orders.{sorted_by_number}
 use Rattle.mib_model.specs.Points.{by_points}
 use Rattle.mib_model.specs.Polynomials.{coefficients, polynomial}
@@ -29,25 +30,25 @@ pub data CurveRows : Type 0 where
 
 -- raw numbers that are real: RAWFMT `R`
 abbrev pub is_real_format : ℕ → Bool
-is_real_format rawfmt = rawfmt == 82
+is_real_format rawfmt = rawfmt == letter "R"
 
--- a row from whose FROM to whose TO a raw number lies
+-- whether a raw number lies from the FROM to the TO of a row
 abbrev pub spans : ℤ → TxpRow → Bool
 spans raw row = lies_from_to (decimal_whole row.low) (decimal_whole row.high) raw
 
--- the status text of a row
-abbrev pub worded : Option TxpRow → Calibrated
-worded None = NoText
-worded (Some row) = Worded row.altxt
+-- the status text of a row, or that none spans the raw number
+abbrev pub status_text : Option TxpRow → Calibrated
+status_text None = NoText
+status_text (Some row) = StatusText row.altxt
 
 -- what a curve makes of a raw number
 unfoldable pub calibration : CurveRows → ℤ → Calibrated
 calibration (Points caf caps) raw = if is_real_format caf.rawfmt then RealCurve else by_points caf caps raw
-calibration (Texts txf txps) raw = if is_real_format txf.rawfmt then RealCurve else worded (find (spans raw) txps)
+calibration (Texts txf txps) raw = if is_real_format txf.rawfmt then RealCurve else status_text (find (spans raw) txps)
 calibration (Poly mcf) raw = calibrated (polynomial (coefficients mcf) raw)
 calibration (Log lgf) raw = LogCurve
 
--- the curves of a name, by their tables
+-- the curve by points of a name
 abbrev pub points_named : Database → List ℕ → Option CurveRows
 points_named db name =
     option_map (λ caf. Points caf (filter (λ cap. bytes_eq cap.numbr name) db.cap)) (find (λ caf. bytes_eq caf.numbr name) db.caf)
@@ -68,9 +69,9 @@ log_named db name = option_map (λ lgf. Log lgf) (find (λ lgf. bytes_eq lgf.ide
 -- the curve of a name for a category: texts for `S`, none for `T`, and for `N` the first of points, polynomial and logarithm
 unfoldable pub curve_named : Database → ℕ → List ℕ → Option CurveRows
 curve_named db categ name =
-    if categ == 83 then texts_named db name
-    else if categ == 84 then None
-    else first_of_two (points_named db name) (first_of_two (poly_named db name) (log_named db name))
+    if categ == letter "S" then texts_named db name
+    else if categ == letter "T" then None
+    else option_or (points_named db name) (option_or (poly_named db name) (log_named db name))
 
 -- the selections of a parameter, by POS
 unfoldable pub selections : Database → List ℕ → List CurRow
@@ -79,7 +80,7 @@ selections db name = sorted_by_number (λ row. row.pos) (filter (λ row. bytes_e
 -- the name of a parameter's curve: its own, else that of the first selection whose condition holds
 abbrev pub selected : Database → PcfRow → Memory → Option (List ℕ)
 selected db row memory =
-    first_of_two row.curtx (option_map (λ cur. cur.curve) (find (λ cur. holds memory cur.rlchk cur.valpar) (selections db row.name)))
+    option_or row.curtx (option_map (λ cur. cur.curve) (find (λ cur. holds memory cur.rlchk cur.valpar) (selections db row.name)))
 
 -- the curve that a parameter's values are taken by, if there is one
 unfoldable pub curve_of : Database → PcfRow → Memory → Option CurveRows

@@ -6,28 +6,29 @@ use Rattle.mib_model.specs.declared.number.Dec.{Dec}
 use Rattle.mib_model.specs.declared.number.DecFault.{DecFault}
 use Rattle.mib_model.specs.declared.number.DecFault.TheVariants.{Form, Digits, Exponent}
 use Rattle.mib_model.specs.Digits.{digits_value, are_digits, decimal_of_width}
+use Rattle.mib_model.specs.Letters.{letter}
 
 -- a minus sign
 abbrev pub is_minus : ℕ → Bool
-is_minus octet = octet == 45
+is_minus octet = octet == letter "-"
 
 -- a minus or a plus sign
 abbrev pub is_sign : ℕ → Bool
-is_sign octet = is_minus octet || (octet == 43)
+is_sign octet = is_minus octet || (octet == letter "+")
 
 -- a decimal point
 abbrev pub is_point : ℕ → Bool
-is_point octet = octet == 46
+is_point octet = octet == letter "."
 
 -- `E` or `e`
 abbrev pub is_exponent_mark : ℕ → Bool
-is_exponent_mark octet = (octet == 69) || (octet == 101)
+is_exponent_mark octet = (octet == letter "E") || (octet == letter "e")
 
 -- the digit 0
 abbrev pub is_zero_digit : ℕ → Bool
-is_zero_digit octet = octet == 48
+is_zero_digit octet = octet == letter "0"
 
--- without the sign at the front, where there is one
+-- a text without the sign at its front, where there is one
 abbrev pub unsigned_part : List ℕ → List ℕ
 unsigned_part text = drop (prefix_len is_sign (take 1 text)) text
 
@@ -43,11 +44,11 @@ with_sign minus n = if minus then neg_ℤ (pos n) else pos n
 abbrev pub mantissa : List ℕ → List ℕ
 mantissa text = before_first is_exponent_mark (unsigned_part text)
 
--- what stands after it
+-- what stands behind the exponent's mark
 abbrev pub exponent_part : List ℕ → List ℕ
 exponent_part text = after_first is_exponent_mark (unsigned_part text)
 
--- the digits before and after the point
+-- the digits before the point
 abbrev pub whole_digits : List ℕ → List ℕ
 whole_digits text = before_first is_point (mantissa text)
 
@@ -69,7 +70,7 @@ has_decimal_form text =
     nat_le 1 (length (whole_digits text ++ fraction_digits text)) &&
     list_all is_ascii_digit (whole_digits text ++ fraction_digits text) && has_exponent_form text
 
--- without the zeros at the front, and without those at the end
+-- digits without the zeros at the front
 abbrev pub without_leading : List ℕ → List ℕ
 without_leading digits = drop (prefix_len is_zero_digit digits) digits
 
@@ -84,7 +85,7 @@ scaled minus digits exponent =
     else if int_lt exponent (negsuc 29) || int_lt (pos 30) exponent then Err Exponent
     else Ok (record { m = with_sign minus (digits_value digits); e = exponent })
 
--- the same of digits that may end in zeros; no digit is the number 0
+-- the decimal of digits that may end in zeros; no digit is the number 0
 abbrev pub scaled_from : Bool → List ℕ → ℤ → Result Dec DecFault
 scaled_from minus [] exponent = Ok (record { m = pos 0; e = pos 0 })
 scaled_from minus (d ∷ ds) exponent =
@@ -118,7 +119,7 @@ count_of d = held (times_power d.m (d.e +ℤ pos 12))
 abbrev pub raw_count : ℤ → ℤ
 raw_count raw = raw *ℤ pos (10 ^ 12)
 
--- a number that stands for so many decimals: a minus where it is below 0, the whole part, and behind a point the decimals
+-- a magnitude with a point before so many decimals; no point where there are none
 abbrev pub pointed : ℕ → ℕ → List ℕ
 pointed zero n = decimal n
 pointed (suc d) n = decimal (n / 10 ^ (d + 1)) ++ codes "." ++ decimal_of_width (d + 1) (n % 10 ^ (d + 1))

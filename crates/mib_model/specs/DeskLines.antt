@@ -4,8 +4,9 @@ use Rattle.std.specs.List.{slice_split, starts_with, before_first, after_first, 
 use Rattle.std.specs.Str.{bytes_eq}
 use Rattle.std.specs.Str.Lines.{strip_carriage_return}
 use Rattle.mib_model.specs.declared.kind.Kind.{Kind}
-use Rattle.mib_model.specs.Digits.{digits_value, are_digits}
+use Rattle.mib_model.specs.Digits.{natural_in}
 use Rattle.mib_model.specs.Kinds.{kind_named}
+use Rattle.mib_model.specs.Letters.{letter}
 use Rattle.mib_model.specs.Lines.{is_tab}
 
 -- what a line asks for
@@ -26,7 +27,7 @@ pub data Request : Type 0 where
 -- a line that is empty or begins with `#`
 abbrev pub is_comment : List ℕ → Bool
 is_comment [] = true
-is_comment (c ∷ cs) = c == 35
+is_comment (c ∷ cs) = c == letter "#"
 
 -- the most octets of a line
 abbrev pub most_octets : ℕ
@@ -36,13 +37,9 @@ most_octets = 4096
 abbrev pub is_blank : ℕ → Bool
 is_blank octet = octet == 32
 
--- a number: 1 to 20 digits with a value below 2^64
-abbrev pub number_in : List ℕ → Option ℕ
-number_in word = if are_digits 1 20 word && nat_lt (digits_value word) (2 ^ 64) then Some (digits_value word) else None
-
 -- an edition: a number above 4,294,967,295 is no edition, which 0 stands for
 abbrev pub edition_in : List ℕ → Option ℕ
-edition_in word = option_map (λ n. if nat_lt n (2 ^ 32) then n else 0) (number_in word)
+edition_in word = option_map (λ n. if nat_lt n (2 ^ 32) then n else 0) (natural_in word)
 
 -- a word: at least one octet, and no space
 abbrev pub is_word : List ℕ → Bool
@@ -69,14 +66,14 @@ table_request make rest =
 abbrev pub words_of : List ℕ → List (List ℕ)
 words_of line = slice_split is_blank line
 
--- the forms of `use`
+-- what the words behind `use` ask for
 abbrev pub use_request : List (List ℕ) → Option Request
 use_request (edition ∷ []) = option_map Use (edition_in edition)
 use_request (edition ∷ word ∷ number ∷ []) =
-    if bytes_eq word (codes "from") then option_and_then (λ e. option_map (UseFrom e) (number_in number)) (edition_in edition) else None
+    if bytes_eq word (codes "from") then option_and_then (λ e. option_map (UseFrom e) (natural_in number)) (edition_in edition) else None
 use_request other = None
 
--- a line of words alone; `take` is one where several desks work
+-- what a line of words alone asks for; `take` is one where several desks work
 abbrev pub word_request : Bool → List (List ℕ) → Option Request
 word_request several [] = None
 word_request several (word ∷ []) =
@@ -87,7 +84,7 @@ word_request several (word ∷ []) =
     else None
 word_request several (word ∷ next ∷ words) = if bytes_eq word (codes "use") then use_request (next ∷ words) else None
 
--- a line without the CR at its end
+-- what a line that is no comment and not too long asks for, without the CR at its end
 abbrev pub request_in : Bool → List ℕ → Request
 request_in several line =
     if starts_with nat_eq line (codes "put ") then table_request Put (drop 4 line)

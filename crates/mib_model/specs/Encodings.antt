@@ -43,11 +43,11 @@ real_width pfc =
 abbrev pub sorted_as : Sort → Option ℕ → Option (Sort × ℕ)
 sorted_as sort = option_map (λ width. (sort, width))
 
--- times in coarse and fine octets: PFC 3 to 18 count their quarters
+-- a time of so many coarse and so many fine octets
 abbrev pub coarse_and_fine : ℕ → ℕ → Option (Sort × ℕ)
 coarse_and_fine coarse fine = Some (Cuc coarse fine, 8 * (coarse + fine))
 
--- a time in coarse and fine octets, for PFC 3 to 18
+-- a time in coarse and fine octets: for PFC 3 to 18 PFC + 1 is 4 times the coarse octets, and the fine ones over
 abbrev pub unsegmented_time : ℕ → Option (Sort × ℕ)
 unsegmented_time pfc = if is_from_to 3 18 pfc then coarse_and_fine ((pfc + 1) / 4) ((pfc + 1) % 4) else None
 
@@ -80,7 +80,7 @@ may_be_little Signed = true
 may_be_little Real = true
 may_be_little other = false
 
--- with the octets in the order that is asked for: whole octets alone can be turned round
+-- an encoding with the octets in the order that is asked for: whole octets alone can be turned round
 abbrev pub ordered : Endian → Sort × ℕ → Option Encoding
 ordered endian.B typed = Some (record { sort = typed.0; width = typed.1; order = Big })
 ordered endian.L typed =

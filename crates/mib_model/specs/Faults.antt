@@ -1,4 +1,4 @@
--- The texts of faults, codes and summaries. [This profile.]
+-- The numbers and texts of faults, and the lines of codes. [This profile.]
 use Rattle.std.specs.Prelude.{ℕ, List, [], ◌++◌, codes, decimal, ◌==◌, if◌then◌else◌}
 use Rattle.mib_model.specs.declared.code.Code.{Code}
 use Rattle.mib_model.specs.declared.code.Code.TheVariants as code
@@ -53,7 +53,7 @@ fault_word fault.Unbuilt = codes "UNBUILT"
 abbrev pub number_behind : ℕ → List ℕ
 number_behind n = if n == 0 then [] else codes " " ++ decimal n
 
--- table, row and word, and then the column or the first row, where there is one
+-- the text of a fault: table, row and word, and then the column or the first row, where there is one
 unfoldable pub fault_text : MibFault → List ℕ
 fault_text f =
     kind_name f.table ++ codes " " ++ decimal f.row ++ codes " " ++ fault_word f.code ++ number_behind f.column ++ number_behind f.first

@@ -9,11 +9,12 @@ use Rattle.mib_model.specs.Alarms.{Watch, alarm}
 use Rattle.mib_model.specs.Calibrated.{Calibrated}
 use Rattle.mib_model.specs.Calibrated as calibrated
 use Rattle.mib_model.specs.Carry.{check_of}
-use Rattle.mib_model.specs.Checks.{Sample, Numbered, Worded, checks_of, class_of, is_met}
+use Rattle.mib_model.specs.Checks.{Sample, Numbered, Worded, checks_of, class_of}
 use Rattle.mib_model.specs.Curves.{curve_of, calibration}
 use Rattle.mib_model.specs.Database.{Database}
 use Rattle.mib_model.specs.Decimals.{raw_count}
-use Rattle.mib_model.specs.Kept.{Kept, Memory, keeping, has_number}
+use Rattle.mib_model.specs.Kept.{Kept, Memory, keeping, has_number, is_met}
+use Rattle.mib_model.specs.Letters.{letter}
 use Rattle.mib_model.specs.Parameters.{parameter}
 use Rattle.mib_model.specs.Tails.{Tail, Plain, Given, Invalid, Told}
 
@@ -25,28 +26,28 @@ is_valid memory row = is_met memory row.valid row.valpar
 abbrev pub given_for : Database → PcfRow → Memory → Value → Option Calibrated
 given_for db row memory v = if has_number v.shape.sort then option_map (λ rows. calibration rows v.raw) (curve_of db row memory) else None
 
--- the tail of a valid value
+-- the tail of a valid value, for so many decimals: nothing where no curve is taken
 abbrev pub tail_for : ℕ → Option Calibrated → Tail
 tail_for decimals None = Plain
 tail_for decimals (Some given) = Given given decimals
 
--- the sample of a parameter whose calibration is checked: the raw number where there is no curve, and none where the curve gives nothing
+-- what a calibration leaves to check: its number or its text, the raw number where there is no curve, and else nothing
 abbrev pub converted : ℤ → Option Calibrated → Option Sample
 converted raw None = Some (Numbered (raw_count raw))
 converted raw (Some (calibrated.Counted count)) = Some (Numbered count)
-converted raw (Some (calibrated.Worded text)) = Some (Worded text)
+converted raw (Some (calibrated.StatusText text)) = Some (Worded text)
 converted raw (Some other) = None
 
--- INTER `U` checks the raw number
+-- the sample of a checked value: with INTER `U` its raw number, else what its calibration leaves to check
 abbrev pub sample_for : OcfRow → ℤ → Option Calibrated → Option Sample
-sample_for check raw given = if check.inter == 85 then Some (Numbered (raw_count raw)) else converted raw given
+sample_for check raw given = if check.inter == letter "U" then Some (Numbered (raw_count raw)) else converted raw given
 
 -- the last checked number, after a sample
 abbrev pub previous_after : Sample → Option ℤ → Option ℤ
 previous_after (Numbered count) previous = Some count
 previous_after (Worded text) previous = previous
 
--- what is kept after a step of the alarm
+-- what is kept of a name after a sample and a step of the alarm
 abbrev pub kept_after : Kept → Sample → Watch → Kept
 kept_after kept sample watch = record kept { spoken = watch.0; run = watch.1; previous = previous_after sample kept.previous }
 
@@ -54,7 +55,7 @@ kept_after kept sample watch = record kept { spoken = watch.0; run = watch.1; pr
 abbrev pub Checked : Type 0
 Checked = Memory × Option Change
 
--- what is kept and told after a step of the alarm
+-- what is kept of all names and told after a step of the alarm of one
 abbrev pub with_alarm : Memory → List ℕ → Sample → Watch × Option Change → Checked
 with_alarm memory name sample step = (keeping memory name (kept_after (memory name) sample step.0), step.1)
 
@@ -91,11 +92,11 @@ finished_by db memory v (Some row) =
 unfoldable pub finished : Database → Memory → Value → Finished
 finished db memory v = finished_by db memory v (parameter db.pcf v.name)
 
--- all values of a packet in their order, each with what is kept after the ones before
+-- what is told of a value, in front of what is told of those behind it
 abbrev pub in_front : Told → Memory × List Told → Memory × List Told
 in_front first others = (others.0, first ∷ others.1)
 
--- what is kept after the values of a packet, and what is told of each
+-- what is kept after the values of a packet in their order, and what is told of each, by what is kept after the ones before
 unfoldable pub all_finished : Database → Memory → List Value → Memory × List Told
 all_finished db memory [] = (memory, [])
 all_finished db memory (v ∷ vs) = in_front (finished db memory v).1 (all_finished db (finished db memory v).0 vs)

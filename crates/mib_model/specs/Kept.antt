@@ -8,7 +8,8 @@ use Rattle.mib_model.specs.declared.packet.Value.{Value}
 use Rattle.mib_model.specs.declared.shape.Sort.{Sort}
 use Rattle.mib_model.specs.declared.shape.Sort.TheVariants.{Unsigned, Signed}
 
--- the latest raw number, the class that is spoken of, the run of samples out of limits, and the last checked number
+-- what is kept of a parameter: the latest raw number, the class that is spoken of, the run of samples out of limits, and the
+-- last checked number
 pub record Kept : Type 0 where
   pub latest : Option ℤ
   pub spoken : Option Class
@@ -35,17 +36,22 @@ keeping memory name kept other = if bytes_eq other name then kept else memory ot
 abbrev pub holds : Memory → List ℕ → ℤ → Bool
 holds memory name number = option_eq int_eq (memory name).latest (Some number)
 
+-- whether there is no condition, or one that holds
+abbrev pub is_met : Memory → Option (List ℕ) → ℤ → Bool
+is_met memory None number = true
+is_met memory (Some name) number = holds memory name number
+
 -- whether values of a sort have raw numbers
 abbrev pub has_number : Sort → Bool
 has_number Unsigned = true
 has_number Signed = true
 has_number other = false
 
--- a value's raw number is entered as the latest of its name
+-- the memory after a value: its raw number is the latest of its name
 abbrev pub entered : Memory → Value → Memory
 entered memory value =
     if has_number value.shape.sort then keeping memory value.name (record (memory value.name) { latest = Some value.raw }) else memory
 
--- the raw numbers of all values of a packet, in their order
+-- the memory after the raw numbers of values were entered, in their order
 abbrev pub all_entered : Memory → List Value → Memory
 all_entered memory values = fold entered memory values

@@ -3,7 +3,7 @@
 -- pic and pid, in this profile.]
 use Rattle.std.specs.Prelude.{ℕ, ◌*◌, ℤ, pos, negsuc, Bool, List, length, slice_index, nat_lt, ◌==◌, ◌&&◌, not, if◌then◌else◌, Option, Some, None}
 use Rattle.std.specs.List.{find}
-use Rattle.std.specs.Option.{option_eq}
+use Rattle.std.specs.Option.{option_eq, option_or}
 use Rattle.std.specs.Prelude.{nat_eq}
 use Rattle.mib_model.specs.declared.rows.PicRow.{PicRow}
 use Rattle.mib_model.specs.declared.rows.PidRow.{PidRow}
@@ -15,7 +15,7 @@ use Rattle.mib_model.specs.Bits.{bits, is_inside}
 use Rattle.mib_model.specs.Database.{Database}
 use Rattle.mib_model.specs.Headers.{header_of}
 
--- the service type and subtype: octets 7 and 8 behind a secondary header, else 0
+-- the service type: octet 7 behind a secondary header, else 0
 abbrev pub service_of : List ℕ → ℕ
 service_of packet = if (header_of packet).secondary then slice_index packet 7 else 0
 
@@ -23,23 +23,18 @@ service_of packet = if (header_of packet).secondary then slice_index packet 7 el
 abbrev pub subtype_of : List ℕ → ℕ
 subtype_of packet = if (header_of packet).secondary then slice_index packet 8 else 0
 
--- the secondary header is there, and the packet ends before its service type and subtype
+-- whether the secondary header is there and the packet ends before its service type and subtype
 abbrev pub lacks_service : List ℕ → Bool
 lacks_service packet = (header_of packet).secondary && nat_lt (length packet) 9
 
--- a criterion of these types for this APID, or for none
+-- whether a row is a criterion of these types for this APID, or for none
 abbrev pub is_criterion : ℕ → ℕ → Option ℕ → PicRow → Bool
 is_criterion service subtype apid row = (row.service == service) && (row.subtype == subtype) && option_eq nat_eq row.apid apid
-
--- the one with the APID goes before the one with none
-abbrev pub first_of_two : {A : Type 0} → Option A → Option A → Option A
-first_of_two (Some x) other = Some x
-first_of_two None other = other
 
 -- the criterion of a packet: that for its APID, else that for none
 unfoldable pub criterion : List PicRow → List ℕ → Option PicRow
 criterion pics packet =
-    first_of_two (find (is_criterion (service_of packet) (subtype_of packet) (Some (header_of packet).apid)) pics)
+    option_or (find (is_criterion (service_of packet) (subtype_of packet) (Some (header_of packet).apid)) pics)
     (find (is_criterion (service_of packet) (subtype_of packet) None) pics)
 
 -- the number at an octet offset, most significant bit first: 0 where there is no offset or no width, none where it passes the end
@@ -61,7 +56,7 @@ abbrev pub discriminants : List ℕ → Option PicRow → Option (ℕ × ℕ)
 discriminants packet None = Some (0, 0)
 discriminants packet (Some row) = both (discriminant packet row.pi1_off row.pi1_wid) (discriminant packet row.pi2_off row.pi2_wid)
 
--- a row of this APID, types and discriminants
+-- whether a row is of the packet's APID, types and discriminants
 abbrev pub agrees : List ℕ → ℕ × ℕ → PidRow → Bool
 agrees packet values row =
     (row.apid == (header_of packet).apid) && (row.service == service_of packet) && (row.subtype == subtype_of packet) &&
@@ -72,12 +67,12 @@ abbrev pub found_by : List ℕ → Option PidRow → Found
 found_by packet None = Unknown (service_of packet) (subtype_of packet)
 found_by packet (Some row) = Spid row.spid (service_of packet) (subtype_of packet) row.tpsd row.dfhsize
 
--- the first row that agrees, in the order of the file
+-- what a packet with these discriminants is: by the first row that agrees, in the order of the file
 abbrev pub found_with : List PidRow → List ℕ → Option (ℕ × ℕ) → Found
 found_with pids packet None = Bad why.Short
 found_with pids packet (Some values) = found_by packet (find (agrees packet values) pids)
 
--- what a packet is by rows of pid and pic: the first rule that applies
+-- what a packet is by rows of pid and pic: the first of version, type, idle APID, length and identification decides
 abbrev pub match_by : List PidRow → List PicRow → List ℕ → Found
 match_by pids pics packet =
     if not ((header_of packet).version == 0) then Bad why.Version

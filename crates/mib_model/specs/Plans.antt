@@ -41,16 +41,18 @@ type_item row = record { name = row.name; ptc = row.ptc; pfc = row.pfc; width = 
 abbrev pub type_items : Database → List (List ℕ) → List TypeItem
 type_items db names = filter_map (λ name. option_and_then (λ row. Some (type_item row)) (parameter db.pcf name)) names
 
--- a parameter's curves: that of CURTX alone where it is given, else one for each selection; none for category `T`
+-- the names of a parameter's curves: CURTX alone where it is given, else one for each selection
 abbrev pub curve_names : Option (List ℕ) → List CurRow → List (List ℕ)
 curve_names (Some name) curs = name ∷ []
 curve_names None curs = map (λ cur. cur.curve) curs
 
--- the curves of a parameter, one for each name
+-- the curves of a parameter, one for each name; category `T` has none
 abbrev pub curves_for : Database → PcfRow → List (Option CurveRows)
 curves_for db row = map (curve_named db row.categ) (curve_names row.curtx (selections db row.name))
 
--- PARAM: each measured parameter that isn't deduced, by name
+-- ---- plans of parameters
+
+-- a parameter has a plan where it is measured and not deduced
 abbrev pub has_plan : PcfRow → Bool
 has_plan row = is_measured row && not (is_deduced row)
 
@@ -67,11 +69,13 @@ may_precede x y = is_le (slice_cmp nat_cmp x y)
 unfoldable pub param_plans : Database → List Plan
 param_plans db = map (param_plan db) (sorted_by (λ x y. may_precede x.name y.name) (filter has_plan db.pcf))
 
--- LAYOUT: each packet of fixed layout, by SPID
+-- ---- plans of fixed layouts
+
+-- a packet has a layout where it names no structure
 abbrev pub has_layout : PidRow → Bool
 has_layout row = int_lt row.tpsd (pos 1)
 
--- the places of a packet
+-- the rows of places of a packet
 abbrev pub layout_rows : Database → ℕ → List PlfRow
 layout_rows db spid = filter (λ row. row.spid == spid) db.plf
 
@@ -84,7 +88,9 @@ layout_plan db row =
 unfoldable pub layout_plans : Database → List Plan
 layout_plans db = map (layout_plan db) (sorted_by_number (λ row. row.spid) (filter has_layout db.pid))
 
--- STRUCTURE: each TPSD that vpd has, by its number
+-- ---- plans of structures
+
+-- the numbers of a list, each once
 abbrev pub distinct : List ℕ → List ℕ
 distinct [] = []
 distinct (n ∷ ns) = if list_any (λ m. m == n) ns then distinct ns else n ∷ distinct ns
@@ -98,7 +104,9 @@ structure_plan db tpsd =
 unfoldable pub structure_plans : Database → List Plan
 structure_plans db = map (structure_plan db) (sorted_by_number (λ n. n) (distinct (map (λ row. row.tpsd) db.vpd)))
 
--- IDENT: one in all
+-- ---- the plan of identification, and all plans
+
+-- the plan of identification
 abbrev pub ident_plan : Database → Plan
 ident_plan db = (plan.Ident, IdentSlice db.pid db.pic)
 

@@ -6,6 +6,7 @@ use Rattle.mib_model.specs.declared.rows.CapRow.{CapRow}
 use Rattle.mib_model.specs.declared.number.Over.{Over}
 use Rattle.mib_model.specs.Calibrated.{Calibrated, Outside, calibrated, is_wide, bounded}
 use Rattle.mib_model.specs.Decimals.{count_of, half}
+use Rattle.mib_model.specs.Letters.{letter}
 use Rattle.mib_model.specs.Orders.{sorted_by}
 use Rattle.mib_model.specs.WholeNumbers.{whole_number}
 
@@ -28,24 +29,20 @@ neighbours [] = []
 neighbours (p ∷ []) = []
 neighbours (p ∷ q ∷ more) = (p, q) ∷ neighbours (q ∷ more)
 
--- the first and the last item, if there is one
+-- the first item, if there is one
 abbrev pub first_of : {A : Type 0} → List A → Option A
 first_of [] = None
 first_of (x ∷ xs) = Some x
-
--- the last item, if there is one
-abbrev pub last_of : {A : Type 0} → List A → Option A
-last_of xs = last_or None xs
 
 -- the two points that a raw number is taken by: the last pair that begins at or below it, and else the first pair
 abbrev pub pair_for : ℤ → List (Knot × Knot) → Option (Knot × Knot)
 pair_for raw pairs = last_or (first_of pairs) (filter (λ pair. int_le pair.0.x raw) pairs)
 
--- below the least x or above the greatest
+-- whether a raw number lies outside two points
 abbrev pub is_beyond : ℤ → Knot × Knot → Bool
 is_beyond raw pair = int_lt raw pair.0.x || int_lt pair.1.x raw
 
--- the value of a raw number on the line through two points, or that it leaves the bounds
+-- how far a raw number lies from the first of two points, times the rise between them
 abbrev pub product_of : Knot → Knot → ℤ → ℤ
 product_of p q raw = (raw -ℤ p.x) *ℤ (q.y -ℤ p.y)
 
@@ -54,9 +51,9 @@ unfoldable pub interpolated : Knot → Knot → ℤ → Result ℤ Over
 interpolated p q raw =
     bounded (is_wide (q.y -ℤ p.y) || is_wide (product_of p q raw)) (p.y +ℤ half (product_of p q raw) (nat_abs (q.x -ℤ p.x)))
 
--- beyond the points a curve of INTER `P` goes on in its outer lines, and others give nothing
+-- whether a curve goes on beyond its points in its outer lines: INTER `P`
 abbrev pub goes_on : ℕ → Bool
-goes_on inter = inter == 80
+goes_on inter = inter == letter "P"
 
 -- what two points make of a raw number
 abbrev pub on_pair : ℕ → ℤ → Option (Knot × Knot) → Calibrated

@@ -9,7 +9,7 @@ use Rattle.mib_model.specs.declared.register.Intake.{Intake}
 use Rattle.mib_model.specs.declared.register.Scheduled.{Scheduled}
 use Rattle.mib_model.specs.Database.{Database, no_rows}
 
--- the most editions, and the most activations that are pending
+-- the most editions
 abbrev pub most_editions : ℕ
 most_editions = 64
 

@@ -4,7 +4,7 @@ use Rattle.std.specs.List.{slice_split, last_or}
 use Rattle.std.specs.Prelude.{unwrap_or, None}
 use Rattle.mib_model.specs.Lines.{is_feed}
 
--- the most octets and lines of a script that are taken
+-- the most octets of a script that are taken
 abbrev pub most_script : ℕ
 most_script = 2 ^ 30
 
@@ -12,7 +12,7 @@ most_script = 2 ^ 30
 abbrev pub most_lines : ℕ
 most_lines = 1000000
 
--- what stands between LF octets, the last piece apart: the lines that are whole, and the rest
+-- the pieces of a script that end with an LF
 abbrev pub whole_pieces : List ℕ → List (List ℕ)
 whole_pieces octets = take (length (slice_split is_feed octets) - 1) (slice_split is_feed octets)
 
@@ -20,7 +20,7 @@ whole_pieces octets = take (length (slice_split is_feed octets) - 1) (slice_spli
 abbrev pub last_piece : List ℕ → List ℕ
 last_piece octets = unwrap_or (last_or None (slice_split is_feed octets)) []
 
--- a rest is a line where it has octets
+-- the line that a rest is: none where it is empty
 abbrev pub rest_line : List ℕ → List (List ℕ)
 rest_line [] = []
 rest_line (c ∷ cs) = (c ∷ cs) ∷ []

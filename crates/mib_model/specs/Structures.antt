@@ -7,6 +7,7 @@ use Rattle.mib_model.specs.declared.rows.PcfRow.{PcfRow}
 use Rattle.mib_model.specs.declared.rows.VpdRow.{VpdRow}
 use Rattle.mib_model.specs.Database.{Database}
 use Rattle.mib_model.specs.Encodings.{Encoding}
+use Rattle.mib_model.specs.Letters.{letter}
 use Rattle.mib_model.specs.Orders.{sorted_by_number}
 use Rattle.mib_model.specs.Parameters.{parameter, is_measured, parameter_encoding}
 
@@ -40,7 +41,7 @@ typed row = option_map (λ e. (row, e)) (parameter_encoding row)
 
 -- a code `Y`
 abbrev pub is_yes : ℕ → Bool
-is_yes letter = letter == 89
+is_yes octet = octet == letter "Y"
 
 -- how often a raw value says that a group is walked
 abbrev pub times : ℤ → ℕ

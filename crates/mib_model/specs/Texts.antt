@@ -14,7 +14,7 @@ use Rattle.mib_model.specs.declared.packet.Found.{Found}
 use Rattle.mib_model.specs.declared.packet.Found.TheVariants as found
 use Rattle.mib_model.specs.declared.packet.Header.{Header}
 use Rattle.mib_model.specs.declared.packet.Value.{Value}
-use Rattle.mib_model.specs.Calibrated.{Calibrated, Counted, Worded, NoText, Outside, TooLarge, LogCurve, RealCurve}
+use Rattle.mib_model.specs.Calibrated.{Calibrated, Counted, StatusText, NoText, Outside, TooLarge, LogCurve, RealCurve}
 use Rattle.mib_model.specs.Decimals.{count_text}
 use Rattle.mib_model.specs.Headers.{header_of}
 use Rattle.mib_model.specs.RawTexts.{quoted, raw_text}
@@ -53,7 +53,7 @@ head_text number header f title =
 -- what stands behind a raw value
 abbrev pub given_text : Calibrated → ℕ → List ℕ
 given_text (Counted count) decimals = codes " = " ++ count_text count decimals
-given_text (Worded text) decimals = codes " = " ++ quoted text
+given_text (StatusText text) decimals = codes " = " ++ quoted text
 given_text NoText decimals = codes " ! NOTEXT"
 given_text Outside decimals = codes " ! OUTSIDE"
 given_text TooLarge decimals = codes " ! OVER"

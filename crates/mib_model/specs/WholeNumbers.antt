@@ -5,13 +5,14 @@ use Rattle.std.specs.List.{list_all}
 use Rattle.mib_model.specs.declared.number.Dec.{Dec}
 use Rattle.mib_model.specs.declared.number.DecFault.{DecFault}
 use Rattle.mib_model.specs.Decimals.{dec_of}
+use Rattle.mib_model.specs.Letters.{letter}
 use Rattle.mib_model.specs.Lines.{trimmed}
 
--- a raw number: from -2^63 to 2^64 - 1
+-- the least raw number: -2^63
 abbrev pub least_raw : ℤ
 least_raw = negsuc (2 ^ 63 - 1)
 
--- the greatest raw number
+-- the greatest raw number: 2^64 - 1
 abbrev pub greatest_raw : ℤ
 greatest_raw = pos (2 ^ 64 - 1)
 
@@ -33,13 +34,13 @@ whole_in (Ok d) = whole_of d.m d.e
 unfoldable pub decimal_whole : List ℕ → Option ℤ
 decimal_whole text = whole_in (dec_of (trimmed text))
 
--- a hexadecimal digit of either case, and what it stands for
+-- one of the six letters from this one on
 abbrev pub is_hex_letter : ℕ → ℕ → Bool
 is_hex_letter first octet = nat_le first octet && nat_lt octet (first + 6)
 
--- a digit of radix `H`
+-- a digit of radix `H`, with letters of either case
 abbrev pub is_hex_digit : ℕ → Bool
-is_hex_digit octet = is_ascii_digit octet || is_hex_letter 65 octet || is_hex_letter 97 octet
+is_hex_digit octet = is_ascii_digit octet || is_hex_letter (letter "A") octet || is_hex_letter (letter "a") octet
 
 -- what a digit of radix `H` stands for
 abbrev pub hex_digit_value : ℕ → ℕ
@@ -57,7 +58,7 @@ is_octal_digit octet = nat_le 48 octet && nat_le octet 55
 abbrev pub octal_value : List ℕ → ℕ
 octal_value digits = fold (λ value digit. 8 * value + (digit - 48)) 0 digits
 
--- from so few to so many digits of a kind
+-- from one to so many digits of a kind
 abbrev pub are_all : (ℕ → Bool) → ℕ → List ℕ → Bool
 are_all is_digit most text = nat_le 1 (length text) && nat_le (length text) most && list_all is_digit text
 
@@ -72,8 +73,8 @@ octal_whole text = if are_all is_octal_digit 22 text && nat_lt (octal_value text
 -- the whole number of a text in a radix: `D`, `H` or `O`
 unfoldable pub whole_number : ℕ → List ℕ → Option ℤ
 whole_number radix text =
-    if radix == 72 then hex_whole (trimmed text)
-    else if radix == 79 then octal_whole (trimmed text)
+    if radix == letter "H" then hex_whole (trimmed text)
+    else if radix == letter "O" then octal_whole (trimmed text)
     else decimal_whole text
 
 -- whether a number lies from one bound to another, where both are there

@@ -1,10 +1,10 @@
 -- The words of the command line, after the program's name. [This profile; options after the POSIX utility conventions, guideline 10.]
-use Rattle.std.specs.Prelude.{ℕ, Bool, List, [], ◌∷◌, codes, drop, nat_le, nat_eq, nat_lt, ◌&&◌, ◌^◌, not, if◌then◌else◌, Option, Some, None, option_map, option_and_then, Result, Ok, Err}
+use Rattle.std.specs.Prelude.{ℕ, Bool, List, [], ◌∷◌, codes, drop, nat_le, nat_eq, ◌&&◌, not, if◌then◌else◌, Option, Some, None, option_map, option_and_then, Result, Ok, Err}
 use Rattle.std.specs.List.{starts_with}
 use Rattle.std.specs.Str.{bytes_eq}
 use Rattle.mib_model.specs.declared.code.Misuse.{Misuse}
 use Rattle.mib_model.specs.declared.code.Misuse.TheVariants as misuse
-use Rattle.mib_model.specs.Digits.{digits_value, are_digits}
+use Rattle.mib_model.specs.Digits.{digits_value, are_digits, natural_in}
 
 -- what the words ask for: tables in a folder, a feed, a desk, and the number of workers
 pub data Command : Type 0 where
@@ -68,11 +68,7 @@ workers_of [] = Some 1
 workers_of (word ∷ []) = workers_in word
 workers_of (word ∷ next ∷ rest) = None
 
--- a seed: 1 to 20 digits with a value below 2^64
-abbrev pub seed_in : List ℕ → Option ℕ
-seed_in word = if are_digits 1 20 word && nat_lt (digits_value word) (2 ^ 64) then Some (digits_value word) else None
-
--- the commands by their positional words
+-- `check`: a folder
 abbrev pub check_of_words : List (List ℕ) → Option Command
 check_of_words (folder ∷ []) = Some (Check folder)
 check_of_words other = None
@@ -88,12 +84,12 @@ live_of_words workers (folder ∷ feed ∷ desk ∷ []) =
     if is_standard feed && is_standard desk then None else Some (Live folder feed desk workers)
 live_of_words workers other = None
 
--- `drill`: a seed
+-- `drill`: a seed of 1 to 20 digits with a value below 2^64
 abbrev pub drill_of_words : List (List ℕ) → Option Command
-drill_of_words (seed ∷ []) = option_map Drill (seed_in seed)
+drill_of_words (seed ∷ []) = option_map Drill (natural_in seed)
 drill_of_words other = None
 
--- words of a command that takes workers, and of one that doesn't
+-- the words of a command that takes workers
 abbrev pub with_options : (ℕ → List (List ℕ) → Option Command) → List (List ℕ) → Option Command
 with_options make words = option_and_then (λ p. option_and_then (λ n. make n p.positional) (workers_of p.workers)) (parted words)
 

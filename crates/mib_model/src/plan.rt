@@ -1,7 +1,7 @@
 use crate::name::Name;
 use crate::shape::Endian;
 
-/// What a layout depends on of a parameter: its name, its type, its width in structures and its nature.
+/// What a layout depends on of a parameter: its name, its type, its width in structures, its nature and its octet order.
 #[derive(Clone, Copy, PartialEq, Eq)]
 pub struct TypeItem {
     pub name: Name,

@@ -3,7 +3,7 @@ use Rattle.std.proofs.Common.{◌≡◌, Bool, List, [], ◌∷◌, Option, Some
 use Rattle.std.specs.List.{All, find}
 use Rattle.std.proofs.lemmas.Bool.{cases_Bool}
 use Rattle.std.proofs.lemmas.List.Elements.{All-head, All-tail}
-use Rattle.mib_model.specs.Match.{first_of_two}
+use Rattle.std.specs.Option.{option_or}
 
 -- what holds of all rows holds of the row that is found
 pub All-find : {A : Type 0} (P : A → Type 0) (p : A → Bool) (xs : List A) (x : A) → All P xs → find p xs ≡ Some x → P x
@@ -14,6 +14,6 @@ All-find P p (y ∷ ys) x all is = elim (cases_Bool (p y)) [
 ]
 
 -- neither of two
-pub first-none : {A : Type 0} (o r : Option A) → first_of_two o r ≡ None → (o ≡ None) × (r ≡ None)
+pub first-none : {A : Type 0} (o r : Option A) → option_or o r ≡ None → (o ≡ None) × (r ≡ None)
 first-none None r is = (refl, is)
 first-none (Some x) r is = cc

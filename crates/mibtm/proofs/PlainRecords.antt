@@ -12,7 +12,7 @@ use Rattle.mib_model.specs.Interpreter.{values_of, title_of, records_text}
 use Rattle.mib_model.specs.Match.{match_of}
 use Rattle.mib_model.specs.Output.{output_of_one}
 use Rattle.mib_model.specs.Texts.{record_text, record_body, head_text, told_text, ended_text}
-use Rattle.mib_model.specs.Match.{first_of_two}
+use Rattle.std.specs.Option.{option_or}
 use Rattle.mib_model.specs.Unbuilt.{any_row, is_unbuilt_pcf, is_unbuilt_pid, is_unbuilt_plf, unbuilt, unbuilt_in}
 use Rattle.mib_laws.specs.Runs as Laws
 use Rattle.mib_laws.proofs.PlainRunFacts.{IsFixed, built-from, interpret-plain, match-fixed}
@@ -122,8 +122,8 @@ records-kept db number (packet ∷ packets) built =
     ∙ ap (λ t. plain_record (fixed_tables db) number packet ++ t) (records-kept db (number + 1) packets built)
 
 -- none of six, and so none where two of them are left out
-none_kept : {A : Type 0} (a b c d e f : Option A) → first_of_two a (first_of_two b (first_of_two c (first_of_two d (first_of_two e f)))) ≡ None
-    → first_of_two a (first_of_two b (first_of_two None (first_of_two d (first_of_two None None)))) ≡ None
+none_kept : {A : Type 0} (a b c d e f : Option A) → option_or a (option_or b (option_or c (option_or d (option_or e f)))) ≡ None
+    → option_or a (option_or b (option_or None (option_or d (option_or None None)))) ≡ None
 none_kept None None c None e f is = refl
 none_kept None None None (Some x) e f is = cc
 none_kept None None (Some y) (Some x) e f is = cc

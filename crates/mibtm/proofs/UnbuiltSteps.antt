@@ -18,7 +18,7 @@ use Rattle.mib_model.specs.declared.rows.Row.{Row}
 use Rattle.mib_model.specs.declared.rows.Row.TheVariants as row
 use Rattle.mib_model.specs.Drafts.{rows_of}
 use Rattle.mib_model.specs.Kinds.{kinds}
-use Rattle.mib_model.specs.Match.{first_of_two}
+use Rattle.std.specs.Option.{option_or}
 use Rattle.mib_model.specs.Unbuilt.{any_row, is_unbuilt_pcf, is_unbuilt_pid, is_unbuilt_plf, unbuilt, unbuilt_in}
 use Rattle.mib_tables.specs.Shelves.{values_in}
 use Rattle.mib_keys.proofs.LookupFacts.{position-map}
@@ -77,7 +77,7 @@ in_table table one rows = ap (option_map _) (position-map one is_unbuilt rows)
 no_row : {R : Type 0} (table : Kind) (one : R → Row) (rows : List R) → ((r : R) → is_unbuilt (one r) ≡ false) → unbuilt_in table is_unbuilt (map one rows) ≡ None
 no_row table one rows built = ap (option_map _) (position-map one is_unbuilt rows ∙ ap (λ (p : _ → Bool). position p rows) (fun_ext built) ∙ never rows)
 
-last-none : {A : Type 0} (o : Option A) → first_of_two o None ≡ o
+last-none : {A : Type 0} (o : Option A) → option_or o None ≡ o
 last-none None = refl
 last-none (Some x) = refl
 
@@ -101,11 +101,11 @@ unbuilt-over db =
       no_row kind.Lgf row.Lgf db.lgf (λ r. refl),
       in_table kind.Ocf row.Ocf db.ocf,
       no_row kind.Ocp row.Ocp db.ocp (λ r. refl),
-    ) (ap (λ t. first_of_two (unbuilt_in kind.Pcf is_unbuilt_pcf db.pcf)
-    (first_of_two (unbuilt_in kind.Pid is_unbuilt_pid db.pid)
-    (first_of_two (unbuilt_in kind.Pic any_row db.pic)
-    (first_of_two (unbuilt_in kind.Plf is_unbuilt_plf db.plf)
-    (first_of_two (unbuilt_in kind.Cur any_row db.cur) t))))) (last-none (unbuilt_in kind.Ocf any_row db.ocf)))
+    ) (ap (λ t. option_or (unbuilt_in kind.Pcf is_unbuilt_pcf db.pcf)
+    (option_or (unbuilt_in kind.Pid is_unbuilt_pid db.pid)
+    (option_or (unbuilt_in kind.Pic any_row db.pic)
+    (option_or (unbuilt_in kind.Plf is_unbuilt_plf db.plf)
+    (option_or (unbuilt_in kind.Cur any_row db.cur) t))))) (last-none (unbuilt_in kind.Ocf any_row db.ocf)))
 
 pub keeps_built : (db kept : Database) → unbuilt db ≡ None → kept ≡ fixed_tables db → Keeps (if_built db) kept
 keeps_built db kept is same = (db, ap (free_of db) is, all-built db is, same)
@@ -120,12 +120,12 @@ shared-place o shared db table at same =
     ap (option_map _) (at ∙ sym (position-map arc_value is_unbuilt shared) ∙ ap (position is_unbuilt) same)
 
 -- the tables from a place on
-over-next : (db : Database) (i : ℕ) → i < 15 → unbuilt_over db (drop i kinds) ≡ first_of_two (unbuilt_of db (get_or kinds i kind.Pcf)) (unbuilt_over db (drop (i + 1) kinds))
+over-next : (db : Database) (i : ℕ) → i < 15 → unbuilt_over db (drop i kinds) ≡ option_or (unbuilt_of db (get_or kinds i kind.Pcf)) (unbuilt_over db (drop (i + 1) kinds))
 over-next db i within = ap (unbuilt_over db) (drop_more kinds i kind.Pcf within)
 
 pub over-found : (db : Database) (i : ℕ) (fault : MibFault) → i < 15 → unbuilt db ≡ unbuilt_over db (drop i kinds) → Some fault ≡ unbuilt_of db (get_or kinds i kind.Pcf) → Some fault ≡ unbuilt db
-over-found db i fault within left found = sym (left ∙ over-next db i within ∙ ap (λ o. first_of_two o (unbuilt_over db (drop (i + 1) kinds))) (sym found))
+over-found db i fault within left found = sym (left ∙ over-next db i within ∙ ap (λ o. option_or o (unbuilt_over db (drop (i + 1) kinds))) (sym found))
 
 pub over-passed : (db : Database) (i : ℕ) (found : Option MibFault) → i < 15 → unbuilt db ≡ unbuilt_over db (drop i kinds) → found ≡ unbuilt_of db (get_or kinds i kind.Pcf) → found ≡ None
     → unbuilt db ≡ unbuilt_over db (drop (i + 1) kinds)
-over-passed db i found within left is none = left ∙ over-next db i within ∙ ap (λ o. first_of_two o (unbuilt_over db (drop (i + 1) kinds))) (sym is ∙ none)
+over-passed db i found within left is none = left ∙ over-next db i within ∙ ap (λ o. option_or o (unbuilt_over db (drop (i + 1) kinds))) (sym is ∙ none)

@@ -6,7 +6,7 @@ use Rattle.mib_model.specs.declared.kind.Kind.{Kind}
 use Rattle.mib_model.specs.declared.rows.Row.{Row}
 use Rattle.mib_model.specs.declared.rows.Row.TheVariants as row
 use Rattle.mib_model.specs.Drafts.{rows_of}
-use Rattle.mib_model.specs.Match.{first_of_two}
+use Rattle.std.specs.Option.{option_or}
 use Rattle.mib_model.specs.Unbuilt.{is_unbuilt_pcf, is_unbuilt_pid, is_unbuilt_plf, unbuilt_in}
 
 -- a row that decoding doesn't do yet
@@ -26,4 +26,4 @@ unbuilt_of db table = unbuilt_in table is_unbuilt (rows_of db table)
 -- the first such row of some tables
 abbrev pub unbuilt_over : Database → List Kind → Option MibFault
 unbuilt_over db [] = None
-unbuilt_over db (k ∷ ks) = first_of_two (unbuilt_of db k) (unbuilt_over db ks)
+unbuilt_over db (k ∷ ks) = option_or (unbuilt_of db k) (unbuilt_over db ks)
