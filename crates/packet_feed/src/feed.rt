@@ -1,10 +1,10 @@
-ghost use Rattle.std.specs.Prelude.{◌≡◌, ◌≤◌, ◌<◌, ◌+◌, ℕ, List, length, take, IfOk, OnErr};
+ghost use Rattle.std.specs.Prelude.{◌≡◌, ◌≤◌, ◌<◌, ◌+◌, ℕ, List, length, take, IfOk, IfSome, IsTrue, OnErr};
 ghost use Rattle.std.specs.Io.KnownBytes.{Consumes, IsAtEnd};
 ghost use Rattle.tm_io.specs.Causes.{HasCause};
 ghost use Rattle.mib_model.specs.Headers.{header_of};
 ghost use Rattle.mib_model.specs.Packets.{IsCut};
-ghost use Rattle.packet_feed.specs.Feed.{Gives, HasNextCause, source_of};
-ghost use Rattle.packet_feed.specs.declared.feed.TheConstants.{PACKET_SIZE};
+ghost use Rattle.packet_feed.specs.Feed.{BeginsWithPacket, Gives, HasNextCause, source_of};
+ghost use Rattle.packet_feed.specs.declared.feed.TheConstants.{HEADER_SIZE, PACKET_SIZE};
 
 use crate::next::Next;
 use mib_model::Header;
@@ -43,12 +43,22 @@ fn fill<S: Source>(source: &mut S, buf: &mut [u8]) -> Result<usize, Failed>
     Ok(at)
 }
 
-// The octets of the packet that begins with this header.
-fn packet_size(head: &[u8; HEADER_SIZE]) -> usize
-    ensures size { result ≡ 7 + (header_of head.now).length }
+// The header that octets begin with.
+fn header_at(octets: &[u8]) -> Header
+    requires { HEADER_SIZE ≤ length octets.now }
+    ensures { result ≡ header_of octets.now }
+{
+    Header::read(&[
+        octets[0], octets[1], octets[2], octets[3], octets[4], octets[5],
+    ])
+}
+
+// The octets of the packet whose header has this data length.
+fn packet_size(length: u16) -> usize
+    ensures size { result ≡ 7 + length }
     ensures fits { result ≤ PACKET_SIZE }
 {
-    HEADER_SIZE + 1 + usize::from(Header::read(head).length)
+    HEADER_SIZE + 1 + usize::from(length)
 }
 
 impl<S> Feed<S> {
@@ -71,8 +81,7 @@ impl<S: Source> Feed<S> {
         ensures missed { S.missed (source_of self.new) ≡ S.missed (source_of self.old) }
         ensures borrow { S.borrow (source_of self.new) ≡ S.borrow (source_of self.old) }
     {
-        let mut head = [0; HEADER_SIZE];
-        let Ok(front) = fill(&mut self.source, &mut head) else {
+        let Ok(front) = fill(&mut self.source, &mut into[..HEADER_SIZE]) else {
             return Next::Failed;
         };
         if front == 0 {
@@ -83,8 +92,8 @@ impl<S: Source> Feed<S> {
                 octets: front as u32,
             };
         }
-        into[..HEADER_SIZE].copy_from_slice(&head);
-        let size = packet_size(&head);
+        let header = header_at(into);
+        let size = packet_size(header.length);
         let Ok(body) = fill(&mut self.source, &mut into[HEADER_SIZE..size]) else {
             return Next::Failed;
         };
@@ -95,7 +104,16 @@ impl<S: Source> Feed<S> {
         }
         Next::Packet {
             octets: size as u32,
+            header,
         }
+    }
+
+    /// Whether the next packet is known to be there whole, so that giving it doesn't wait.
+    pub fn is_next_at_hand(&self) -> bool
+        ensures { IsTrue result → IfSome (S.left (source_of self.now)) BeginsWithPacket }
+    {
+        let octets = self.source.at_hand();
+        octets.len() >= HEADER_SIZE && octets.len() >= packet_size(header_at(octets).length)
     }
 }
 

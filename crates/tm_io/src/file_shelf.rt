@@ -1,10 +1,14 @@
 // Files of the system and standard input as a shelf. It tells no content.
-ghost use Rattle.std.specs.Prelude.{◌≡◌, ◌≤◌, None, length, IfSome};
+ghost use Rattle.std.specs.Prelude.{◌≡◌, ◌≤◌, None, length, IfSome, IfOk};
 
 use crate::{Failed, Shelf, Source};
+use std::alloc::{AllocError, Global};
 use std::fs;
-use std::io::{ErrorKind, Read};
+use std::io::{BufRead, BufReader, ErrorKind, Read};
 use std::rt::Files;
+
+// How many octets are asked of the system at once.
+const READ_AHEAD: usize = 65_536;
 
 // What is read.
 #[derive(Drop)]
@@ -14,42 +18,58 @@ enum Opened<F, I> {
     File(F),
 }
 
-/// Files by their paths, and standard input under the name `-`. A file that isn't found, or whose path has a part that
-/// isn't a folder, isn't held. A folder in place of a file is a fault of the first read.
+impl<F: Read, I: Read> Read for Opened<F, I> {
+    fn read(&mut self, buf: &mut [u8]) -> std::io::Result<usize> {
+        match self {
+            Opened::Nothing => Ok(0),
+            Opened::Input(input) => input.read(buf),
+            Opened::File(file) => file.read(buf),
+        }
+    }
+}
+
+/// Files by their paths, and standard input under the name `-`, read ahead by 64 KiB. A file that isn't found, or whose
+/// path has a part that isn't a folder, isn't held. A folder in place of a file is a fault of the first read. A file is
+/// closed at the next turn to a file, and at the end.
 #[derive(Drop)]
 pub struct FileShelf<R: Files + Input + Drop> {
     rt: R,
-    opened: Opened<R::File, R::Reader>,
+    opened: BufReader<Opened<R::File, R::Reader>>,
     faults: u64,
     missed: u64,
 }
 
 impl<R: Files + Input + Drop> FileShelf<R> {
     /// A shelf with nothing open.
-    pub fn new(rt: R) -> FileShelf<R>
-        ensures faults { ⟦<FileShelf<R> as Source>⟧.faults result ≡ 0 }
-        ensures missed { ⟦<FileShelf<R> as Source>⟧.missed result ≡ 0 }
+    pub fn new(rt: R, alloc: Global) -> Result<FileShelf<R>, AllocError>
+        ensures faults { IfOk result (λ shelf. ⟦<FileShelf<R> as Source>⟧.faults shelf ≡ 0) }
+        ensures missed { IfOk result (λ shelf. ⟦<FileShelf<R> as Source>⟧.missed shelf ≡ 0) }
     {
-        FileShelf {
-            rt,
-            opened: Opened::Nothing,
-            faults: 0,
-            missed: 0,
+        match BufReader::with_capacity(alloc, READ_AHEAD, Opened::Nothing) {
+            Ok(opened) => Ok(FileShelf {
+                rt,
+                opened,
+                faults: 0,
+                missed: 0,
+            }),
+            Err(_) => Err(AllocError),
         }
     }
 }
 
+// Reads this in place of what is open. What was read ahead is dropped.
+fn turn_to<R: Read + Drop>(reader: &mut BufReader<R>, opened: R) {
+    let ahead = reader.buffer().len();
+    reader.consume(ahead);
+    *reader.get_mut() = opened;
+}
+
 // Reads from what is open, again where a signal came in between. None says that the read failed.
-fn read_some<F: Read, I: Read>(opened: &mut Opened<F, I>, buf: &mut [u8]) -> Option<usize>
+fn read_some<R: Read>(opened: &mut R, buf: &mut [u8]) -> Option<usize>
     ensures { IfSome result (λ count. count ≤ length buf.new) }
 {
     for _ in 0..u64::MAX {
-        let given = match opened {
-            Opened::Nothing => return Some(0),
-            Opened::Input(input) => input.read(buf),
-            Opened::File(file) => file.read(buf),
-        };
-        match given {
+        match opened.read(buf) {
             Ok(count) => return Some(count),
             Err(e) if e.kind() == ErrorKind::Interrupted => {}
             Err(_) => return None,
@@ -74,21 +94,26 @@ impl<R: Files + Input + Drop> Source for FileShelf<R> {
             }
         }
     }
+
+    fn at_hand(&self) -> &[u8] {
+        self.opened.buffer()
+    }
 }
 
 impl<R: Files + Input + Drop> Shelf for FileShelf<R> {
     fn aim(&mut self, name: &str) -> Result<bool, Failed> {
         if name == "-" {
-            self.opened = Opened::Input(self.rt.reader());
+            let input = self.rt.reader();
+            turn_to(&mut self.opened, Opened::Input(input));
             return Ok(true);
         }
         match fs::open(&self.rt, name) {
             Ok(file) => {
-                self.opened = Opened::File(file);
+                turn_to(&mut self.opened, Opened::File(file));
                 Ok(true)
             }
             Err(e) if matches!(e.kind(), ErrorKind::NotFound | ErrorKind::NotADirectory) => {
-                self.opened = Opened::Nothing;
+                turn_to(&mut self.opened, Opened::Nothing);
                 Ok(false)
             }
             Err(_) => {

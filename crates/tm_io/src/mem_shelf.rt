@@ -155,6 +155,13 @@ impl Source for MemShelf {
         self.at += count;
         Ok(count)
     }
+
+    fn at_hand(&self) -> &[u8] {
+        match self.place {
+            Some(place) => &file_at(&self.files, place).bytes[self.at..],
+            None => &[],
+        }
+    }
 }
 
 impl Shelf for MemShelf {

@@ -1,5 +1,5 @@
 // A sink in memory, with faults where a test wants them.
-ghost use Rattle.std.specs.Prelude.{◌≡◌, ◌≤◌, ◌==◌, ◌&&◌, ◌||◌, not, is_err, length, vec_len, vec_capacity, Some, [], IfOk, false};
+ghost use Rattle.std.specs.Prelude.{◌≡◌, ◌≤◌, ◌==◌, ◌&&◌, ◌||◌, not, is_err, length, take, vec_len, vec_capacity, Some, [], IfOk, OnOk, false};
 ghost use Rattle.std.specs.Io.{WritesAtMost};
 ghost use Rattle.std.specs.Io.KnownBytes.{WriteAppends};
 ghost use Rattle.tm_io.specs.Causes.{HasCause};
@@ -19,10 +19,13 @@ pub const MEM_SINK_ROOM: usize = 67_108_864;
 #[derive(Drop)]
 pub struct MemSink {
     bytes: Vec<u8>,
+    // How many of them were handed on.
+    handed: usize,
     most: usize,
     fails: Vec<u64>,
     fails_flush: bool,
     faults: u64,
+    ghost handed_on: { handed ≤ vec_len bytes },
     ghost takes_some: { 1 ≤ most },
     ghost within: { vec_len bytes ≤ MEM_SINK_ROOM },
     ghost reserved: { MEM_SINK_ROOM ≤ vec_capacity bytes },
@@ -35,6 +38,7 @@ impl MemSink {
     pub fn new(alloc: Global, most: usize, fails: Vec<u64>) -> Result<MemSink, AllocError>
         requires { 1 ≤ most }
         ensures written { IfOk result (λ sink. ⟦<MemSink as Sink>⟧.written sink ≡ Some []) }
+        ensures handed { IfOk result (λ sink. ⟦<MemSink as Sink>⟧.handed sink ≡ Some []) }
         ensures faults { IfOk result (λ sink. ⟦<MemSink as Sink>⟧.faults sink ≡ 0) }
         ensures most { IfOk result (λ sink. most_of sink ≡ most) }
         ensures stops { IfOk result (λ sink. stops sink ≡ fails.items) }
@@ -42,6 +46,7 @@ impl MemSink {
     {
         Ok(MemSink {
             bytes: Vec::with_capacity(alloc, MEM_SINK_ROOM)?,
+            handed: 0,
             most,
             fails,
             fails_flush: false,
@@ -54,6 +59,13 @@ impl MemSink {
         ensures { ⟦<MemSink as Sink>⟧.written self.now ≡ Some result.now }
     {
         &self.bytes
+    }
+
+    /// What was handed on.
+    pub fn handed(&self) -> &[u8]
+        ensures { ⟦<MemSink as Sink>⟧.handed self.now ≡ Some result.now }
+    {
+        &self.bytes[..self.handed]
     }
 
     /// Makes the next flush fail.
@@ -69,6 +81,8 @@ impl Sink for MemSink {
 
     ghost written = { λ s. Some s.bytes.items };
 
+    ghost handed = { λ s. Some (take s.handed s.bytes.items) };
+
     ghost faults = { λ s. s.faults };
 
     #[tactic(auto, using(crate::proofs::StopFacts::without_none))]
@@ -76,6 +90,7 @@ impl Sink for MemSink {
         ensures bound { WritesAtMost result piece.now }
         ensures some { TakesSome result piece.now }
         ensures bytes { WriteAppends (⟦<MemSink as Sink>⟧.written self.old) (⟦<MemSink as Sink>⟧.written self.new) result piece.now }
+        ensures handed { ⟦<MemSink as Sink>⟧.handed self.new ≡ ⟦<MemSink as Sink>⟧.handed self.old }
         ensures cause { HasCause (⟦<MemSink as Sink>⟧.faults self.old) (⟦<MemSink as Sink>⟧.faults self.new) result }
 
         // It fails at a stop, and where a piece comes when the room is used up.
@@ -102,6 +117,7 @@ impl Sink for MemSink {
 
     fn flush(&mut self) -> Result<(), Failed>
         ensures bytes { ⟦<MemSink as Sink>⟧.written self.new ≡ ⟦<MemSink as Sink>⟧.written self.old }
+        ensures handed { OnOk result (⟦<MemSink as Sink>⟧.handed self.new ≡ ⟦<MemSink as Sink>⟧.written self.new) }
         ensures cause { HasCause (⟦<MemSink as Sink>⟧.faults self.old) (⟦<MemSink as Sink>⟧.faults self.new) result }
         ensures borrow { ⟦<MemSink as Sink>⟧.borrow self.new ≡ ⟦<MemSink as Sink>⟧.borrow self.old }
 
@@ -115,6 +131,7 @@ impl Sink for MemSink {
             self.faults = self.faults.saturating_add(1);
             return Err(Failed);
         }
+        self.handed = self.bytes.len();
         Ok(())
     }
 }

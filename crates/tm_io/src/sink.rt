@@ -11,6 +11,9 @@ pub trait Sink {
     /// The octets that it was given, where the object tells them.
     ghost written: { Self → Option (List ℕ) };
 
+    /// The octets that `flush` handed on, where the object tells them.
+    ghost handed: { Self → Option (List ℕ) };
+
     /// How often it failed.
     ghost faults: { Self → ℕ };
 
@@ -22,18 +25,22 @@ pub trait Sink {
         ensures bound { WritesAtMost result piece.now }
         ensures some { TakesSome result piece.now }
         ensures bytes { WriteAppends (written self.old) (written self.new) result piece.now }
+        ensures handed { handed self.new ≡ handed self.old }
         ensures cause { HasCause (faults self.old) (faults self.new) result }
         ensures borrow { borrow self.new ≡ borrow self.old };
 
-    /// Hands on what was taken. It changes no octet of what was written.
+    /// Hands on all that was taken. It changes no octet of what was written.
     fn flush(&mut self) -> Result<(), Failed>
         ensures bytes { written self.new ≡ written self.old }
+        ensures handed { OnOk result (handed self.new ≡ written self.new) }
         ensures cause { HasCause (faults self.old) (faults self.new) result }
         ensures borrow { borrow self.new ≡ borrow self.old };
 }
 
 impl<S: Sink> Sink for &mut S {
     ghost written = { λ s. S.written s.now };
+
+    ghost handed = { λ s. S.handed s.now };
 
     ghost faults = { λ s. S.faults s.now };
 
@@ -48,10 +55,11 @@ impl<S: Sink> Sink for &mut S {
     }
 }
 
-/// Writes all of the octets. Where it fails, some first of them were written.
+/// Writes all of the octets. Where it fails, some first of them were written. It hands nothing on.
 pub fn write_all<O: Sink>(out: &mut O, octets: &[u8]) -> Result<(), Failed>
     ensures all { OnOk result (Appends (O.written out.old) (O.written out.new) octets.now) }
     ensures part { OnErr result (AppendsPrefix (O.written out.old) (O.written out.new) octets.now) }
+    ensures handed { O.handed out.new ≡ O.handed out.old }
     ensures cause { HasCause (O.faults out.old) (O.faults out.new) result }
     ensures borrow { O.borrow out.new ≡ O.borrow out.old }
 {

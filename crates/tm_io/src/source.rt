@@ -1,5 +1,5 @@
 ghost use Rattle.std.specs.Prelude.{◌≡◌, ℕ, List, Option, Some, None, IfSome, IfOk, is_some, Ok, false};
-ghost use Rattle.std.specs.Io.{ReadsAtMost};
+ghost use Rattle.std.specs.Io.{ReadsAtMost, StartsWith};
 ghost use Rattle.std.specs.Io.KnownBytes.{ReadConsumes, IsAtEnd};
 ghost use Rattle.tm_io.specs.Causes.{HasCause};
 
@@ -30,6 +30,10 @@ pub trait Source {
         ensures holds { holds self.new ≡ holds self.old }
         ensures missed { missed self.new ≡ missed self.old }
         ensures borrow { borrow self.new ≡ borrow self.old };
+
+    /// The next octets that are known to be there, so that a read of them doesn't wait: none where nothing is known.
+    fn at_hand(&self) -> &[u8]
+        ensures { IfSome (left self.now) (λ octets. StartsWith octets result.now) };
 }
 
 /// A source that is turned from one file to another by their names.
@@ -58,6 +62,10 @@ impl<S: Source> Source for &mut S {
 
     fn read(&mut self, buf: &mut [u8]) -> Result<usize, Failed> {
         Source::read(&mut **self, buf)
+    }
+
+    fn at_hand(&self) -> &[u8] {
+        Source::at_hand(&**self)
     }
 }
 

@@ -1,32 +1,46 @@
 // A standard stream as a sink. It tells no content.
-ghost use Rattle.std.specs.Prelude.{◌≡◌, ◌≤◌, ◌<◌, None, length, IfSome};
+ghost use Rattle.std.specs.Prelude.{◌≡◌, ◌≤◌, ◌<◌, None, length, IfSome, IfOk};
 
 use crate::{Failed, Sink};
-use std::io::ErrorKind;
+use std::alloc::{AllocError, Global};
+use std::io::{BufWriter, ErrorKind, Write};
 
-/// Standard output or standard error, as `StdSink::new(rt.stdout())`. Each write goes to the system at once.
+// How many octets are given to the system at once.
+const WRITE_BEHIND: usize = 65_536;
+
+/// Standard output or standard error, as `StdSink::new(rt.stdout(), rt.alloc())`.
 #[derive(Drop)]
-pub struct StdSink<P: Print + Drop> {
-    stream: P,
+pub struct StdSink<W: Write + Drop> {
+    stream: BufWriter<W>,
     faults: u64,
 }
 
-impl<P: Print + Drop> StdSink<P> {
-    /// A sink over a stream.
-    pub fn new(stream: P) -> StdSink<P>
-        ensures { ⟦<StdSink<P> as Sink>⟧.faults result ≡ 0 }
+impl<W: Write + Drop> StdSink<W> {
+    // A sink over a stream that keeps so many octets back.
+    fn with_room(stream: W, alloc: Global, room: usize) -> Result<StdSink<W>, AllocError>
+        ensures { IfOk result (λ sink. ⟦<StdSink<W> as Sink>⟧.faults sink ≡ 0) }
     {
-        StdSink { stream, faults: 0 }
+        match BufWriter::with_capacity(alloc, room, stream) {
+            Ok(stream) => Ok(StdSink { stream, faults: 0 }),
+            Err(_) => Err(AllocError),
+        }
+    }
+
+    /// A sink over a stream. Octets go to the system by 64 KiB and more, and by `flush`.
+    pub fn new(stream: W, alloc: Global) -> Result<StdSink<W>, AllocError>
+        ensures { IfOk result (λ sink. ⟦<StdSink<W> as Sink>⟧.faults sink ≡ 0) }
+    {
+        StdSink::with_room(stream, alloc, WRITE_BEHIND)
     }
 }
 
 // Writes some first octets of a piece, again where a signal came in between. None says that none were taken.
-fn write_some<P: Print>(stream: &P, piece: &[u8]) -> Option<usize>
+fn write_some<W: Write>(stream: &mut W, piece: &[u8]) -> Option<usize>
     ensures bound { IfSome result (λ count. count ≤ length piece.now) }
     ensures some { IfSome result (λ count. 0 < length piece.now → 0 < count) }
 {
     for _ in 0..u64::MAX {
-        match stream.write_some(piece) {
+        match stream.write(piece) {
             Ok(0) if !piece.is_empty() => return None,
             Ok(count) => return Some(count),
             Err(e) if e.kind() == ErrorKind::Interrupted => {}
@@ -36,13 +50,27 @@ fn write_some<P: Print>(stream: &P, piece: &[u8]) -> Option<usize>
     None
 }
 
-impl<P: Print + Drop> Sink for StdSink<P> {
+// Hands on what was taken, again where a signal came in between. False says that it failed.
+fn flush_all<W: Write>(stream: &mut W) -> bool {
+    for _ in 0..u64::MAX {
+        match stream.flush() {
+            Ok(()) => return true,
+            Err(e) if e.kind() == ErrorKind::Interrupted => {}
+            Err(_) => return false,
+        }
+    }
+    false
+}
+
+impl<W: Write + Drop> Sink for StdSink<W> {
     ghost written = { λ _. None };
+
+    ghost handed = { λ _. None };
 
     ghost faults = { λ s. s.faults };
 
     fn write(&mut self, piece: &[u8]) -> Result<usize, Failed> {
-        match write_some(&self.stream, piece) {
+        match write_some(&mut self.stream, piece) {
             Some(count) => Ok(count),
             None => {
                 self.faults = self.faults.saturating_add(1);
@@ -52,6 +80,10 @@ impl<P: Print + Drop> Sink for StdSink<P> {
     }
 
     fn flush(&mut self) -> Result<(), Failed> {
-        Ok(())
+        if flush_all(&mut self.stream) {
+            return Ok(());
+        }
+        self.faults = self.faults.saturating_add(1);
+        Err(Failed)
     }
 }

@@ -7,9 +7,9 @@ fn may_cross<T: Send>(_: &T) {}
 
 #[test]
 fn all_objects_may_cross_to_a_thread(rt: HostRuntime) -> Result<(), Fail> {
-    may_cross(&FileShelf::new(rt));
-    may_cross(&StdSink::new(rt.stdout()));
-    may_cross(&StdSink::new(rt.stderr()));
+    may_cross(&FileShelf::new(rt, rt.alloc())?);
+    may_cross(&StdSink::new(rt.stdout(), rt.alloc())?);
+    may_cross(&StdSink::new(rt.stderr(), rt.alloc())?);
     may_cross(&MemShelf::new(Vec::new(rt.alloc()), 1));
     may_cross(&MemSink::new(rt.alloc(), 1, Vec::new(rt.alloc()))?);
     Ok(())
@@ -95,7 +95,9 @@ fn a_sink_in_memory_takes_pieces_and_fails_once_at_each_position(
         Err(Failed),
         "a flush through a reference"
     );
+    assert_eq!(rt; sink.handed(), b"".as_slice(), "nothing was handed on");
     assert_eq!(rt; sink.flush(), Ok(()));
+    assert_eq!(rt; sink.handed(), b"abcdefg".as_slice());
     Ok(())
 }
 
@@ -113,9 +115,11 @@ fn a_sink_in_memory_fails_past_its_room(rt: HostRuntime) -> Result<(), Fail> {
 fn real_files_are_read_held_or_faulty(rt: HostRuntime) -> Result<(), Fail> {
     let path = "tm_io_test_of_real_files";
     fs::write(&rt, path, "octets")?;
-    let mut shelf = FileShelf::new(rt);
+    let mut shelf = FileShelf::new(rt, rt.alloc())?;
     assert_eq!(rt; shelf.aim(path), Ok(true));
+    assert_eq!(rt; shelf.at_hand(), b"".as_slice(), "nothing is read yet");
     assert_eq!(rt; piece(&rt, &mut shelf)?.is_some(), true);
+    assert_eq!(rt; shelf.at_hand(), b"ts".as_slice(), "the rest is read ahead");
     assert_eq!(rt; shelf.aim("tm_io_no_such_file"), Ok(false));
     assert_eq!(rt; piece(&rt, &mut shelf)?, Some(Vec::new(rt.alloc())));
     assert_eq!(rt;
@@ -132,12 +136,11 @@ fn real_files_are_read_held_or_faulty(rt: HostRuntime) -> Result<(), Fail> {
 
 #[test]
 fn standard_streams_take_whole_pieces(rt: HostRuntime) -> Result<(), Fail> {
-    let mut out = StdSink::new(rt.stdout());
+    let mut out = StdSink::new(rt.stdout(), rt.alloc())?;
     assert_eq!(rt; write_all(&mut out, b"standard output\n"), Ok(()));
     assert_eq!(rt; out.flush(), Ok(()));
-    assert_eq!(rt;
-        write_all(&mut StdSink::new(rt.stderr()), b"standard error\n"),
-        Ok(())
-    );
+    let mut err = StdSink::new(rt.stderr(), rt.alloc())?;
+    assert_eq!(rt; write_all(&mut err, b"standard error\n"), Ok(()));
+    assert_eq!(rt; err.flush(), Ok(()));
     Ok(())
 }

@@ -12,6 +12,7 @@ loop-at-preserved g c =
       within = omega (arith, done.bound, length-drop c.loop-at.at c.args.octets.now);
       written = rw (take-add c.loop-at.at c.in_ok-at.field-0 c.args.octets.now)
           (Appends-trans (g.O.Sink.written c.args.out.now) (g.O.Sink.written c.loop-at.out) (g.O.Sink.written c.write.new.self) _ _ before.written (rw take_rest at done.bytes));
+      handed = done.handed ∙ before.handed;
       faults = done.cause.ok ∙ before.faults;
       borrow = done.borrow ∙ before.borrow;
     }
