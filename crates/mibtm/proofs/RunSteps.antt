@@ -41,6 +41,10 @@ going_start db None old built = tt
 going_start db (Some octets) old built =
     ([], refl, All-nil IsPacket, refl, subst (Appends old old) (sym (output-none db built)) (Appends-nil old))
 
+-- nothing more was written
+pub going_same : (db : Database) (number : ℕ) (start left old mid new : Option (List ℕ)) → new ≡ mid → Going db number start left old mid → Going db number start left old new
+going_same db number start left old mid new same so_far = rw same so_far
+
 -- octets are packets, one more, and what is left
 whole-push : (octets left after packet : List ℕ) (packets : List (List ℕ)) → octets ≡ concat packets ++ left → left ≡ packet ++ after
     → octets ≡ concat (packets ++ packet ∷ []) ++ after
@@ -123,6 +127,55 @@ none-begins_none (suc n) fits packet = absurd (omega (arith, packet))
 -- whole packets are cut into themselves
 packets-cut : (packets : List (List ℕ)) → All IsPacket packets → IsCut (concat packets) packets []
 packets-cut packets each = record { whole = sym (append-nil (concat packets)); each = each; begins_none = none-begins_none }
+
+-- what was written whole is a first part of itself with more behind it
+part-whole : (text tail : List ℕ) (old new : Option (List ℕ)) → Appends old new text → AppendsPrefix old new (text ++ tail)
+part-whole text tail old new wrote = (length text, subst (Appends old new) (sym (take_at text tail (length text) refl)) wrote)
+
+part-of : (db : Database) (packets : List (List ℕ)) (tail more : List ℕ) (old new : Option (List ℕ)) → IsBuilt db → Writes db packets tail old new
+    → output_of_one db packets (tail ++ more) ≡ output_of_one db packets tail ++ more → WritesPart db packets (tail ++ more) old new
+part-of db packets tail more old new built wrote is = subst (AppendsPrefix old new) (sym is) (part-whole (output_of_one db packets tail) more old new wrote)
+
+part-tail : (db : Database) (packets : List (List ℕ)) (tail : List ℕ) (old new : Option (List ℕ)) → IsBuilt db → Writes db packets [] old new → WritesPart db packets tail old new
+part-tail db packets tail old new built wrote = part-of db packets [] tail old new built wrote (output-tail db packets tail built)
+
+part-same : (db : Database) (packets : List (List ℕ)) (tail : List ℕ) (old new : Option (List ℕ)) → Writes db packets tail old new → WritesPart db packets tail old new
+part-same db packets tail old new wrote =
+    subst (AppendsPrefix old new) (append-nil (output_of_one db packets tail)) (part-whole (output_of_one db packets tail) [] old new wrote)
+
+-- the text of the first packets
+output-front : (db : Database) (printed more : List (List ℕ)) (tail : List ℕ) → IsBuilt db
+    → output_of_one db (printed ++ more) tail ≡ output_of_one db printed [] ++ (plain_records db (1 + length printed) more ++ tail)
+output-front db printed more tail built =
+    output-plain db (printed ++ more) tail built ∙ ap (λ t. t ++ tail) (plain_records-append db 1 printed more)
+    ∙ append_assoc (plain_records db 1 printed) (plain_records db (1 + length printed) more) tail
+    ∙ sym (ap (λ t. t ++ (plain_records db (1 + length printed) more ++ tail)) (output-plain db printed [] built ∙ append-nil (plain_records db 1 printed)))
+
+part-front : (db : Database) (packets printed more : List (List ℕ)) (tail : List ℕ) (old new : Option (List ℕ)) → IsBuilt db → packets ≡ printed ++ more
+    → Writes db printed [] old new → WritesPart db packets tail old new
+part-front db packets printed more tail old new built is wrote =
+    subst (AppendsPrefix old new) (sym (ap (λ ps. output_of_one db ps tail) is ∙ output-front db printed more tail built))
+    (part-whole (output_of_one db printed []) (plain_records db (1 + length printed) more ++ tail) old new wrote)
+
+stops-with : (db : Database) (packets printed : List (List ℕ)) (rest : List ℕ) (before now : ℕ) (old new : Option (List ℕ))
+    → ((tail : List ℕ) → WritesPart db packets tail old new) → ReadsNoFurther packets printed rest → Writes db printed [] old new → StopsWriting db packets rest before now old new
+stops-with db packets printed rest before now old new part reads wrote =
+    record { whole = λ same. part (rest_text rest); fault = λ more. part []; printed = printed; reads = reads; least = over-same db printed old new wrote }
+
+-- the output failed before a packet was read
+pub ran_unhanded : (db : Database) (number before now : ℕ) (start left old new : Option (List ℕ)) → IsBuilt db → number < 1000000001
+    → Going db number start left old new → Ran code.OutFault db start left before now old new
+ran_unhanded db number before now None left old new built few so_far = tt
+ran_unhanded db number before now (Some octets) None old new built few so_far = absurd so_far
+ran_unhanded db number before now (Some octets) (Some left) old new built few so_far =
+    let (packets, whole, each, count, wrote) = so_far in (
+      concat packets,
+      packets,
+      [],
+      whole,
+      packets-cut packets each,
+      (omega (arith, count, few), stops-with db packets packets [] before now old new (λ tail. part-tail db packets tail old new built wrote) (reads_all packets []) wrote),
+    )
 
 pub ran_whole : (db : Database) (number before now : ℕ) (start left after old new : Option (List ℕ)) → number < 1000000001
     → IsAtEnd left → Consumes left after [] → Going db number start left old new → Ran code.Ok db start after before now old new
@@ -251,40 +304,6 @@ pub ran_nothing : (db : Database) (left old : Option (List ℕ)) (before now : �
 ran_nothing db None old before now built = tt
 ran_nothing db (Some octets) old before now built =
     ([], [], [], refl, packets-cut [] (All-nil IsPacket), (omega arith, [], reads_all [] [], subst (Appends old old) (sym (output-none db built)) (Appends-nil old)))
-
--- what was written whole is a first part of itself with more behind it
-part-whole : (text tail : List ℕ) (old new : Option (List ℕ)) → Appends old new text → AppendsPrefix old new (text ++ tail)
-part-whole text tail old new wrote = (length text, subst (Appends old new) (sym (take_at text tail (length text) refl)) wrote)
-
-part-of : (db : Database) (packets : List (List ℕ)) (tail more : List ℕ) (old new : Option (List ℕ)) → IsBuilt db → Writes db packets tail old new
-    → output_of_one db packets (tail ++ more) ≡ output_of_one db packets tail ++ more → WritesPart db packets (tail ++ more) old new
-part-of db packets tail more old new built wrote is = subst (AppendsPrefix old new) (sym is) (part-whole (output_of_one db packets tail) more old new wrote)
-
-part-tail : (db : Database) (packets : List (List ℕ)) (tail : List ℕ) (old new : Option (List ℕ)) → IsBuilt db → Writes db packets [] old new → WritesPart db packets tail old new
-part-tail db packets tail old new built wrote = part-of db packets [] tail old new built wrote (output-tail db packets tail built)
-
-part-same : (db : Database) (packets : List (List ℕ)) (tail : List ℕ) (old new : Option (List ℕ)) → Writes db packets tail old new → WritesPart db packets tail old new
-part-same db packets tail old new wrote =
-    subst (AppendsPrefix old new) (append-nil (output_of_one db packets tail)) (part-whole (output_of_one db packets tail) [] old new wrote)
-
--- the text of the first packets
-output-front : (db : Database) (printed more : List (List ℕ)) (tail : List ℕ) → IsBuilt db
-    → output_of_one db (printed ++ more) tail ≡ output_of_one db printed [] ++ (plain_records db (1 + length printed) more ++ tail)
-output-front db printed more tail built =
-    output-plain db (printed ++ more) tail built ∙ ap (λ t. t ++ tail) (plain_records-append db 1 printed more)
-    ∙ append_assoc (plain_records db 1 printed) (plain_records db (1 + length printed) more) tail
-    ∙ sym (ap (λ t. t ++ (plain_records db (1 + length printed) more ++ tail)) (output-plain db printed [] built ∙ append-nil (plain_records db 1 printed)))
-
-part-front : (db : Database) (packets printed more : List (List ℕ)) (tail : List ℕ) (old new : Option (List ℕ)) → IsBuilt db → packets ≡ printed ++ more
-    → Writes db printed [] old new → WritesPart db packets tail old new
-part-front db packets printed more tail old new built is wrote =
-    subst (AppendsPrefix old new) (sym (ap (λ ps. output_of_one db ps tail) is ∙ output-front db printed more tail built))
-    (part-whole (output_of_one db printed []) (plain_records db (1 + length printed) more ++ tail) old new wrote)
-
-stops-with : (db : Database) (packets printed : List (List ℕ)) (rest : List ℕ) (before now : ℕ) (old new : Option (List ℕ))
-    → ((tail : List ℕ) → WritesPart db packets tail old new) → ReadsNoFurther packets printed rest → Writes db printed [] old new → StopsWriting db packets rest before now old new
-stops-with db packets printed rest before now old new part reads wrote =
-    record { whole = λ same. part (rest_text rest); fault = λ more. part []; printed = printed; reads = reads; least = over-same db printed old new wrote }
 
 -- a run whose output fails at its end
 ends-unflushed : (c : Code) (db : Database) (packets : List (List ℕ)) (rest left : List ℕ) (before now : ℕ) (old new : Option (List ℕ)) → IsBuilt db

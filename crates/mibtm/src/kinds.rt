@@ -9,16 +9,6 @@ ghost use Rattle.mib_model.specs.Interpreter.{title_of};
 
 use mib_model::{BadWhy, Found, Header, IDLE_APID, PidRow, Tables, Text, TpcfRow};
 
-// The header that a packet begins with.
-pub(crate) fn header(packet: &[u8]) -> Header
-    requires { 7 ≤ length packet.now }
-    ensures { result ≡ header_of packet.now }
-{
-    Header::read(&[
-        packet[0], packet[1], packet[2], packet[3], packet[4], packet[5],
-    ])
-}
-
 // The service type and the subtype: octets 7 and 8 behind a secondary header, else 0.
 fn types(packet: &[u8], secondary: bool) -> (u8, u8)
     requires secondary { secondary ≡ (header_of packet.now).secondary }
@@ -80,12 +70,12 @@ fn among(rows: &[PidRow], packet: &[u8], header: &Header) -> Found
 
 // What a packet is: the first rule that applies.
 #[tactic(auto, unfolding(mib_model::specs::Match::match_of, mib_model::specs::Match::criterion))]
-pub(crate) fn identify(tables: &Tables, packet: &[u8]) -> Found
+pub(crate) fn identify(tables: &Tables, header: &Header, packet: &[u8]) -> Found
+    requires header { header.now ≡ header_of packet.now }
     requires packet { 7 ≤ length packet.now }
     requires criteria { tables.now.pic.items ≡ [] }
     ensures { result ≡ match_of (database_of tables.now) packet.now }
 {
-    let header = header(packet);
     if header.version != 0 {
         return Found::Bad(BadWhy::Version);
     }
@@ -98,7 +88,7 @@ pub(crate) fn identify(tables: &Tables, packet: &[u8]) -> Found
     if header.secondary && packet.len() < 9 {
         return Found::Bad(BadWhy::Short);
     }
-    among(&tables.pid, packet, &header)
+    among(&tables.pid, packet, header)
 }
 
 // The first row of this SPID.

@@ -27,10 +27,12 @@ mod words;
 use crate::code_text::add_code;
 use crate::tool::tool;
 use mib_model::{Code, Line, Misuse};
+use std::alloc::AllocError;
 use std::env;
-use std::io::ErrorKind;
+use std::io::{ErrorKind, Write};
 use std::process::ExitCode;
-use tm_io::{FileShelf, NoGate, StdSink, write_all};
+use std::rt::{Stderr, Stdout};
+use tm_io::{FileShelf, NoGate, StdSink};
 
 // The words behind the program's name. Where one isn't UTF-8 none is known, so the command isn't either.
 fn arguments(rt: HostRuntime) -> Result<Vec<String>, Code> {
@@ -55,21 +57,59 @@ fn tell(rt: HostRuntime, code: &Code) {
     }
     line.add(b"\n");
     // Nothing is left to tell a failure to.
-    let _ = write_all(&mut StdSink::new(rt.stderr()), line.bytes());
+    let _ = rt.stderr().write_all(line.bytes());
+}
+
+// The files and streams that a call is handed.
+#[derive(Drop)]
+struct Outside {
+    tables: FileShelf<HostRuntime>,
+    feed: FileShelf<HostRuntime>,
+    desk: FileShelf<HostRuntime>,
+    out: StdSink<Stdout>,
+    replies: StdSink<Stderr>,
+}
+
+impl Outside {
+    fn new(rt: HostRuntime) -> Result<Outside, AllocError> {
+        Ok(Outside {
+            tables: FileShelf::new(rt, rt.alloc())?,
+            feed: FileShelf::new(rt, rt.alloc())?,
+            desk: FileShelf::new(rt, rt.alloc())?,
+            out: StdSink::new(rt.stdout(), rt.alloc())?,
+            replies: StdSink::new(rt.stderr(), rt.alloc())?,
+        })
+    }
+}
+
+// The words, and real files and streams.
+fn prepare(rt: HostRuntime) -> Result<(Vec<String>, Outside), Code> {
+    let words = arguments(rt)?;
+    match Outside::new(rt) {
+        Ok(outside) => Ok((words, outside)),
+        Err(_) => Err(Code::Want),
+    }
 }
 
 fn main(rt: HostRuntime) -> ExitCode {
-    let code = match arguments(rt) {
-        Ok(words) => {
+    let code = match prepare(rt) {
+        Ok((words, mut outside)) => {
+            let Outside {
+                tables,
+                feed,
+                desk,
+                out,
+                replies,
+            } = &mut outside;
             tool(
                 &rt,
                 rt.alloc(),
                 &words,
-                &mut FileShelf::new(rt),
-                &mut FileShelf::new(rt),
-                &mut FileShelf::new(rt),
-                &mut StdSink::new(rt.stdout()),
-                &mut StdSink::new(rt.stderr()),
+                tables,
+                feed,
+                desk,
+                out,
+                replies,
                 &NoGate,
             )
             .code

@@ -2,7 +2,9 @@
 ghost use Rattle.std.specs.Prelude.{◌≡◌, ◌≤◌, ◌<◌, length, OnOk, IfErr};
 ghost use Rattle.std.specs.Io.KnownBytes.{Appends};
 ghost use Rattle.mib_model.specs.Database.{database_of};
+ghost use Rattle.mib_model.specs.Headers.{header_of};
 ghost use Rattle.mib_model.specs.Texts.{cut_text};
+ghost use Rattle.tm_io.specs.Causes.{HasCause};
 ghost use Rattle.mibtm.specs.Causes.{HasOutCause, HasFeedCause, HasStopCause};
 ghost use Rattle.mibtm.specs.Readings.{IsBuilt, plain_record};
 ghost use Rattle.mibtm.specs.Run.{IsRunCode, Ran, StopsAt};
@@ -12,10 +14,10 @@ use crate::buffer::zeros;
 use crate::print::{Stop, print};
 use crate::record::add_record;
 use crate::text::add_cut;
-use mib_model::{Code, Tables};
+use mib_model::{Code, Header, Tables};
 use packet_feed::{Feed, Next, PACKET_SIZE};
 use std::alloc::Global;
-use tm_io::{Sink, Source};
+use tm_io::{Failed, Sink, Source};
 
 // The most packets of a run.
 const MOST_PACKETS: u64 = 1_000_000_000;
@@ -25,10 +27,12 @@ fn print_packet<O: Sink>(
     text: &mut Vec<u8>,
     tables: &Tables,
     number: u64,
+    header: &Header,
     packet: &[u8],
     out: &mut O,
 ) -> Result<(), Stop>
     requires built { IsBuilt (database_of tables.now) }
+    requires header { header.now ≡ header_of packet.now }
     requires packet { 7 ≤ length packet.now }
     ensures all { OnOk result (Appends (O.written out.old) (O.written out.new) (plain_record (database_of tables.now) number packet.now)) }
     ensures part { IfErr result (λ stop. StopsAt stop (plain_record (database_of tables.now) number packet.now) (O.written out.old) (O.written out.new)) }
@@ -36,7 +40,7 @@ fn print_packet<O: Sink>(
     ensures cause { IfErr result (λ stop. HasStopCause stop (O.faults out.old) (O.faults out.new)) }
 {
     text.clear();
-    if add_record(text, tables, number, packet).is_err() {
+    if add_record(text, tables, number, header, packet).is_err() {
         return Err(Stop::Memory);
     }
     print(text, out)
@@ -54,6 +58,20 @@ fn print_cut<O: Sink>(text: &mut Vec<u8>, octets: u32, out: &mut O) -> Result<()
         return Err(Stop::Memory);
     }
     print(text, out)
+}
+
+// Hands on what was written, where reading the next packet may wait.
+fn hand_on_before_wait<S: Source, O: Sink>(
+    feed: &Feed<S>,
+    out: &mut O,
+) -> Result<(), Failed>
+    ensures written { O.written out.new ≡ O.written out.old }
+    ensures cause { HasCause (O.faults out.old) (O.faults out.new) result }
+{
+    if feed.is_next_at_hand() {
+        return Ok(());
+    }
+    out.flush()
 }
 
 // Prints the packets of a source up to its end, a fault or the limit. The buffers are for a packet and its record.
@@ -74,10 +92,13 @@ fn print_packets<S: Source, O: Sink>(
 {
     let mut feed = Feed::new(source);
     for number in 1..MOST_PACKETS + 1 {
+        let Ok(()) = hand_on_before_wait(&feed, out) else {
+            return Code::OutFault;
+        };
         match feed.next(frame) {
-            Next::Packet { octets } => {
+            Next::Packet { octets, header } => {
                 let packet = &frame[..octets as usize];
-                if let Err(stop) = print_packet(text, tables, number, packet, out) {
+                if let Err(stop) = print_packet(text, tables, number, &header, packet, out) {
                     return stop.code();
                 }
             }

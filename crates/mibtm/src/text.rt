@@ -1,12 +1,10 @@
 // The lines of a packet's record.
-ghost use Rattle.std.specs.Prelude.{◌≡◌, ◌≤◌, ◌++◌, length, OnOk, decimal, Some};
-ghost use Rattle.mib_model.specs.Headers.{header_of};
+ghost use Rattle.std.specs.Prelude.{◌≡◌, ◌++◌, OnOk, decimal, Some};
 ghost use Rattle.mib_model.specs.Texts.{found_text, head_text, title_text, type_text, cut_text};
 
-use crate::kinds::header;
 use crate::quoted::add_quoted;
 use itoa::Buffer;
-use mib_model::{BadWhy, Found, Text};
+use mib_model::{BadWhy, Found, Header, Text};
 use std::alloc::AllocError;
 
 // Appends a number's digits.
@@ -71,14 +69,12 @@ fn add_found(out: &mut Vec<u8>, found: &Found, title: Option<Text>) -> Result<()
 pub(crate) fn add_head(
     out: &mut Vec<u8>,
     number: u64,
-    packet: &[u8],
+    header: &Header,
     found: &Found,
     title: Option<Text>,
 ) -> Result<(), AllocError>
-    requires { 7 ≤ length packet.now }
-    ensures { OnOk result (out.new.items ≡ out.old.items ++ head_text number (header_of packet.now) found.now title) }
+    ensures { OnOk result (out.new.items ≡ out.old.items ++ head_text number header.now found.now title) }
 {
-    let header = header(packet);
     out.extend_from_slice(b"PKT ")?;
     add_number(out, number)?;
     out.extend_from_slice(b" APID ")?;
