@@ -61,10 +61,7 @@ fn print_cut<O: Sink>(text: &mut Vec<u8>, octets: u32, out: &mut O) -> Result<()
 }
 
 // Hands on what was written, where reading the next packet may wait.
-fn hand_on_before_wait<S: Source, O: Sink>(
-    feed: &Feed<S>,
-    out: &mut O,
-) -> Result<(), Failed>
+fn hand_on_before_wait<S: Source, O: Sink>(feed: &Feed<S>, out: &mut O) -> Result<(), Failed>
     ensures written { O.written out.new ≡ O.written out.old }
     ensures cause { HasCause (O.faults out.old) (O.faults out.new) result }
 {

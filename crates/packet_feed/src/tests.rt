@@ -46,9 +46,15 @@ fn packets_come_whole_from_pieces_of_any_size(rt: HostRuntime) -> Result<(), Fai
     for most in [1, 4, 7, 100] {
         let mut feed = feed_of(&rt, OCTETS, most.max(1), &[])?;
         assert!(rt; feed.is_next_at_hand(), "by {most}");
-        assert!(rt; matches!(feed.next(into), Next::Packet { octets: 7, .. }), "by {most}");
+        assert!(rt;
+            matches!(feed.next(into), Next::Packet { octets: 7, .. }),
+            "by {most}"
+        );
         assert_eq!(rt; &into[..7], &OCTETS[..7], "by {most}");
-        assert!(rt; matches!(feed.next(into), Next::Packet { octets: 9, .. }), "by {most}");
+        assert!(rt;
+            matches!(feed.next(into), Next::Packet { octets: 9, .. }),
+            "by {most}"
+        );
         assert_eq!(rt; &into[..9], &OCTETS[7..16], "by {most}");
         assert!(rt; !feed.is_next_at_hand(), "by {most}");
         assert_eq!(rt; feed.next(into), Next::Cut { octets: 6 }, "by {most}");
