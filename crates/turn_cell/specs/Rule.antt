@@ -9,15 +9,16 @@ use Rattle.histories.specs.declared.history.Move.{Move}
 use Rattle.histories.specs.History.{moves_of, IsLegal, IsOfSeatsBelow, Permits, StartsWith, state_after}
 use Rattle.turn_cell.specs.declared.slot.Slot.{Slot}
 use Rattle.turn_cell.specs.declared.slot.Slot.TheVariants.{Home, Noted}
+use Rattle.turn_cell.specs.declared.view.Origin.{Origin}
 use Rattle.turn_cell.specs.declared.view.View.{View}
 use Rattle.turn_cell.specs.Standings.{bit, has_ticket, has_turn, has_entered, ticket_of}
-use Rattle.turn_cell.specs.Views.{times, least, AreListed, turned, entered, idle, spent}
+use Rattle.turn_cell.specs.Views.{times, least, AreListed, origin_of, turned, entered, idle, spent}
 
 module _ {C E A : Type 0} where
   -- one seat's view fits the words and the history
-  pub record Fits (opening : C) (tickets serving : ℕ) (log : List (Move E A)) (v : View C E A) : Type 0 where
-    -- a view knows the opening state, or its seat was joined to another and nothing is left of it
-    pub known : (v.opening ≡ Some opening) ⊎ (v ≡ spent)
+  pub record Fits (start : Origin C) (tickets serving : ℕ) (log : List (Move E A)) (v : View C E A) : Type 0 where
+    -- a view knows the origin, or its seat was joined to another and nothing is left of it
+    pub known : (v.origin ≡ Some start) ⊎ (v ≡ spent)
     -- a ticket lies from the one that is served to those that are drawn, and its seat holds a number
     pub ticket : has_ticket v.standing ≡ true → (serving ≤ ticket_of v.standing) × (ticket_of v.standing < tickets) × (1 ≤ length v.holdings)
     -- who has the turn has the ticket that is served, and has seen the whole history
@@ -30,6 +31,21 @@ module _ {C E A : Type 0} where
     pub fronts : AllByRecursion (StartsWith v.seen) v.fronts
     -- there is room for the entry of its turn
     pub room : has_ticket v.standing ≡ true → has_entered v.standing ≡ false → length (moves_of (least v.holdings) log) < 4294967296
+
+  -- each number below the callers is held once, and no other
+  pub record AreShared (callers : ℕ) (views : List (View C E A)) : Type 0 where
+    pub held : sum_by (λ (v : View C E A). length v.holdings) views ≡ callers
+    pub once : (n : ℕ) → n < callers → sum_by (λ (v : View C E A). times n v.holdings) views ≡ 1
+    pub never : (n : ℕ) → callers ≤ n → sum_by (λ (v : View C E A). times n v.holdings) views ≡ 0
+
+module _ {C E A : Type 0} (reply : C → E → A) (after : C → E → C) (may : ℕ → E → Type 0) where
+  -- the history from the origin: legal, of callers that there are, and by what each may make, 2^32 moves of one at most
+  pub record IsSound (start : Origin C) (log : List (Move E A)) : Type 0 where
+    pub few : start.callers ≤ 255
+    pub legal : IsLegal reply after start.state log
+    pub permitted : Permits may log
+    pub seats : IsOfSeatsBelow start.callers log
+    pub short : (n : ℕ) → length (moves_of n log) ≤ 4294967296
 
 module _ {S N C E A : Type 0} (mean : S → C) (reply : C → E → A) (after : C → E → C) (may : ℕ → E → Type 0) where
   -- nobody has the turn: there are as many entries as turns passed, and the state after them is at home
@@ -46,26 +62,19 @@ module _ {S N C E A : Type 0} (mean : S → C) (reply : C → E → A) (after : 
       × (length log ≡ serving + bit (has_entered v.standing)) × (homes ≡ none ∷ [])
 
   -- the rule
-  pub record Kept (opening : C) (callers : ℕ) (s : State (Slot S N) (View C E A)) : Type 0 where
+  pub record Kept (start : Origin C) (s : State (Slot S N) (View C E A)) : Type 0 where
     pub tickets : ℕ
     pub serving : ℕ
     -- the history, which exists here alone
     pub log : List (Move E A)
-    pub words : s.words ≡ tickets ∷ serving ∷ length log ∷ callers ∷ []
-    pub few : callers ≤ 255
-    pub legal : IsLegal reply after opening log
-    pub permitted : Permits may log
-    pub seats : IsOfSeatsBelow callers log
-    pub short : (n : ℕ) → length (moves_of n log) ≤ 4294967296
+    pub words : s.words ≡ tickets ∷ serving ∷ length log ∷ start.callers ∷ []
+    pub sound : IsSound reply after may start log
+    pub shared : AreShared start.callers s.views
     -- the tickets drawn are the turns passed and those that seats have, which differ
     pub waiting : sum_by (λ (v : View C E A). bit (has_ticket v.standing)) s.views + serving ≡ tickets
     pub apart : (i j : ℕ) (u v : View C E A) → get_elem? s.views i ≡ some u → get_elem? s.views j ≡ some v → has_ticket u.standing ≡ true → has_ticket v.standing ≡ true → ticket_of u.standing ≡ ticket_of v.standing → i ≡ j
-    -- each number below the callers is held once, and no other
-    pub held : sum_by (λ (v : View C E A). length v.holdings) s.views ≡ callers
-    pub once : (n : ℕ) → n < callers → sum_by (λ (v : View C E A). times n v.holdings) s.views ≡ 1
-    pub never : (n : ℕ) → callers ≤ n → sum_by (λ (v : View C E A). times n v.holdings) s.views ≡ 0
-    pub each : (i : ℕ) (v : View C E A) → get_elem? s.views i ≡ some v → Fits opening tickets serving log v
-    pub desk : Free opening serving log s.homes s.views ⊎ Busy serving log s.homes s.views
+    pub each : (i : ℕ) (v : View C E A) → get_elem? s.views i ≡ some v → Fits start tickets serving log v
+    pub desk : Free start.state serving log s.homes s.views ⊎ Busy serving log s.homes s.views
 
   -- the seat got the turn and took the state, which is the one after all that was entered
   abbrev pub Seizes : Me (Slot S N) (View C E A) → Me (Slot S N) (View C E A) → Type 0
@@ -73,7 +82,7 @@ module _ {S N C E A : Type 0} (mean : S → C) (reply : C → E → A) (after : 
       (x : S) × (log : List (Move E A))
       × (n ≡ (turned m.0 log, (0, Home x) ∷ m.1))
       × StartsWith log m.0.seen × AreListed log m.0.holdings × Permits may log
-      × ((opening : C) → m.0.opening ≡ Some opening → (mean x ≡ state_after after opening log) × IsLegal reply after opening log)
+      × ((opening : C) (callers : ℕ) → m.0.origin ≡ Some (origin_of opening callers) → (mean x ≡ state_after after opening log) × IsLegal reply after opening log × IsOfSeatsBelow callers log)
 
   -- where another ticket is served, nothing changed
   abbrev pub Looks : Me (Slot S N) (View C E A) → ℕ → Me (Slot S N) (View C E A) → Type 0
@@ -82,10 +91,10 @@ module _ {S N C E A : Type 0} (mean : S → C) (reply : C → E → A) (after : 
 module _ {S N C E A : Type 0} (reply : C → E → A) (after : C → E → C) where
   -- the entry of the note follows all that was seen, and has the machine's reply
   abbrev pub Makes : (N → E) → Me (Slot S N) (View C E A) → Me (Slot S N) (View C E A) → Type 0
-  Makes event m n = (note : N) (opening : C) → m.1 ≡ (0, Noted note) ∷ rest m.1 → m.0.opening ≡ Some opening
+  Makes event m n = (note : N) (opening : C) (callers : ℕ) → m.1 ≡ (0, Noted note) ∷ rest m.1 → m.0.origin ≡ Some (origin_of opening callers)
       → n ≡ (entered m.0 (event note) (reply (state_after after opening m.0.seen) (event note)), m.1)
 
 module _ {P C E A : Type 0} where
-  -- the seat has seen each front of its join, and now has none
+  -- the seat has seen each front of its join, and now has none; what it has seen of its numbers is what it lists
   abbrev pub Settles : Me P (View C E A) → Me P (View C E A) → Type 0
-  Settles m n = (n ≡ (idle m.0, m.1)) × AllByRecursion (StartsWith m.0.seen) m.0.fronts
+  Settles m n = (n ≡ (idle m.0, m.1)) × AllByRecursion (StartsWith m.0.seen) m.0.fronts × AreListed m.0.seen m.0.holdings

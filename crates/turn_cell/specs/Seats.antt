@@ -1,6 +1,6 @@
 -- What contracts say of a turn and of its seats. [This project's own.]
 use Rattle.std.specs.Prelude.{◌≡◌, ◌≢◌, ℕ, true, false, ◌<◌, ◌≤◌, List, [], ◌∷◌, length, Some}
-use Rattle.atomic_table.specs.declared.shared.Seat.{Seat}
+pub use Rattle.atomic_table.specs.declared.shared.Seat.{Seat}
 use Rattle.histories.specs.declared.history.Move.{Move}
 use Rattle.turn_cell.specs.declared.rule.About.{About}
 use Rattle.turn_cell.specs.declared.slot.Slot.{Slot}
@@ -10,7 +10,7 @@ use Rattle.turn_cell.specs.declared.view.Holding.{Holding}
 use Rattle.turn_cell.specs.declared.view.Standing.TheVariants.{Idle}
 use Rattle.turn_cell.specs.declared.view.View.{View}
 use Rattle.turn_cell.specs.Standings.{has_turn, has_entered}
-use Rattle.turn_cell.specs.Views.{times, least, listed}
+use Rattle.turn_cell.specs.Views.{times, least, listed, origin_of}
 
 module _ {P D S Q : Type 0} where
   -- how many callers the turn was made for
@@ -47,7 +47,7 @@ module _ {P C E A : Type 0} where
 
   -- the seat is one of this turn
   abbrev pub IsSeatOf : {S Q : Type 0} → (S → C) → Lock P (View C E A) (About S) Q → Seat P (View C E A) → Type 0
-  IsSeatOf mean turn seat = (seat.table_id ≡ turn.table.shared.table_id) × (seat.me.0.opening ≡ Some (mean (first_state turn)))
+  IsSeatOf mean turn seat = (seat.table_id ≡ turn.table.shared.table_id) × (seat.me.0.origin ≡ Some (origin_of (mean (first_state turn)) (callers_of turn)))
 
 module _ {S N C E A : Type 0} where
   -- the seat has the turn under one of its numbers, and has made no entry in it

@@ -4,6 +4,7 @@ use Rattle.std.specs.List.{AllByRecursion, count_by, filter}
 use Rattle.histories.specs.declared.history.Move.{Move}
 use Rattle.histories.specs.History.{move, moves_of}
 use Rattle.turn_cell.specs.declared.view.Holding.{Holding}
+use Rattle.turn_cell.specs.declared.view.Origin.{Origin}
 use Rattle.turn_cell.specs.declared.view.Standing.{Standing}
 use Rattle.turn_cell.specs.declared.view.Standing.TheVariants.{Idle, Waiting, InTurn, Entered}
 use Rattle.turn_cell.specs.declared.view.View.{View}
@@ -65,42 +66,46 @@ module _ {E A : Type 0} where
   abbrev pub longer : List (Move E A) → List (Move E A) → List (Move E A)
   longer one other = cond (nat_le (length other) (length one)) one other
 
+-- what a history begins with, of its first state and the number of callers
+unfoldable pub origin_of : {C : Type 0} → C → ℕ → Origin C
+origin_of state callers = record { state = state; callers = callers }
+
 module _ {C E A : Type 0} where
-  abbrev pub view : Option C → List (Holding E A) → Standing → List (Move E A) → View C E A
-  view opening holdings standing seen = record { opening = opening; holdings = holdings; standing = standing; seen = seen; fronts = [] }
+  abbrev pub view : Option (Origin C) → List (Holding E A) → Standing → List (Move E A) → View C E A
+  view start holdings standing seen = record { origin = start; holdings = holdings; standing = standing; seen = seen; fronts = [] }
 
   -- the first seat
-  abbrev pub newcomer : C → ℕ → View C E A
-  newcomer opening callers = view (Some opening) (holdings_below callers) Idle []
+  abbrev pub newcomer : Origin C → View C E A
+  newcomer start = view (Some start) (holdings_below start.callers) Idle []
 
   -- it has drawn a ticket
   abbrev pub drawn : View C E A → ℕ → View C E A
-  drawn v ticket = view v.opening v.holdings (Waiting ticket) v.seen
+  drawn v ticket = view v.origin v.holdings (Waiting ticket) v.seen
 
   -- it has the turn, and has seen the history so far
   abbrev pub turned : View C E A → List (Move E A) → View C E A
-  turned v history = view v.opening v.holdings (InTurn (ticket_of v.standing)) history
+  turned v history = view v.origin v.holdings (InTurn (ticket_of v.standing)) history
 
   -- it has made its entry
   abbrev pub entered : View C E A → E → A → View C E A
   entered v event answer =
       let m : Move E A = move (least v.holdings) event answer in
-      view v.opening (with_move m v.holdings) (Entered (ticket_of v.standing)) (v.seen ++ m ∷ [])
+      view v.origin (with_move m v.holdings) (Entered (ticket_of v.standing)) (v.seen ++ m ∷ [])
 
   -- it has no ticket
   abbrev pub idle : View C E A → View C E A
-  idle v = view v.opening v.holdings Idle v.seen
+  idle v = view v.origin v.holdings Idle v.seen
 
   -- the two seats after a split
   abbrev pub split_left : View C E A → View C E A
-  split_left v = view v.opening (kept v.holdings) Idle v.seen
+  split_left v = view v.origin (kept v.holdings) Idle v.seen
 
   abbrev pub split_right : View C E A → View C E A
-  split_right v = view v.opening (handed v.holdings) Idle v.seen
+  split_right v = view v.origin (handed v.holdings) Idle v.seen
 
   -- a seat that another was joined to, and what is left of the other
   abbrev pub joined : View C E A → View C E A → View C E A
-  joined v w = record { opening = v.opening; holdings = v.holdings ++ w.holdings; standing = Idle; seen = longer v.seen w.seen; fronts = v.seen ∷ w.seen ∷ [] }
+  joined v w = record { origin = v.origin; holdings = v.holdings ++ w.holdings; standing = Idle; seen = longer v.seen w.seen; fronts = v.seen ∷ w.seen ∷ [] }
 
   abbrev pub spent : View C E A
   spent = view None [] Idle []

@@ -19,4 +19,4 @@ mod view;
 pub use machine::Machine;
 pub use sum::Sum;
 pub use turn::{Held, Seat, Turn};
-pub use view::{Holding, Standing, View};
+pub use view::{Holding, Origin, Standing, View};

@@ -24,14 +24,18 @@ pub trait Machine {
     ghost after: { Self.State → Self.Event → Self.State };
 
     // The entries that this state can take.
-    ghost fits: { Self.State → Self.Event → Type 0 };
+    ghost fits: { Self.State → Self.Entry → Type 0 };
+
+    // What a reply is beyond its answer, by the state before and the entry: what it hands back, or hands out.
+    ghost gives: { Self.State → Self.Entry → Self.Reply → Type 0 };
 
     // The entries that a caller's number may make.
     ghost may: { ℕ → Self.Event → Type 0 };
 
     /// Takes the entry in and replies.
     fn act(&mut self, entry: Self::Entry) -> Self::Reply
-        requires { fits (state self.old) (event entry) }
+        requires { fits (state self.old) entry }
+        ensures gives { gives (state self.old) entry result }
         ensures reply { answer result ≡ reply (state self.old) (event entry) }
         ensures after { state self.new ≡ after (state self.old) (event entry) };
 }

@@ -28,9 +28,9 @@ impl<S: Machine> TableRule<
     View<S::State, S::Event, S::Answer>,
     About<S>,
 > for Orderly<S, S::Reply> {
-    ghost holds = { λ about. Kept S.state S.reply S.after S.may (S.state about.state.value) about.callers };
+    ghost holds = { λ about. Kept S.state S.reply S.after S.may (record { state = S.state about.state.value; callers = about.callers }) };
 
-    ghost first = { λ about. newcomer (S.state about.state.value) about.callers };
+    ghost first = { λ about. newcomer (record { state = S.state about.state.value; callers = about.callers }) };
 }
 
 /// Draws a ticket.

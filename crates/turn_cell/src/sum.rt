@@ -32,6 +32,8 @@ impl Machine for Sum {
 
     ghost fits = { λ total amount. Unit {0} };
 
+    ghost gives = { λ total amount before. Unit {0} };
+
     ghost may = { λ number amount. Unit {0} };
 
     fn act(&mut self, entry: u64) -> u64 {

@@ -114,6 +114,7 @@ impl<S: Machine + Drop> Turn<S> {
         ensures numbers { holdings_of seat.new ≡ holdings_of seat.old ++ holdings_of other }
         ensures seen { StartsWith (seen_by seat.new) (seen_by seat.old) }
         ensures seen_other { StartsWith (seen_by seat.new) (seen_by other) }
+        ensures listed { AreListed (seen_by seat.new) (holdings_of seat.new) }
         ensures no_more { (seen_by seat.new ≡ seen_by seat.old) ⊎ (seen_by seat.new ≡ seen_by other) }
     {
         let shared = &self.table.shared;
@@ -148,7 +149,7 @@ impl<S: Machine + Drop> Turn<S> {
     ghost use Rattle.std.specs.Prelude.{true, false};
     ghost use Rattle.turn_cell.specs.Standings.{has_entered, has_ticket, has_turn, ticket_of};
     ghost use Rattle.turn_cell.specs.Rule.{Seizes};
-    ghost use Rattle.turn_cell.specs.Seats.{first_state, holdings_of, number_of, own_moves, seen_by, HasEntered, HasTurn, IsIdle, IsSeatOf};
+    ghost use Rattle.turn_cell.specs.Seats.{callers_of, first_state, holdings_of, number_of, own_moves, seen_by, HasEntered, HasTurn, IsIdle, IsSeatOf};
 
     /// Waits for the turn, and takes the state in hand. The seat has then seen the whole history.
     pub fn enter<R: Wait>(&self, rt: &R, seat: &mut Seat<S>) -> Held<S>
@@ -163,6 +164,7 @@ impl<S: Machine + Drop> Turn<S> {
         ensures state { S.state result ≡ state_after S.after (S.state (first_state self.now)) (seen_by seat.new) }
         ensures legal { IsLegal S.reply S.after (S.state (first_state self.now)) (seen_by seat.new) }
         ensures permitted { Permits S.may (seen_by seat.new) }
+        ensures seats { IsOfSeatsBelow (callers_of self.now) (seen_by seat.new) }
         ensures listed { AreListed (seen_by seat.new) (holdings_of seat.new) }
     {
         let shared = &self.table.shared;
@@ -199,10 +201,11 @@ impl<S: Machine + Drop> Turn<S> {
         requires seat { IsSeatOf S.state self.now seat.old }
         requires turn { HasTurn seat.old }
         requires state { S.state held.old ≡ state_after S.after (S.state (first_state self.now)) (seen_by seat.old) }
-        requires fits { S.fits (S.state held.old) (S.event entry) }
+        requires fits { S.fits (state_after S.after (S.state (first_state self.now)) (seen_by seat.old)) entry }
         requires may { S.may (number_of seat.old) (S.event entry) }
         ensures seat { IsSeatOf S.state self.now seat.new }
         ensures entered { HasEntered seat.new }
+        ensures gives { S.gives (state_after S.after (S.state (first_state self.now)) (seen_by seat.old)) entry result }
         ensures reply { S.answer result ≡ S.reply (state_after S.after (S.state (first_state self.now)) (seen_by seat.old)) (S.event entry) }
         ensures seen { seen_by seat.new ≡ seen_by seat.old ++ move (number_of seat.old) (S.event entry) (S.answer result) ∷ [] }
         ensures numbers { holdings_of seat.new ≡ with_move (move (number_of seat.old) (S.event entry) (S.answer result)) (holdings_of seat.old) }

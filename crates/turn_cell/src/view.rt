@@ -16,10 +16,16 @@ pub enum Standing {
     Entered(u64),
 }
 
-/// What a seat knows: the state that the history begins with (none where the seat was joined to another), its numbers,
+/// What a history begins with: its first state, and how many callers there are.
+pub struct Origin<C> {
+    pub state: C,
+    pub callers: u8,
+}
+
+/// What a seat knows: the origin of the history (none where the seat was joined to another), its numbers,
 /// where it stands, and how much of the history it has seen. `fronts` is what the two seats of a join had seen.
 pub struct View<C, E, A> {
-    pub opening: Option<C>,
+    pub origin: Option<Origin<C>>,
     pub holdings: LinkedList<Holding<E, A>>,
     pub standing: Standing,
     pub seen: LinkedList<Move<E, A>>,

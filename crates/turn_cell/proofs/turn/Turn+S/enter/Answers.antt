@@ -5,7 +5,7 @@ use Rattle.turn_cell.proofs.Steps.{draws}
 use Rattle.turn_cell.proofs.turn.Turn+S.enter.Goals as goal
 
 pub fetch_add-ticket-requires : goal.fetch_add-ticket-requires
-fetch_add-ticket-requires g c = let sized = c.args.self.now.sized.0 in (c.requires.seat.0, (omega arith), draws _ _ _ _ _ _ _ _ _ _ c.requires.idle.0 c.requires.number c.requires.room)
+fetch_add-ticket-requires g c = let sized = c.args.self.now.sized.0 in (c.requires.seat.0, (omega arith), draws _ _ _ _ _ _ _ _ _ c.requires.idle.0 c.requires.number c.requires.room)
 
 pub exchange-requires : goal.exchange-requires
 exchange-requires g c =

@@ -16,6 +16,6 @@ fetch_add-requires g c =
       (omega arith),
       passes _ _ _ _ _ _ _ _ _ _ _ _ (ap (λ w. has_entered w.standing) v ∙ c.requires.entered.0)
           (ap (λ m. m.1) e ∙ ap (λ l. (0, Home c.held.inside.state) ∷ rest l) slot.1)
-          (ap (λ w. w.opening) v ∙ c.requires.seat.1)
+          (ap (λ w. w.origin) v ∙ c.requires.seat.1)
           (ap g.S.Machine.state c.held.view_is ∙ c.requires.state ∙ ap (λ w. state_after g.S.Machine.after (g.S.Machine.state c.args.self.now.table.shared.key.state.value) w.seen) (sym v)),
     )

@@ -5,7 +5,7 @@ use Rattle.turn_cell.proofs.Shares.{splits}
 use Rattle.turn_cell.proofs.turn.Turn+S.split.Goals as goal
 
 pub split_seat-requires : goal.split_seat-requires
-split_seat-requires g c = let sized = c.args.self.now.sized.0 in (c.requires.seat.0, (omega arith), splits _ _ _ _ _ _ _ _ _ _ c.requires.idle.0 c.requires.seat.1)
+split_seat-requires g c = let sized = c.args.self.now.sized.0 in (c.requires.seat.0, (omega arith), splits _ _ _ _ _ _ _ _ _ c.requires.idle.0 c.requires.seat.1)
 
 pub returns-clause-number : goal.returns-clause-number
 returns-clause-number g c = ap (λ v. least v.holdings) (ap (λ m. m.0) c.split_seat.ensures.2) ∙ least-kept c.args.seat.now.me.0.holdings

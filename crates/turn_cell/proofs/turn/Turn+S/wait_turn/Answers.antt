@@ -7,7 +7,7 @@ use Rattle.turn_cell.proofs.turn.Turn+S.wait_turn.Goals as goal
 pub load-requires : goal.load-requires
 load-requires g c =
     let sized = c.args.self.now.sized.0 in let m = c.loop.invariant.1 in
-    (c.loop.invariant.0 ∙ c.requires.seat, (omega arith), looks _ _ _ _ _ _ _ _ _ _ (ap (λ y. has_ticket y.0.standing) m ∙ c.requires.waits) (ap (λ y. has_turn y.0.standing) m ∙ c.requires.early))
+    (c.loop.invariant.0 ∙ c.requires.seat, (omega arith), looks _ _ _ _ _ _ _ _ _ (ap (λ y. has_ticket y.0.standing) m ∙ c.requires.waits) (ap (λ y. has_turn y.0.standing) m ∙ c.requires.early))
 
 pub returns-then-load-ticket-clause-seat : goal.returns-then-load-ticket-clause-seat
 returns-then-load-ticket-clause-seat g c = c.load.ensures.0 ∙ c.loop.invariant.0
