@@ -22,7 +22,7 @@ use Rattle.mib_model.specs.Fixed.{places, occurrence, occurrences, places_inside
 use Rattle.mib_model.specs.Headers.{header_of}
 use Rattle.mib_model.specs.Interpreter.{Course, Stamped, values_of, start, interpret, record_for, course_after}
 use Rattle.mib_model.specs.Kept.{Memory, empty_memory, all_entered, has_number}
-use Rattle.mib_model.specs.Match.{match_of, agrees, found_by, found_with, lacks_service, discriminants, criterion}
+use Rattle.mib_model.specs.Match.{match_of, agrees, found_of, found_with, service_of, subtype_of, lacks_service, discriminants, criterion}
 use Rattle.mib_model.specs.Orders.{sorted_by}
 use Rattle.mib_model.specs.Output.{stamped_from}
 use Rattle.mib_model.specs.Parameters.{parameter, is_measured, measured_encoding, parameter_encoding}
@@ -180,7 +180,7 @@ choice : (P : Found → Type 0) (b : Bool) (x y : Found) → P x → P y → P (
 choice P true x y holds others = holds
 choice P false x y holds others = others
 
-found_by-fixed : (db : Database) → IsBuilt db → (packet : List ℕ) (values : ℕ × ℕ) (o : Option PidRow) → find (agrees packet values) db.pid ≡ o → IsFixed (found_by packet o)
+found_by-fixed : (db : Database) → IsBuilt db → (packet : List ℕ) (values : ℕ × ℕ) (o : Option PidRow) → find (agrees packet values) db.pid ≡ o → IsFixed (found_of (service_of packet) (subtype_of packet) o)
 unfolding IsFixed
 found_by-fixed db b packet values None is = tt
 found_by-fixed db b packet values (Some row) is =

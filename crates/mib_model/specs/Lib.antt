@@ -27,6 +27,7 @@ pub mod Headers
 pub mod Packets
 pub mod Match
 pub mod Fixed
+pub mod Layouts
 pub mod Structures
 pub mod Walk
 pub mod Kept

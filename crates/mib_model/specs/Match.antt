@@ -1,7 +1,7 @@
 -- What a packet is by the tables. [CCSDS 133.0-B, packet version number, packet type and idle packets; the service type and
 -- subtype of ECSS-E-70-41A, telemetry packet data field header; the discriminants of the SCOS-2000 Database Import ICD,
 -- pic and pid, in this profile.]
-use Rattle.std.specs.Prelude.{ℕ, ◌*◌, ℤ, pos, negsuc, Bool, List, length, slice_index, nat_lt, ◌==◌, ◌&&◌, not, if◌then◌else◌, Option, Some, None}
+use Rattle.std.specs.Prelude.{ℕ, ◌*◌, ℤ, pos, negsuc, Bool, List, length, slice_index, nat_le, nat_lt, ◌==◌, ◌&&◌, not, if◌then◌else◌, Option, Some, None}
 use Rattle.std.specs.List.{find}
 use Rattle.std.specs.Option.{option_eq, option_or}
 use Rattle.std.specs.Prelude.{nat_eq}
@@ -62,15 +62,15 @@ agrees packet values row =
     (row.apid == (header_of packet).apid) && (row.service == service_of packet) && (row.subtype == subtype_of packet) &&
     (row.pi1_val == values.0) && (row.pi2_val == values.1)
 
--- what a packet is by the row that agrees with it
-abbrev pub found_by : List ℕ → Option PidRow → Found
-found_by packet None = Unknown (service_of packet) (subtype_of packet)
-found_by packet (Some row) = Spid row.spid (service_of packet) (subtype_of packet) row.tpsd row.dfhsize
+-- what a packet of these types is by the row that agrees with it
+abbrev pub found_of : ℕ → ℕ → Option PidRow → Found
+found_of service subtype None = Unknown service subtype
+found_of service subtype (Some row) = Spid row.spid service subtype row.tpsd row.dfhsize
 
 -- what a packet with these discriminants is: by the first row that agrees, in the order of the file
 abbrev pub found_with : List PidRow → List ℕ → Option (ℕ × ℕ) → Found
 found_with pids packet None = Bad why.Short
-found_with pids packet (Some values) = found_by packet (find (agrees packet values) pids)
+found_with pids packet (Some values) = found_of (service_of packet) (subtype_of packet) (find (agrees packet values) pids)
 
 -- what a packet is by rows of pid and pic: the first of version, type, idle APID, length and identification decides
 abbrev pub match_by : List PidRow → List PicRow → List ℕ → Found
@@ -84,3 +84,7 @@ match_by pids pics packet =
 -- what a packet is by a database
 unfoldable pub match_of : Database → List ℕ → Found
 match_of db packet = match_by db.pid db.pic packet
+
+-- a row of pic whose discriminants have 64 bits at most, as the columns of its table have them
+abbrev pub is_narrow : PicRow → Bool
+is_narrow row = nat_le row.pi1_wid 64 && nat_le row.pi2_wid 64

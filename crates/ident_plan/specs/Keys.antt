@@ -1,0 +1,13 @@
+-- The keys by which rows of pic and pid are looked up. [This profile.]
+use Rattle.mib_model.specs.declared.rows.PicRow.{PicRow}
+use Rattle.mib_model.specs.declared.rows.PidRow.{PidRow}
+use Rattle.ident_plan.specs.declared.keys.CriterionKey.{CriterionKey}
+use Rattle.ident_plan.specs.declared.keys.PacketKey.{PacketKey}
+
+-- the types and the APID of a row of pic
+abbrev pub criterion_key : PicRow → CriterionKey
+criterion_key row = record { service = row.service; subtype = row.subtype; apid = row.apid }
+
+-- the APID, types and discriminants of a row of pid
+abbrev pub packet_key : PidRow → PacketKey
+packet_key row = record { apid = row.apid; service = row.service; subtype = row.subtype; pi1_val = row.pi1_val; pi2_val = row.pi2_val }

@@ -1,0 +1,209 @@
+ghost use Rattle.std.specs.Prelude.{◌≡◌, ◌+◌, ◌*◌, ◌≤◌, ◌<ℤ◌, ◌==◌, ◌&&◌, negsuc, pos, ℕ, length, Option, IfOk, IfSome, OnOk, OnErr, IsTrue, Some, None, true, false};
+ghost use Rattle.std.specs.List.{find, list_all};
+ghost use Rattle.std.specs.Option.{option_copied, option_or};
+ghost use Rattle.mib_model.specs.Headers.{header_of};
+ghost use Rattle.mib_model.specs.Match as Spec;
+ghost use Rattle.mib_model.specs.Match.{service_of, subtype_of, lacks_service, is_criterion, is_narrow, found_with, match_by};
+
+use crate::keys::{ByCriterion, ByPacket, CriterionKey, PacketKey};
+use bit_field::unsigned;
+use first_rows::FirstRows;
+use mib_model::{BadWhy, Found, Header, IDLE_APID, PicRow, PidRow, Steps};
+use std::alloc::{AllocError, Global};
+use std::marker::Model;
+use std::sync::ledger::Ledger;
+
+/// The tables pid and pic, compiled for identification. Contracts see the rows compiled.
+#[derive(Drop)]
+pub struct Ident {
+    pids: FirstRows<ByPacket>,
+    pics: FirstRows<ByCriterion>,
+}
+
+impl Model for Ident {
+    ghost use Rattle.std.specs.Prelude.{◌≡◌, true};
+    ghost use Rattle.std.specs.List.{list_all};
+    ghost use Rattle.mib_model.specs.Match.{is_narrow};
+    ghost use Rattle.ident_plan.specs.Rows.{IdentRows};
+
+    ghost Value = { IdentRows };
+
+    ghost view = { λ ident. record { pids = ident.pids; pics = ident.pics } };
+
+    ghost invariant = { λ ident. list_all is_narrow ident.pics ≡ true };
+}
+
+// The service type and the subtype: octets 7 and 8 behind a secondary header, else 0 (ECSS-E-70-41A, telemetry packet
+// data field header).
+fn types(packet: &[u8], secondary: bool) -> (u8, u8)
+    requires secondary { secondary ≡ (header_of packet.now).secondary }
+    requires long { IsTrue secondary → 9 ≤ length packet.now }
+    ensures service { result.0 ≡ service_of packet.now }
+    ensures subtype { result.1 ≡ subtype_of packet.now }
+{
+    if secondary {
+        (packet[7], packet[8])
+    } else {
+        (0, 0)
+    }
+}
+
+// The discriminant at an octet offset: 0 where there is no offset or no width, none where it passes the end.
+fn discriminant(packet: &[u8], offset: i32, width: u8) -> Option<u64>
+    requires width { width ≤ 64 }
+    ensures { result ≡ Spec.discriminant packet.now offset width }
+{
+    if offset < 0 || width == 0 {
+        return Some(0);
+    }
+    unsigned(packet, 8 * offset as u64, width)
+}
+
+// The two discriminants by the row of pic that stands for a packet, none where one passes the end.
+fn discriminants(packet: &[u8], row: Option<&PicRow>) -> Option<(u64, u64)>
+    requires { IfSome (option_copied row) (λ row. is_narrow row ≡ true) }
+    ensures { result ≡ Spec.discriminants packet.now (option_copied row.entry) }
+{
+    let Some(row) = row else {
+        return Some((0, 0));
+    };
+    let first = discriminant(packet, row.pi1_off, row.pi1_wid)?;
+    let second = discriminant(packet, row.pi2_off, row.pi2_wid)?;
+    Some((first, second))
+}
+
+// What a packet of these types is by the row that agrees with it, if there is one.
+fn found_by(row: Option<&PidRow>, service: u8, subtype: u8) -> Found
+    ensures { result ≡ Spec.found_of service subtype (option_copied row.entry) }
+{
+    let Some(row) = row else {
+        return Found::Unknown { service, subtype };
+    };
+    Found::Spid {
+        spid: row.spid,
+        service,
+        subtype,
+        tpsd: row.tpsd,
+        dfhsize: row.dfhsize,
+    }
+}
+
+impl Ident {
+    /// Compiles all rows of pid and pic, in file order, in one step. An error is want of memory, and takes no step.
+    pub fn compile<L: Ledger>(
+        alloc: Global,
+        pids: &[PidRow],
+        pics: &[PicRow],
+        steps: &mut Steps<L>,
+    ) -> Result<Ident, AllocError>
+        requires { list_all is_narrow pics.now ≡ true }
+        ensures rows { IfOk result (λ ident. ident ≡ record { pids = pids.now; pics = pics.now }) }
+        ensures step { OnOk result (steps.new ≡ steps.old + 1) }
+        ensures refused { OnErr result (steps.new ≡ steps.old) }
+    {
+        let pids = FirstRows::new(alloc, pids)?;
+        let pics = FirstRows::new(alloc, pics)?;
+        steps.tick();
+        Ok(Ident { pids, pics })
+    }
+
+    // The first row of pic with this key.
+    fn row_of_pic(&self, key: CriterionKey) -> Option<&PicRow>
+        ensures row { option_copied result ≡ find (is_criterion key.service key.subtype key.apid) self.now.pics }
+        ensures narrow { IfSome (option_copied result) (λ row. is_narrow row ≡ true) }
+    {
+        self.pics.find(&key)
+    }
+
+    // The row of pic that stands for a packet: that with its APID before that with none.
+    #[tactic(auto, unfolding(mib_model::specs::Match::criterion))]
+    fn criterion(&self, header: &Header, packet: &[u8]) -> Option<&PicRow>
+        requires header { header.now ≡ header_of packet.now }
+        requires long { lacks_service packet.now ≡ false }
+        ensures row { option_copied result ≡ Spec.criterion self.now.pics packet.now }
+        ensures narrow { IfSome (option_copied result) (λ row. is_narrow row ≡ true) }
+    {
+        let (service, subtype) = types(packet, header.secondary);
+        let own = self.row_of_pic(CriterionKey {
+            service,
+            subtype,
+            apid: Some(header.apid),
+        });
+        if own.is_some() {
+            return own;
+        }
+        self.row_of_pic(CriterionKey {
+            service,
+            subtype,
+            apid: None,
+        })
+    }
+
+    // The first row of pid with this key.
+    fn row_of_pid(&self, key: PacketKey) -> Option<&PidRow>
+        ensures { option_copied result ≡ find (λ row. (row.apid == key.apid) && (row.service == key.service) && (row.subtype == key.subtype) && (row.pi1_val == key.pi1_val) && (row.pi2_val == key.pi2_val)) self.now.pids }
+    {
+        self.pids.find(&key)
+    }
+
+    // What a packet is with these discriminants.
+    fn identified(&self, header: &Header, packet: &[u8], values: (u64, u64)) -> Found
+        requires header { header.now ≡ header_of packet.now }
+        requires long { lacks_service packet.now ≡ false }
+        ensures { result ≡ found_with self.now.pids packet.now (Some (values.0, values.1)) }
+    {
+        let (service, subtype) = types(packet, header.secondary);
+        let row = self.row_of_pid(PacketKey {
+            apid: header.apid,
+            service,
+            subtype,
+            pi1_val: values.0,
+            pi2_val: values.1,
+        });
+        found_by(row, service, subtype)
+    }
+
+    // What a packet is whose header and types refuse nothing.
+    fn among(&self, header: &Header, packet: &[u8]) -> Found
+        requires header { header.now ≡ header_of packet.now }
+        requires long { lacks_service packet.now ≡ false }
+        ensures { result ≡ found_with self.now.pids packet.now (Spec.discriminants packet.now (Spec.criterion self.now.pics packet.now)) }
+    {
+        match discriminants(packet, self.criterion(header, packet)) {
+            Some(values) => self.identified(header, packet, values),
+            None => Found::Bad(BadWhy::Short),
+        }
+    }
+
+    /// What a packet is, by the first rule that applies, where its header was read before. It takes no memory.
+    pub fn find_by(&self, header: &Header, packet: &[u8]) -> Found
+        requires packet { 7 ≤ length packet.now }
+        requires header { header.now ≡ header_of packet.now }
+        ensures { result ≡ match_by self.now.pids self.now.pics packet.now }
+    {
+        if header.version != 0 {
+            return Found::Bad(BadWhy::Version);
+        }
+        if header.telecommand {
+            return Found::Bad(BadWhy::Telecommand);
+        }
+        if header.apid == IDLE_APID {
+            return Found::Idle;
+        }
+        if header.secondary && packet.len() < 9 {
+            return Found::Bad(BadWhy::Short);
+        }
+        self.among(header, packet)
+    }
+
+    /// What a packet of 7 octets or more is, by the first rule that applies. It takes no memory.
+    pub fn find(&self, packet: &[u8]) -> Found
+        requires { 7 ≤ length packet.now }
+        ensures { result ≡ match_by self.now.pids self.now.pics packet.now }
+    {
+        let header = Header::read(&[
+            packet[0], packet[1], packet[2], packet[3], packet[4], packet[5],
+        ]);
+        self.find_by(&header, packet)
+    }
+}
