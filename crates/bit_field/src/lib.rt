@@ -17,7 +17,7 @@ pub use encoding::shape_of;
 pub use field::{signed, unsigned};
 pub use laws::bits_are_a_sum;
 pub use mib_model::{Ended, Endian, Order, Shape, Sort, Value};
-pub use value::take;
+pub use value::{number, take};
 pub use values::{MOST_VALUES, Values};
 
 #[cfg(test)]

@@ -1,4 +1,6 @@
-use crate::{Endian, MOST_VALUES, Order, Sort, Value, Values, shape_of, signed, take, unsigned};
+use crate::{
+    Endian, MOST_VALUES, Order, Sort, Value, Values, number, shape_of, signed, take, unsigned,
+};
 use mib_model::Name;
 use std::process::Abort;
 use std::test::Fail;
@@ -92,6 +94,17 @@ fn values_are_taken_by_the_order_of_their_shape(rt: HostRuntime) {
 }
 
 #[test]
+fn real_numbers_are_read_in_either_order(rt: HostRuntime) {
+    let big = shape_of(5, 4, Endian::B).expect(&rt, "a real");
+    let little = shape_of(5, 4, Endian::L).expect(&rt, "a real");
+    assert!(rt; big.width() <= 64);
+    assert!(rt; little.width() <= 64);
+    assert_eq!(rt; number(&PACKET, 0, big), Some(0xA54D_CA18_2530));
+    assert_eq!(rt; number(&PACKET, 0, little), Some(0x3025_18CA_4DA5));
+    assert_eq!(rt; number(&PACKET, 145, little), None);
+}
+
+#[test]
 fn shapes_are_those_of_the_table_of_types(rt: HostRuntime) {
     let time = shape_of(9, 18, Endian::L).expect(&rt, "a time");
     assert_eq!(rt; time.sort(), Sort::Cuc { coarse: 4, fine: 3 });
@@ -122,6 +135,7 @@ fn pushes(rt: &impl Abort, slots: &mut [Value]) {
     assert!(rt; values.push(a_value(rt)));
     assert!(rt; !values.push(a_value(rt)));
     assert_eq!(rt; values.used, MOST_VALUES);
+    assert_eq!(rt; values.slots[0].raw, 165);
 }
 
 #[test]

@@ -48,6 +48,15 @@ fn field_number(octets: &[u8], at: u64, width: u8, order: Order) -> u64
     }
 }
 
+// The width of a shape of at most 64 bits.
+fn short_width(shape: Shape) -> u8
+    requires { shape.width ≤ 64 }
+    ensures value { result ≡ shape.width }
+    ensures octets { shape.order ≡ Order.Little → result ≡ 8 * (result / 8) }
+{
+    shape.width() as u8
+}
+
 // The width of a shape whose values have a number.
 fn number_width(shape: Shape) -> u8
     requires { has_number shape.sort ≡ true }
@@ -76,6 +85,20 @@ fn raw_number(octets: &[u8], at: u64, shape: Shape) -> i128
             i128::from(complement(number, width))
         }
         _ => 0,
+    }
+}
+
+/// The unsigned number in the bits of a shape of at most 64 bits, by the order of its octets, whatever its sort: that of a
+/// real number is what its bits are shown by. There is none exactly where the bits pass the end.
+pub fn number(octets: &[u8], at: u64, shape: Shape) -> Option<u64>
+    requires { shape.width ≤ 64 }
+    ensures { result ≡ (if Spec.is_inside octets.now at shape.width then Some (Spec.field_number shape.order octets.now at shape.width) else None) }
+{
+    if is_inside(octets, at, shape.width()) {
+        let width = short_width(shape);
+        Some(field_number(octets, at, width, shape.order()))
+    } else {
+        None
     }
 }
 
