@@ -22,6 +22,7 @@ use Rattle.mib_model.specs.Points.{knots, interpolated, by_points}
 use Rattle.mib_model.specs.Polynomials.{polynomial}
 use Rattle.mib_model.specs.RawTexts.{quoted, raw_text}
 use Rattle.mib_model.specs.Reading.{row_at, rows_from, table_of, row_read, key_read}
+use Rattle.mib_model.specs.Register.{after}
 use Rattle.mib_model.specs.RowTexts.{row_of, key_of, line_of}
 use Rattle.mib_model.specs.Sameness.{same_values}
 use Rattle.mib_model.specs.Texts.{head_text, value_text, record_body, record_text}
@@ -35,17 +36,17 @@ use Rattle.mib_examples.specs.CalibrationsRuns.{CalibrationsRuns}
 use Rattle.mib_examples.specs.ChecksRuns.{ChecksRuns}
 
 pub layouts_runs : LayoutsRuns
-unfolding decoded digits alarm bits little_bits raw_number is_carried carry checks_of class_of content_of value_of calibration curve_named selections curve_of database_read dec_of half count_of count_text type_of encoding_of finished all_finished places places_inside values_at values_of title_of record_for course_after interpret course_after_all same_key lines_of trimmed criterion match_of sorted_by stamped_by output stamped_from output_of_one knots interpolated by_points polynomial quoted raw_text row_at rows_from table_of row_read key_read row_of key_of line_of same_values head_text value_text record_body record_text structure deduced step walked structure_values decimal_whole whole_number
+unfolding decoded after digits alarm bits little_bits raw_number is_carried carry checks_of class_of content_of value_of calibration curve_named selections curve_of database_read dec_of half count_of count_text type_of encoding_of finished all_finished places places_inside values_at values_of title_of record_for course_after interpret course_after_all same_key lines_of trimmed criterion match_of sorted_by stamped_by output stamped_from output_of_one knots interpolated by_points polynomial quoted raw_text row_at rows_from table_of row_read key_read row_of key_of line_of same_values head_text value_text record_body record_text structure deduced step walked structure_values decimal_whole whole_number
 layouts_runs = record { one_packet = refl; unknown = refl; idle_and_bad = refl; discriminants = refl; lacks_discriminant = refl; wide_discriminant = refl; signed_values = refl; occurrences = refl; all_sorts = refl; little_unsigned = refl; little_signed = refl; usual = refl }
 
 pub structures_runs : StructuresRuns
-unfolding decoded digits alarm bits little_bits raw_number is_carried carry checks_of class_of content_of value_of calibration curve_named selections curve_of database_read dec_of half count_of count_text type_of encoding_of finished all_finished places places_inside values_at values_of title_of record_for course_after interpret course_after_all same_key lines_of trimmed criterion match_of sorted_by stamped_by output stamped_from output_of_one knots interpolated by_points polynomial quoted raw_text row_at rows_from table_of row_read key_read row_of key_of line_of same_values head_text value_text record_body record_text structure deduced step walked structure_values decimal_whole whole_number
+unfolding decoded after digits alarm bits little_bits raw_number is_carried carry checks_of class_of content_of value_of calibration curve_named selections curve_of database_read dec_of half count_of count_text type_of encoding_of finished all_finished places places_inside values_at values_of title_of record_for course_after interpret course_after_all same_key lines_of trimmed criterion match_of sorted_by stamped_by output stamped_from output_of_one knots interpolated by_points polynomial quoted raw_text row_at rows_from table_of row_read key_read row_of key_of line_of same_values head_text value_text record_body record_text structure deduced step walked structure_values decimal_whole whole_number
 structures_runs = record { no_repetition = refl; nested_groups = refl; missing_structure = refl; deduced = refl; missing_parameter = refl }
 
 pub calibrations_runs : CalibrationsRuns
-unfolding decoded digits alarm bits little_bits raw_number is_carried carry checks_of class_of content_of value_of calibration curve_named selections curve_of database_read dec_of half count_of count_text type_of encoding_of finished all_finished places places_inside values_at values_of title_of record_for course_after interpret course_after_all same_key lines_of trimmed criterion match_of sorted_by stamped_by output stamped_from output_of_one knots interpolated by_points polynomial quoted raw_text row_at rows_from table_of row_read key_read row_of key_of line_of same_values head_text value_text record_body record_text structure deduced step walked structure_values decimal_whole whole_number
+unfolding decoded after digits alarm bits little_bits raw_number is_carried carry checks_of class_of content_of value_of calibration curve_named selections curve_of database_read dec_of half count_of count_text type_of encoding_of finished all_finished places places_inside values_at values_of title_of record_for course_after interpret course_after_all same_key lines_of trimmed criterion match_of sorted_by stamped_by output stamped_from output_of_one knots interpolated by_points polynomial quoted raw_text row_at rows_from table_of row_read key_read row_of key_of line_of same_values head_text value_text record_body record_text structure deduced step walked structure_values decimal_whole whole_number
 calibrations_runs = record { between_points = refl; beyond_points = refl; rounded = refl; polynomial = refl; too_large = refl; rounded_up = refl; rounded_down = refl; status_text = refl; no_text = refl; logarithm = refl; real_curve = refl; selected = refl }
 
 pub checks_runs : ChecksRuns
-unfolding decoded digits alarm bits little_bits raw_number is_carried carry checks_of class_of content_of value_of calibration curve_named selections curve_of database_read dec_of half count_of count_text type_of encoding_of finished all_finished places places_inside values_at values_of title_of record_for course_after interpret course_after_all same_key lines_of trimmed criterion match_of sorted_by stamped_by output stamped_from output_of_one knots interpolated by_points polynomial quoted raw_text row_at rows_from table_of row_read key_read row_of key_of line_of same_values head_text value_text record_body record_text structure deduced step walked structure_values decimal_whole whole_number
+unfolding decoded after digits alarm bits little_bits raw_number is_carried carry checks_of class_of content_of value_of calibration curve_named selections curve_of database_read dec_of half count_of count_text type_of encoding_of finished all_finished places places_inside values_at values_of title_of record_for course_after interpret course_after_all same_key lines_of trimmed criterion match_of sorted_by stamped_by output stamped_from output_of_one knots interpolated by_points polynomial quoted raw_text row_at rows_from table_of row_read key_read row_of key_of line_of same_values head_text value_text record_body record_text structure deduced step walked structure_values decimal_whole whole_number
 checks_runs = record { validity = refl; repeats = refl; states = refl; deltas = refl }

@@ -5,7 +5,7 @@ use Rattle.mib_model.specs.declared.register.Answer.TheVariants as answer
 use Rattle.mib_model.specs.declared.register.Entry.TheVariants as entry
 use Rattle.mib_model.specs.declared.reply.Reply.TheVariants as reply
 use Rattle.mib_model.specs.Database.{no_rows}
-use Rattle.mib_model.specs.Desk.{Plain, desk_start, turn_of}
+use Rattle.mib_model.specs.Desk.{Plain, desk_start, way_of}
 use Rattle.mib_model.specs.DeskLines.{request_of}
 use Rattle.mib_model.specs.DeskRuns.{IsDesk}
 use Rattle.mib_model.specs.Packets.{IsPacket, IsCut, BeginsNoPacket}
@@ -26,17 +26,14 @@ cut = record { whole = refl; each = one; begins_none = short-rest begun (omega a
 pub desk :
     IsDesk false (desk_start no_rows) (codes "use 9" ∷ codes "# and then" ∷ codes "go" ∷ [])
     ((entry.Use 9, answer.NoEdition 1) ∷ []) (Plain (reply.NoEdition 1) ∷ Plain reply.Go ∷ []) (desk_start no_rows)
-unfolding turn_of request_of
-desk = (
-  record { first = (entry.Use 9, answer.NoEdition 1) ∷ []; more = []; reply = Some (Plain (reply.NoEdition 1)); rest = Plain reply.Go ∷ []; state = desk_start no_rows; in_calls = refl; in_replies = refl },
-  inl (refl, (refl, refl, refl)),
-  (
-    record { first = []; more = []; reply = None; rest = Plain reply.Go ∷ []; state = desk_start no_rows; in_calls = refl; in_replies = refl },
-    inl (refl, refl, refl),
-    (
-      record { first = []; more = []; reply = Some (Plain reply.Go); rest = []; state = desk_start no_rows; in_calls = refl; in_replies = refl },
-      inl (refl, refl, refl),
-      (refl, refl, refl),
-    ),
-  ),
-)
+unfolding way_of request_of
+desk = record {
+  runs =
+      record { line = codes "use 9"; old = desk_start no_rows; calls = (entry.Use 9, answer.NoEdition 1) ∷ []; reply = Some (Plain (reply.NoEdition 1)); new = desk_start no_rows } ∷
+      record { line = codes "# and then"; old = desk_start no_rows; calls = []; reply = None; new = desk_start no_rows } ∷
+      record { line = codes "go"; old = desk_start no_rows; calls = []; reply = Some (Plain reply.Go); new = desk_start no_rows } ∷ [];
+  of_lines = refl;
+  chain = (refl, inl (refl, (refl, refl, refl)), (refl, inl (refl, refl, refl), (refl, inl (refl, refl, refl), refl)));
+  in_calls = refl;
+  in_replies = refl;
+}

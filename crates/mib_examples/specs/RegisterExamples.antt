@@ -5,35 +5,35 @@ use Rattle.mib_model.specs.declared.kind.Kind.TheVariants as kind
 use Rattle.mib_model.specs.declared.plan.PlanName.TheVariants as plan
 use Rattle.mib_model.specs.declared.register.Answer.TheVariants as answer
 use Rattle.mib_model.specs.declared.register.Entry.TheVariants as entry
-use Rattle.mib_model.specs.declared.register.Intake.{Intake}
+use Rattle.mib_model.specs.declared.register.Register.{Register}
 use Rattle.mib_model.specs.declared.reply.Reply.TheVariants as reply
 use Rattle.mib_model.specs.Database.{no_rows}
-use Rattle.mib_model.specs.Desk.{desk_start, Ask, says, saved, turn_of}
+use Rattle.mib_model.specs.Desk.{desk_start, Ask, says, saved, way_of}
 use Rattle.mib_model.specs.DeskLines.{Comment, BadLine, BadTable, Put, Delete, Save, Use, UseFrom, Take, request_of}
 use Rattle.mib_model.specs.Output.{output}
 use Rattle.mib_model.specs.Plans.{plans}
-use Rattle.mib_model.specs.Register.{opening, reply, after}
-use Rattle.mib_model.specs.RegisterHistories.{Register, IsRegister, stamps}
+use Rattle.mib_model.specs.Register.{opening, answer_to, after}
+use Rattle.mib_model.specs.RegisterHistories.{RegisterHistory, IsRegisterHistory, stamps}
 use Rattle.mib_model.specs.Touched.{touched}
 use Rattle.mib_examples.specs.Given.{database, given, packet_a, shared, table}
 
 -- an activation of edition 1 from a packet on
-abbrev pub use_one : Intake → ℕ → Intake
+abbrev pub use_one : Register → ℕ → Register
 use_one s k = after s (entry.UseFrom 1 k)
 
-abbrev pub start : Intake
+abbrev pub start : Register
 start = opening no_rows
 
 pub record ReplyExamples : Type 0 where
-  pub no_edition : reply start (entry.Use 9) ≡ answer.NoEdition 1
-  pub late : reply start (entry.UseFrom 1 0) ≡ answer.Late 1
-  pub used : reply start (entry.UseFrom 1 5) ≡ answer.Used 5
-  pub disorder : reply (use_one start 5) (entry.UseFrom 1 5) ≡ answer.Disorder 5
+  pub no_edition : answer_to start (entry.Use 9) ≡ answer.NoEdition 1
+  pub late : answer_to start (entry.UseFrom 1 0) ≡ answer.Late 1
+  pub used : answer_to start (entry.UseFrom 1 5) ≡ answer.Used 5
+  pub disorder : answer_to (use_one start 5) (entry.UseFrom 1 5) ≡ answer.Disorder 5
   pub drops_pending : (after (use_one start 5) (entry.Use 1)).schedule ≡ record { from = 0; edition = 1 } ∷ record { from = 1; edition = 1 } ∷ []
-  pub added : reply start (entry.Add no_rows) ≡ answer.Added 2
-  pub stale : reply (after start (entry.Add no_rows)) (entry.AddOn 1 no_rows) ≡ answer.Stale 2
-  pub newest : reply (after start (entry.Add no_rows)) entry.Newest ≡ answer.Drawn 2 no_rows
-  pub stamped : reply start entry.Stamp ≡ answer.Stamped 1 1 no_rows
+  pub added : answer_to start (entry.Add no_rows []) ≡ answer.Added 2
+  pub stale : answer_to (after start (entry.Add no_rows [])) (entry.AddOn 1 no_rows []) ≡ answer.Stale 2
+  pub newest : answer_to (after start (entry.Add no_rows [])) entry.Newest ≡ answer.Drawn 2 no_rows
+  pub stamped : answer_to start entry.Stamp ≡ answer.Stamped 1 1 no_rows
   pub next : (after start entry.Stamp).next ≡ 2
 
 -- a curve by two points, and the same with a third
@@ -60,26 +60,26 @@ pub record DeskExamples : Type 0 where
   pub trailing_space : request_of false (codes "go ") ≡ BadLine
   pub take_alone : request_of false (codes "take") ≡ BadLine
   pub take_of_several : request_of true (codes "take") ≡ Take
-  pub added : turn_of false (desk_start curved) (Put kind.Cap (table (codes "C1|2000|100"))) ≡ says (record (desk_start curved) { draft = bent }) reply.Added
-  pub saves : turn_of false (record (desk_start curved) { draft = bent }) Save ≡ Ask (entry.Add bent) (saved (record (desk_start curved) { draft = bent }))
+  pub added : way_of false (desk_start curved) (Put kind.Cap (table (codes "C1|2000|100"))) ≡ says (record (desk_start curved) { draft = bent }) reply.Added
+  pub saves : way_of false (record (desk_start curved) { draft = bent }) Save ≡ Ask (entry.Add bent (plans bent)) (saved (record (desk_start curved) { draft = bent }))
   pub one_plan : saved (record (desk_start curved) { draft = bent }) (answer.Added 2) ≡ says (record { draft = bent; base = bent; edition = 2 }) (reply.Saved 2 1)
 
 pub record PlanExamples : Type 0 where
-  pub three : map (λ p. p.0) (plans (database shared)) ≡ plan.Param (codes "T1") ∷ plan.Layout 4001 ∷ plan.Ident ∷ []
+  pub three : map (λ p. p.name) (plans (database shared)) ≡ plan.Param (codes "T1") ∷ plan.Layout 4001 ∷ plan.Ident ∷ []
   pub new_point : touched curved bent ≡ plan.Param (codes "T1") ∷ []
   pub unchanged : touched curved curved ≡ []
 
 -- the history of a run whose desk saves the bent curve and uses it from the second packet on
-abbrev pub bending : Register
+abbrev pub bending : RegisterHistory
 bending =
-    record { seat = 1; entry = entry.Add bent; reply = answer.Added 2 } ∷
+    record { seat = 1; entry = entry.Add bent (plans bent); reply = answer.Added 2 } ∷
     record { seat = 1; entry = entry.UseFrom 2 2; reply = answer.Used 2 } ∷
     record { seat = 0; entry = entry.Stamp; reply = answer.Stamped 1 1 curved } ∷
     record { seat = 0; entry = entry.Stamp; reply = answer.Stamped 2 2 bent } ∷
     record { seat = 0; entry = entry.Stamp; reply = answer.Stamped 3 2 bent } ∷ []
 
 pub record EditionExamples : Type 0 where
-  pub legal : IsRegister curved bending
+  pub legal : IsRegisterHistory curved bending
   pub stamps : stamps bending ≡ (1, 1) ∷ (2, 2) ∷ (3, 2) ∷ []
   pub printed :
       output curved (packet_a ∷ packet_a ∷ packet_a ∷ []) bending [] ≡
@@ -98,16 +98,16 @@ patient = database (given kind.Ocp (table (codes "T1|1|S|0|1000\n")) (given kind
 abbrev pub hasty : Database
 hasty = database (given kind.Ocp (table (codes "T1|1|S|0|1000\n")) (given kind.Ocf (table (codes "T1|2||U\n")) shared))
 
-abbrev pub hastening : Register
+abbrev pub hastening : RegisterHistory
 hastening =
-    record { seat = 1; entry = entry.Add hasty; reply = answer.Added 2 } ∷
+    record { seat = 1; entry = entry.Add hasty (plans hasty); reply = answer.Added 2 } ∷
     record { seat = 1; entry = entry.UseFrom 2 2; reply = answer.Used 2 } ∷
     record { seat = 0; entry = entry.Stamp; reply = answer.Stamped 1 1 patient } ∷
     record { seat = 0; entry = entry.Stamp; reply = answer.Stamped 2 2 hasty } ∷ []
 
 -- a run that is kept over a new number of checks
 pub record CarryExamples : Type 0 where
-  pub legal : IsRegister patient hastening
+  pub legal : IsRegisterHistory patient hastening
   pub printed :
       output patient (packet_a ∷ packet_a ∷ []) hastening [] ≡
       codes "PKT 1 APID 100 COUNT 0 TYPE 3/25 SPID 4001\n" ++

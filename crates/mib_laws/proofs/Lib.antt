@@ -1,6 +1,7 @@
 mod Options
 mod Choices
 pub mod RunFacts
+pub mod OneEdition
 pub mod PlainRunFacts
 pub mod RegisterFacts
 mod Nesting

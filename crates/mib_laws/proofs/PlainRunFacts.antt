@@ -20,7 +20,7 @@ use Rattle.mib_model.specs.Encodings.{Encoding}
 use Rattle.mib_model.specs.Finish.{finished, all_finished}
 use Rattle.mib_model.specs.Fixed.{places, occurrence, occurrences, places_inside, value_at, values_at, fixed_values, holds_place, most_values}
 use Rattle.mib_model.specs.Headers.{header_of}
-use Rattle.mib_model.specs.Interpreter.{Course, Stamped, values_of, start, interpret, record_for, course_after}
+use Rattle.mib_model.specs.Interpreter.{Course, StampedPacket, values_of, start, interpret, record_for, course_after}
 use Rattle.mib_model.specs.Kept.{Memory, empty_memory, all_entered, has_number}
 use Rattle.mib_model.specs.Match.{match_of, agrees, found_of, found_with, service_of, subtype_of, lacks_service, discriminants, criterion}
 use Rattle.mib_model.specs.Orders.{sorted_by}
@@ -208,7 +208,7 @@ values-measured db packet found.Idle fixed = tt
 values-measured db packet (found.Bad why) fixed = tt
 
 -- a packet of the one edition
-abbrev of_first : Database → ℕ → List ℕ → Stamped
+abbrev of_first : Database → ℕ → List ℕ → StampedPacket
 of_first db number packet = record { number = number; packet = packet; edition = 1; tables = db }
 
 -- a course over the one edition, whatever is kept

@@ -2,21 +2,21 @@
 use Rattle.std.specs.Prelude.{◌≡◌, ℕ, ◌<◌, List, ◌++◌, map, length}
 use Rattle.std.specs.List.{range_with_len}
 use Rattle.mib_model.specs.declared.register.Entry.{Entry}
-use Rattle.mib_model.specs.declared.register.Intake.{Intake}
+use Rattle.mib_model.specs.declared.register.Register.{Register}
 use Rattle.mib_model.specs.declared.database.Database.{Database}
 use Rattle.mib_model.specs.Register.{after, edition_for}
-use Rattle.mib_model.specs.RegisterHistories.{Register, IsRegister, stamps}
+use Rattle.mib_model.specs.RegisterHistories.{RegisterHistory, IsRegisterHistory, stamps}
 
 -- an entry leaves the editions as they are, or appends to them
 abbrev pub EditionsOnlyGrow : Type 0
-EditionsOnlyGrow = (s : Intake) (e : Entry) → (more : List Database) × ((after s e).editions ≡ s.editions ++ more)
+EditionsOnlyGrow = (s : Register) (e : Entry) → (more : List Database) × ((after s e).editions ≡ s.editions ++ more)
 
 -- the numbers of the stamps are 1, 2, 3 and so on
 abbrev pub StampsCountUp : Type 0
 StampsCountUp =
-    (first : Database) (history : Register) → IsRegister first history →
+    (first : Database) (history : RegisterHistory) → IsRegisterHistory first history →
     map (λ s. s.0) (stamps history) ≡ range_with_len 1 (length (stamps history))
 
 -- an entry doesn't change the edition of a packet below the next one
 abbrev pub WhatIsStampedStays : Type 0
-WhatIsStampedStays = (s : Intake) (e : Entry) (n : ℕ) → n < s.next → edition_for (after s e) n ≡ edition_for s n
+WhatIsStampedStays = (s : Register) (e : Entry) (n : ℕ) → n < s.next → edition_for (after s e) n ≡ edition_for s n

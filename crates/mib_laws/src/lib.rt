@@ -8,6 +8,6 @@ mod interpreter;
 mod register;
 mod walk;
 
-pub use interpreter::{plain_runs, runs_in_parts};
+pub use interpreter::{one_edition, plain_runs, runs_in_parts};
 pub use register::{editions_only_grow, stamps_count_up, what_is_stamped_stays};
 pub use walk::walks_end;

@@ -4,14 +4,11 @@ use Rattle.std.specs.Prelude.{ℕ, ℤ, Bool, List, Option, Some, None, option_m
 use Rattle.std.specs.List.{find}
 use Rattle.std.specs.Str.{bytes_eq}
 use Rattle.std.specs.Option.{option_or}
+use Rattle.mib_model.specs.declared.plan.CurveRows.{CurveRows}
+use Rattle.mib_model.specs.declared.plan.CurveRows.TheVariants.{Points, Texts, Poly, Log}
 use Rattle.mib_model.specs.declared.rows.PcfRow.{PcfRow}
 use Rattle.mib_model.specs.declared.rows.CurRow.{CurRow}
-use Rattle.mib_model.specs.declared.rows.CafRow.{CafRow}
-use Rattle.mib_model.specs.declared.rows.CapRow.{CapRow}
-use Rattle.mib_model.specs.declared.rows.TxfRow.{TxfRow}
 use Rattle.mib_model.specs.declared.rows.TxpRow.{TxpRow}
-use Rattle.mib_model.specs.declared.rows.McfRow.{McfRow}
-use Rattle.mib_model.specs.declared.rows.LgfRow.{LgfRow}
 use Rattle.mib_model.specs.Calibrated.{Calibrated, StatusText, NoText, LogCurve, RealCurve, calibrated}
 use Rattle.mib_model.specs.Database.{Database}
 use Rattle.mib_model.specs.Kept.{Memory, holds}
@@ -20,13 +17,6 @@ use Rattle.mib_model.specs.Orders.{sorted_by_number}
 use Rattle.mib_model.specs.Points.{by_points}
 use Rattle.mib_model.specs.Polynomials.{coefficients, polynomial}
 use Rattle.mib_model.specs.WholeNumbers.{decimal_whole, lies_from_to}
-
--- the rows of a curve
-pub data CurveRows : Type 0 where
-  Points : (caf : CafRow) (caps : List CapRow) → CurveRows
-  Texts : (txf : TxfRow) (txps : List TxpRow) → CurveRows
-  Poly : (mcf : McfRow) → CurveRows
-  Log : (lgf : LgfRow) → CurveRows
 
 -- raw numbers that are real: RAWFMT `R`
 abbrev pub is_real_format : ℕ → Bool

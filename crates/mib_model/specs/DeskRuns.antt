@@ -1,10 +1,12 @@
 -- Which entries and replies a desk's lines may have. [This profile.]
-use Rattle.std.specs.Prelude.{◌≡◌, ◌⊎◌, ℕ, Bool, true, false, List, [], ◌∷◌, ◌++◌, Option, Some, option_to_list}
+use Rattle.std.specs.Prelude.{◌≡◌, ◌⊎◌, ℕ, Bool, true, false, List, [], ◌∷◌, map, filter_map, Option, Some, None, if◌then◌else◌}
+use Rattle.std.specs.List.{flat_map, list_any}
 use Rattle.mib_model.specs.declared.register.Answer.{Answer}
 use Rattle.mib_model.specs.declared.register.Entry.{Entry}
 use Rattle.mib_model.specs.declared.register.Entry.TheVariants as entry
+use Rattle.mib_model.specs.declared.reply.Reply.{Reply}
 use Rattle.mib_model.specs.declared.reply.Reply.TheVariants as reply
-use Rattle.mib_model.specs.Desk.{DeskReply, Plain, DeskState, Turn, Done, Ask, turn_of}
+use Rattle.mib_model.specs.Desk.{DeskReply, Plain, DeskState, Way, Done, Ask, way_of}
 use Rattle.mib_model.specs.DeskLines.{Request, Put, Delete, Save, Drop, Use, UseFrom, Take, Go, request_of}
 
 -- the entries that a desk made, each with its answer
@@ -12,12 +14,14 @@ abbrev pub Calls : Type 0
 Calls = List (Entry × Answer)
 
 -- a way that was gone to its end: each entry is the one that it asks for
-abbrev pub Follows : Turn → Calls → Option DeskReply → DeskState → Type 0
+abbrev pub Follows : Way → Calls → Option DeskReply → DeskState → Type 0
 Follows (Done r s) calls given state = (calls ≡ []) × (given ≡ r) × (state ≡ s)
 Follows (Ask e on) [] given state = ⊥
 Follows (Ask e on) (call ∷ calls) given state = (call.0 ≡ e) × Follows (on call.1) calls given state
 
--- requests that want of memory may refuse
+-- ---- want of memory
+
+-- whether want of memory may refuse a request
 abbrev pub may_want : Request → Bool
 may_want (Put table row) = true
 may_want (Delete table key) = true
@@ -28,47 +32,67 @@ may_want (UseFrom e k) = true
 may_want Take = true
 may_want other = false
 
--- entries that may stand where memory was then wanting: none, or of several desks the one that looks
-abbrev pub only_looks : Entry → Bool
-only_looks entry.Newest = true
-only_looks (entry.Look e) = true
-only_looks other = false
+-- the entry by which a request of several desks first looks at an edition
+abbrev pub look_of : Request → Option Entry
+look_of Take = Some entry.Newest
+look_of (Use e) = Some (entry.Look e)
+look_of (UseFrom e k) = Some (entry.Look e)
+look_of other = None
 
--- what entries want of memory may leave
-abbrev pub LeavesNothing : Bool → Calls → Type 0
-LeavesNothing several [] = Unit {0}
-LeavesNothing several (call ∷ []) = (several ≡ true) × (only_looks call.0 ≡ true)
-LeavesNothing several (call ∷ next ∷ calls) = ⊥
+-- what want of memory may leave of a request: no entry, or of several desks the one that looks
+abbrev pub LeavesLook : Bool → Request → Calls → Type 0
+LeavesLook several request [] = Unit {0}
+LeavesLook several request (call ∷ []) = (several ≡ true) × (look_of request ≡ Some call.0)
+LeavesLook several request (call ∷ next ∷ calls) = ⊥
 
--- want of memory: the reply WANT, and all stands as before
-pub record Wants (several : Bool) (request : Request) (old : DeskState) (calls : Calls) (given : Option DeskReply) (new : DeskState) : Type 0 where
-  pub may : may_want request ≡ true
-  pub entries : LeavesNothing several calls
-  pub told : given ≡ Some (Plain reply.Want)
-  pub kept : new ≡ old
+-- whether a reply is WANT
+abbrev pub is_want : DeskReply → Bool
+is_want (Plain reply.Want) = true
+is_want other = false
 
--- what a line does
-abbrev pub IsLine : Bool → DeskState → List ℕ → Calls → Option DeskReply → DeskState → Type 0
-IsLine several old line calls given new =
-    Follows (turn_of several old (request_of several line)) calls given new ⊎ Wants several (request_of several line) old calls given new
+-- ---- lines
 
--- a line and those behind it
-pub record Parts (calls : Calls) (replies : List DeskReply) : Type 0 where
-  pub first : Calls
-  pub more : Calls
+-- what came of a line: the state that it found, its entries, its reply where it has one, and the state that it left
+pub record LineRun : Type 0 where
+  pub line : List ℕ
+  pub old : DeskState
+  pub calls : Calls
   pub reply : Option DeskReply
-  pub rest : List DeskReply
-  pub state : DeskState
-  pub in_calls : calls ≡ first ++ more
-  pub in_replies : replies ≡ option_to_list reply ++ rest
+  pub new : DeskState
 
--- what lines do, one after the other
-abbrev pub IsDesk : Bool → DeskState → List (List ℕ) → Calls → List DeskReply → DeskState → Type 0
-IsDesk several old [] calls replies new = (calls ≡ []) × (replies ≡ []) × (new ≡ old)
-IsDesk several old (line ∷ lines) calls replies new =
-    (p : Parts calls replies) × IsLine several old line p.first p.reply p.state × IsDesk several p.state lines p.more p.rest new
+-- a request that want of memory refused: the reply is WANT, and all stands as before
+pub record Wants (several : Bool) (request : Request) (run : LineRun) : Type 0 where
+  pub may : may_want request ≡ true
+  pub entries : LeavesLook several request run.calls
+  pub told : run.reply ≡ Some (Plain reply.Want)
+  pub kept : run.new ≡ run.old
 
--- the prelude: the lines up to and with the first `go`, or all where there is none
+-- a line went the way of its request to the end, or want of memory refused it
+abbrev pub IsLine : Bool → LineRun → Type 0
+IsLine several run =
+    Follows (way_of several run.old (request_of several run.line)) run.calls run.reply run.new ⊎ Wants several (request_of several run.line) run
+
+-- lines one after the other, from a state to a state: each finds what the one before it left
+abbrev pub IsChain : Bool → DeskState → List LineRun → DeskState → Type 0
+IsChain several old [] new = new ≡ old
+IsChain several old (run ∷ runs) new = (run.old ≡ old) × IsLine several run × IsChain several run.new runs new
+
+-- what lines do from a state on: their entries with the answers, their replies, and the state that they leave
+pub record IsDesk (several : Bool) (old : DeskState) (lines : List (List ℕ)) (calls : Calls) (replies : List DeskReply) (new : DeskState) : Type 0 where
+  pub runs : List LineRun
+  pub of_lines : map (λ run. run.line) runs ≡ lines
+  pub chain : IsChain several old runs new
+  pub in_calls : flat_map (λ run. run.calls) runs ≡ calls
+  pub in_replies : filter_map (λ run. run.reply) runs ≡ replies
+
+-- ---- the prelude
+
+-- whether a request is `go`
 abbrev pub is_go : Request → Bool
 is_go Go = true
 is_go other = false
+
+-- the lines up to and with the first `go`, or all where there is none
+abbrev pub prelude : Bool → List (List ℕ) → List (List ℕ)
+prelude several [] = []
+prelude several (line ∷ lines) = line ∷ (if is_go (request_of several line) then [] else prelude several lines)

@@ -26,7 +26,7 @@ title_of db (found.Spid spid service subtype tpsd dfhsize) = option_and_then (λ
 title_of db other = None
 
 -- a packet with its number, its edition and the tables of that edition
-pub record Stamped : Type 0 where
+pub record StampedPacket : Type 0 where
   pub number : ℕ
   pub packet : List ℕ
   pub edition : ℕ
@@ -43,17 +43,17 @@ abbrev pub start : Database → Course
 start first = record { memory = empty_memory; edition = 1; tables = first }
 
 -- what is kept where a packet begins: at a change of edition what is carried over
-abbrev pub memory_for : Course → Stamped → Memory
+abbrev pub memory_for : Course → StampedPacket → Memory
 memory_for c s = if s.edition == c.edition then c.memory else carry c.memory c.tables s.tables
 
 -- all values of a packet finished: the raw numbers of all are entered first
-abbrev pub finished_for : Stamped → Memory → Memory × List Told
+abbrev pub finished_for : StampedPacket → Memory → Memory × List Told
 finished_for s memory =
     all_finished s.tables (all_entered memory (values_of s.tables s.packet (match_of s.tables s.packet)).0)
     (values_of s.tables s.packet (match_of s.tables s.packet)).0
 
 -- the record of a packet
-unfoldable pub record_for : Course → Stamped → Record
+unfoldable pub record_for : Course → StampedPacket → Record
 record_for c s = record {
   edition = if s.edition == c.edition then None else Some s.edition;
   number = s.number;
@@ -65,16 +65,16 @@ record_for c s = record {
 }
 
 -- where the interpreter stands after a packet
-unfoldable pub course_after : Course → Stamped → Course
+unfoldable pub course_after : Course → StampedPacket → Course
 course_after c s = record { memory = (finished_for s (memory_for c s)).0; edition = s.edition; tables = s.tables }
 
 -- the records of packets, each by what the ones before have left
-unfoldable pub interpret : Course → List Stamped → List Record
+unfoldable pub interpret : Course → List StampedPacket → List Record
 interpret c [] = []
 interpret c (s ∷ ss) = record_for c s ∷ interpret (course_after c s) ss
 
 -- where the interpreter stands after packets
-unfoldable pub course_after_all : Course → List Stamped → Course
+unfoldable pub course_after_all : Course → List StampedPacket → Course
 course_after_all c [] = c
 course_after_all c (s ∷ ss) = course_after_all (course_after c s) ss
 

@@ -1,10 +1,9 @@
 -- What a packet is by the tables. [CCSDS 133.0-B, packet version number, packet type and idle packets; the service type and
 -- subtype of ECSS-E-70-41A, telemetry packet data field header; the discriminants of the SCOS-2000 Database Import ICD,
 -- pic and pid, in this profile.]
-use Rattle.std.specs.Prelude.{ℕ, ◌*◌, ℤ, pos, negsuc, Bool, List, length, slice_index, nat_le, nat_lt, ◌==◌, ◌&&◌, not, if◌then◌else◌, Option, Some, None}
+use Rattle.std.specs.Prelude.{ℕ, ◌*◌, ℤ, pos, negsuc, Bool, true, false, List, length, slice_index, nat_le, nat_lt, nat_eq, ◌==◌, ◌&&◌, not, if◌then◌else◌, Option, Some, None}
 use Rattle.std.specs.List.{find}
 use Rattle.std.specs.Option.{option_eq, option_or}
-use Rattle.std.specs.Prelude.{nat_eq}
 use Rattle.mib_model.specs.declared.rows.PicRow.{PicRow}
 use Rattle.mib_model.specs.declared.rows.PidRow.{PidRow}
 use Rattle.mib_model.specs.declared.packet.Found.{Found}
@@ -71,6 +70,12 @@ found_of service subtype (Some row) = Spid row.spid service subtype row.tpsd row
 abbrev pub found_with : List PidRow → List ℕ → Option (ℕ × ℕ) → Found
 found_with pids packet None = Bad why.Short
 found_with pids packet (Some values) = found_of (service_of packet) (subtype_of packet) (find (agrees packet values) pids)
+
+-- whether a packet is well-formed by what it is: a packet of the database, or unknown
+abbrev pub is_well_formed : Found → Bool
+is_well_formed (Spid spid service subtype tpsd dfhsize) = true
+is_well_formed (Unknown service subtype) = true
+is_well_formed other = false
 
 -- what a packet is by rows of pid and pic: the first of version, type, idle APID, length and identification decides
 abbrev pub match_by : List PidRow → List PicRow → List ℕ → Found

@@ -1,32 +1,46 @@
 -- What a run prints: the interpreter's records over its stamped packets, and the rest of the feed. [This profile.]
 use Rattle.std.specs.Prelude.{ℕ, List, ◌++◌, map, length}
 use Rattle.std.specs.List.{zip, range_with_len}
-use Rattle.mib_model.specs.declared.register.Intake.{Intake}
+use Rattle.histories.specs.History.{move}
+use Rattle.histories.specs.declared.history.Move.{Move}
+use Rattle.mib_model.specs.declared.register.Answer.{Answer}
+use Rattle.mib_model.specs.declared.register.Answer.TheVariants.{Stamped}
+use Rattle.mib_model.specs.declared.register.Entry.{Entry}
+use Rattle.mib_model.specs.declared.register.Entry.TheVariants.{Stamp}
+use Rattle.mib_model.specs.declared.register.Register.{Register}
 use Rattle.mib_model.specs.Database.{Database}
-use Rattle.mib_model.specs.Interpreter.{Stamped, start, interpret, records_text}
+use Rattle.mib_model.specs.Interpreter.{StampedPacket, start, interpret, records_text}
 use Rattle.mib_model.specs.Register.{tables_of}
-use Rattle.mib_model.specs.RegisterHistories.{Register, register_after, stamps}
+use Rattle.mib_model.specs.RegisterHistories.{RegisterHistory, register_after, stamps}
 
 -- a packet beside its stamp, with the tables of its edition
-abbrev pub stamped_in : Intake → (ℕ × ℕ) × List ℕ → Stamped
+abbrev pub stamped_in : Register → (ℕ × ℕ) × List ℕ → StampedPacket
 stamped_in register pair = record { number = pair.0.0; packet = pair.1; edition = pair.0.1; tables = tables_of register pair.0.1 }
 
 -- the i-th packet with the i-th stamp of a history
-unfoldable pub stamped_by : Database → Register → List (List ℕ) → List Stamped
+unfoldable pub stamped_by : Database → RegisterHistory → List (List ℕ) → List StampedPacket
 stamped_by first history packets = map (stamped_in (register_after first history)) (zip (stamps history) packets)
 
 -- the text of a live run
-unfoldable pub output : Database → List (List ℕ) → Register → List ℕ → List ℕ
+unfoldable pub output : Database → List (List ℕ) → RegisterHistory → List ℕ → List ℕ
 output first packets history tail = records_text (interpret (start first) (stamped_by first history packets)) ++ tail
 
--- packets numbered from some number on, all of edition 1
-abbrev pub stamped_first : Database → ℕ × List ℕ → Stamped
+-- a numbered packet of edition 1
+abbrev pub stamped_first : Database → ℕ × List ℕ → StampedPacket
 stamped_first first pair = record { number = pair.0; packet = pair.1; edition = 1; tables = first }
 
 -- packets numbered from a number on, each of edition 1
-unfoldable pub stamped_from : Database → ℕ → List (List ℕ) → List Stamped
+unfoldable pub stamped_from : Database → ℕ → List (List ℕ) → List StampedPacket
 stamped_from first number packets = map (stamped_first first) (zip (range_with_len number (length packets)) packets)
+
+-- the stamp of a packet in a run with one edition
+abbrev pub stamp_of_one : Database → ℕ → Move Entry Answer
+stamp_of_one first number = move 0 Stamp (Stamped number 1 first)
+
+-- the history of a run with one edition: as many stamps as packets
+abbrev pub stamps_of_one : Database → List (List ℕ) → RegisterHistory
+stamps_of_one first packets = map (stamp_of_one first) (range_with_len 1 (length packets))
 
 -- the text of a run with one edition
 unfoldable pub output_of_one : Database → List (List ℕ) → List ℕ → List ℕ
-output_of_one first packets tail = records_text (interpret (start first) (stamped_from first 1 packets)) ++ tail
+output_of_one first packets tail = output first packets (stamps_of_one first packets) tail

@@ -3,35 +3,22 @@ use Rattle.std.specs.Prelude.{ℕ, pos, Bool, List, [], ◌∷◌, ◌++◌, map
 use Rattle.std.specs.List.{list_any}
 use Rattle.std.specs.Cmp.Lexicographic.{slice_cmp}
 use Rattle.std.specs.Ordering.{nat_cmp, is_le}
-use Rattle.mib_model.specs.declared.plan.PlanName.{PlanName}
+use Rattle.mib_model.specs.declared.plan.CurveRows.{CurveRows}
+use Rattle.mib_model.specs.declared.plan.Plan.{Plan}
 use Rattle.mib_model.specs.declared.plan.PlanName.TheVariants as plan
+use Rattle.mib_model.specs.declared.plan.Slice.TheVariants as slice
 use Rattle.mib_model.specs.declared.plan.TypeItem.{TypeItem}
 use Rattle.mib_model.specs.declared.rows.CurRow.{CurRow}
-use Rattle.mib_model.specs.declared.rows.OcfRow.{OcfRow}
-use Rattle.mib_model.specs.declared.rows.OcpRow.{OcpRow}
 use Rattle.mib_model.specs.declared.rows.PcfRow.{PcfRow}
-use Rattle.mib_model.specs.declared.rows.PicRow.{PicRow}
 use Rattle.mib_model.specs.declared.rows.PidRow.{PidRow}
 use Rattle.mib_model.specs.declared.rows.PlfRow.{PlfRow}
-use Rattle.mib_model.specs.declared.rows.VpdRow.{VpdRow}
 use Rattle.mib_model.specs.Carry.{check_of}
 use Rattle.mib_model.specs.Checks.{checks_of}
-use Rattle.mib_model.specs.Curves.{CurveRows, curve_named, selections}
+use Rattle.mib_model.specs.Curves.{curve_named, selections}
 use Rattle.mib_model.specs.Database.{Database}
 use Rattle.mib_model.specs.Orders.{sorted_by, sorted_by_number}
 use Rattle.mib_model.specs.Parameters.{parameter, is_measured, endian_of}
 use Rattle.mib_model.specs.Structures.{structure, is_deduced}
-
--- the rows that a plan depends on
-pub data Slice : Type 0 where
-  ParamSlice : (pcf : PcfRow) (curs : List CurRow) (curves : List (Option CurveRows)) (ocf : Option OcfRow) (ocps : List OcpRow) → Slice
-  LayoutSlice : (pid : PidRow) (plfs : List PlfRow) (types : List TypeItem) → Slice
-  StructureSlice : (vpds : List VpdRow) (types : List TypeItem) → Slice
-  IdentSlice : (pids : List PidRow) (pics : List PicRow) → Slice
-
--- a plan: its name and its slice
-abbrev pub Plan : Type 0
-Plan = PlanName × Slice
 
 -- what a layout depends on of a parameter
 abbrev pub type_item : PcfRow → TypeItem
@@ -59,7 +46,7 @@ has_plan row = is_measured row && not (is_deduced row)
 -- the plan of a parameter
 abbrev pub param_plan : Database → PcfRow → Plan
 param_plan db row =
-    (plan.Param row.name, ParamSlice row (selections db row.name) (curves_for db row) (check_of db row.name) (checks_of db row.name))
+    record { name = plan.Param row.name; slice = slice.Param row (selections db row.name) (curves_for db row) (check_of db row.name) (checks_of db row.name) }
 
 -- names in the order of their octets
 abbrev pub may_precede : List ℕ → List ℕ → Bool
@@ -82,7 +69,10 @@ layout_rows db spid = filter (λ row. row.spid == spid) db.plf
 -- the plan of a fixed layout
 abbrev pub layout_plan : Database → PidRow → Plan
 layout_plan db row =
-    (plan.Layout row.spid, LayoutSlice row (layout_rows db row.spid) (type_items db (map (λ plf. plf.name) (layout_rows db row.spid))))
+    record {
+      name = plan.Layout row.spid;
+      slice = slice.Layout row (layout_rows db row.spid) (type_items db (map (λ plf. plf.name) (layout_rows db row.spid)));
+    }
 
 -- the plans of fixed layouts, by SPID
 unfoldable pub layout_plans : Database → List Plan
@@ -98,7 +88,10 @@ distinct (n ∷ ns) = if list_any (λ m. m == n) ns then distinct ns else n ∷ 
 -- the plan of a structure
 abbrev pub structure_plan : Database → ℕ → Plan
 structure_plan db tpsd =
-    (plan.Structure tpsd, StructureSlice (structure db (pos tpsd)) (type_items db (map (λ row. row.name) (structure db (pos tpsd)))))
+    record {
+      name = plan.Structure tpsd;
+      slice = slice.Structure (structure db (pos tpsd)) (type_items db (map (λ row. row.name) (structure db (pos tpsd))));
+    }
 
 -- the plans of structures, by TPSD
 unfoldable pub structure_plans : Database → List Plan
@@ -108,7 +101,7 @@ structure_plans db = map (structure_plan db) (sorted_by_number (λ n. n) (distin
 
 -- the plan of identification
 abbrev pub ident_plan : Database → Plan
-ident_plan db = (plan.Ident, IdentSlice db.pid db.pic)
+ident_plan db = record { name = plan.Ident; slice = slice.Ident db.pid db.pic }
 
 -- all plans, in their order
 unfoldable pub plans : Database → List Plan

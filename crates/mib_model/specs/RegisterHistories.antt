@@ -1,25 +1,27 @@
 -- What the register's histories say of packets. [This profile.]
 use Rattle.std.specs.Prelude.{◌≡◌, ℕ, zero, suc, Bool, true, false, List, filter_map, Option, Some, None}
+use Rattle.std.specs.List.{All}
 use Rattle.histories.specs.History.{IsLegal, state_after}
 use Rattle.histories.specs.declared.history.Move.{Move}
 use Rattle.mib_model.specs.declared.register.Answer.{Answer}
 use Rattle.mib_model.specs.declared.register.Answer.TheVariants.{Stamped}
 use Rattle.mib_model.specs.declared.register.Entry.{Entry}
-use Rattle.mib_model.specs.declared.register.Entry.TheVariants.{Stamp}
-use Rattle.mib_model.specs.declared.register.Intake.{Intake}
+use Rattle.mib_model.specs.declared.register.Entry.TheVariants.{Stamp, Add, AddOn}
+use Rattle.mib_model.specs.declared.register.Register.{Register}
 use Rattle.mib_model.specs.Database.{Database}
-use Rattle.mib_model.specs.Register.{opening, reply, after}
+use Rattle.mib_model.specs.Plans.{plans}
+use Rattle.mib_model.specs.Register.{opening, answer_to, after}
 
 -- a history of the register
-abbrev pub Register : Type 0
-Register = List (Move Entry Answer)
+abbrev pub RegisterHistory : Type 0
+RegisterHistory = List (Move Entry Answer)
 
 -- each reply is the register's, from the opening over one edition on
-abbrev pub IsRegister : Database → Register → Type 0
-IsRegister first history = IsLegal reply after (opening first) history
+abbrev pub IsRegisterHistory : Database → RegisterHistory → Type 0
+IsRegisterHistory first history = IsLegal answer_to after (opening first) history
 
 -- the register at the end of a history
-abbrev pub register_after : Database → Register → Intake
+abbrev pub register_after : Database → RegisterHistory → Register
 register_after first history = state_after after (opening first) history
 
 -- the entry of a packet
@@ -38,5 +40,15 @@ stamp_in (Stamped number edition tables) = Some (number, edition)
 stamp_in other = None
 
 -- the stamps of a history, in their order
-abbrev pub stamps : Register → List (ℕ × ℕ)
+abbrev pub stamps : RegisterHistory → List (ℕ × ℕ)
 stamps history = filter_map (λ m. stamp_in m.reply) history
+
+-- an edition is added with the plans of its tables
+abbrev pub HasItsPlans : Entry → Type 0
+HasItsPlans (Add tables added) = added ≡ plans tables
+HasItsPlans (AddOn base tables added) = added ≡ plans tables
+HasItsPlans other = Unit {0}
+
+-- each edition that a history adds has the plans of its tables
+abbrev pub AddsItsPlans : RegisterHistory → Type 0
+AddsItsPlans history = All (λ m. HasItsPlans m.entry) history

@@ -4,14 +4,18 @@ use Rattle.std.specs.List.{find}
 use Rattle.std.specs.Option.{option_eq}
 use Rattle.std.specs.Str.{bytes_eq}
 use Rattle.std.specs.Cmp.Lexicographic.{pointwise}
+use Rattle.mib_model.specs.declared.plan.CurveRows.{CurveRows}
+use Rattle.mib_model.specs.declared.plan.CurveRows.TheVariants.{Points, Texts, Poly, Log}
+use Rattle.mib_model.specs.declared.plan.Plan.{Plan}
 use Rattle.mib_model.specs.declared.plan.PlanName.{PlanName}
 use Rattle.mib_model.specs.declared.plan.PlanName.TheVariants as plan
+use Rattle.mib_model.specs.declared.plan.Slice.{Slice}
+use Rattle.mib_model.specs.declared.plan.Slice.TheVariants as slice
 use Rattle.mib_model.specs.declared.plan.TypeItem.{TypeItem}
 use Rattle.mib_model.specs.declared.shape.Endian.{Endian}
 use Rattle.mib_model.specs.declared.shape.Endian.TheVariants as endian
-use Rattle.mib_model.specs.Curves.{CurveRows, Points, Texts, Poly, Log}
 use Rattle.mib_model.specs.Database.{Database}
-use Rattle.mib_model.specs.Plans.{Plan, Slice, ParamSlice, LayoutSlice, StructureSlice, IdentSlice, plans}
+use Rattle.mib_model.specs.Plans.{plans}
 use Rattle.mib_model.specs.SameRows.{same_pcf, same_pid, same_pic, same_plf, same_vpd, same_cur, same_caf, same_cap, same_txf, same_txp, same_mcf, same_lgf, same_ocf, same_ocp}
 
 -- whether two names of plans are equal
@@ -44,29 +48,29 @@ same_curve x y = false
 
 -- whether two plans depend on the same rows, in the same order
 unfoldable pub same_slice : Slice → Slice → Bool
-same_slice (ParamSlice pcf curs curves ocf ocps) (ParamSlice pcf2 curs2 curves2 ocf2 ocps2) =
+same_slice (slice.Param pcf curs curves ocf ocps) (slice.Param pcf2 curs2 curves2 ocf2 ocps2) =
     same_pcf pcf pcf2 && pointwise same_cur curs curs2 && pointwise (option_eq same_curve) curves curves2 &&
     option_eq same_ocf ocf ocf2 && pointwise same_ocp ocps ocps2
-same_slice (LayoutSlice pid plfs types) (LayoutSlice pid2 plfs2 types2) =
+same_slice (slice.Layout pid plfs types) (slice.Layout pid2 plfs2 types2) =
     same_pid pid pid2 && pointwise same_plf plfs plfs2 && pointwise same_type_item types types2
-same_slice (StructureSlice vpds types) (StructureSlice vpds2 types2) =
+same_slice (slice.Structure vpds types) (slice.Structure vpds2 types2) =
     pointwise same_vpd vpds vpds2 && pointwise same_type_item types types2
-same_slice (IdentSlice pids pics) (IdentSlice pids2 pics2) = pointwise same_pid pids pids2 && pointwise same_pic pics pics2
+same_slice (slice.Ident pids pics) (slice.Ident pids2 pics2) = pointwise same_pid pids pids2 && pointwise same_pic pics pics2
 same_slice x y = false
 
 -- the plan of a name among some
 abbrev pub plan_named : List Plan → PlanName → Option Plan
-plan_named old name = find (λ p. same_plan_name p.0 name) old
+plan_named old name = find (λ p. same_plan_name p.name name) old
 
 -- whether an old plan is there, with the rows of the new one
 abbrev pub has_same_slice : Plan → Option Plan → Bool
 has_same_slice new None = false
-has_same_slice new (Some old) = same_slice old.1 new.1
+has_same_slice new (Some old) = same_slice old.slice new.slice
 
 -- a plan that is new, or whose rows differ
 abbrev pub is_touched : List Plan → Plan → Bool
-is_touched old new = not (has_same_slice new (plan_named old new.0))
+is_touched old new = not (has_same_slice new (plan_named old new.name))
 
 -- the names of the new plans that the old ones lack or have with other rows
 unfoldable pub touched : Database → Database → List PlanName
-touched old new = map (λ p. p.0) (filter (is_touched (plans old)) (plans new))
+touched old new = map (λ p. p.name) (filter (is_touched (plans old)) (plans new))

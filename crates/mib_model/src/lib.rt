@@ -39,8 +39,8 @@ pub use meaning::{MadeFor, Rows};
 pub use name::{Name, Text};
 pub use number::{Dec, DecFault, Eng, Over};
 pub use packet::{BadWhy, Ended, Found, Header, IDLE_APID, Value};
-pub use plan::{PlanName, TypeItem};
-pub use register::{Answer, Entry, Intake, Scheduled};
+pub use plan::{CurveRows, Plan, PlanName, Slice, TypeItem};
+pub use register::{Answer, Entry, Register, Scheduled};
 pub use reply::Reply;
 pub use rows::{
     Bound, CafRow, CapRow, CurRow, LgfRow, McfRow, OcfRow, OcpRow, PcfRow, PicRow, PidRow, PlfRow,

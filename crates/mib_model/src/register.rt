@@ -1,4 +1,5 @@
 use crate::database::Database;
+use crate::plan::Plan;
 use std::collections::LinkedList;
 
 /// An activation: from this packet on, this edition.
@@ -9,7 +10,7 @@ pub struct Scheduled {
 
 /// The state of the register of editions as contracts see it: the number of the next packet, the tables of the
 /// editions, of which the first has the number 1, and the activations in the order in which they were made.
-pub struct Intake {
+pub struct Register {
     pub next: u64,
     pub editions: LinkedList<Database>,
     pub schedule: LinkedList<Scheduled>,
@@ -19,10 +20,17 @@ pub struct Intake {
 pub enum Entry {
     /// A packet is given its number and edition.
     Stamp,
-    /// Tables are added as a new edition.
-    Add { tables: Database },
-    /// The same, if this is still the newest edition.
-    AddOn { base: u32, tables: Database },
+    /// Tables are added as a new edition, with their plans.
+    Add {
+        tables: Database,
+        plans: LinkedList<Plan>,
+    },
+    /// Tables are added with their plans, if the base is still the newest edition.
+    AddOn {
+        base: u32,
+        tables: Database,
+        plans: LinkedList<Plan>,
+    },
     /// An edition is used from the next packet on.
     Use { edition: u32 },
     /// An edition is used from this packet on.

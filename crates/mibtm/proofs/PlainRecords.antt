@@ -15,6 +15,7 @@ use Rattle.mib_model.specs.Texts.{record_text, record_body, head_text, told_text
 use Rattle.std.specs.Option.{option_or}
 use Rattle.mib_model.specs.Unbuilt.{any_row, is_unbuilt_pcf, is_unbuilt_pid, is_unbuilt_plf, unbuilt, unbuilt_in}
 use Rattle.mib_laws.specs.Runs as Laws
+use Rattle.mib_laws.proofs.OneEdition.{output-one}
 use Rattle.mib_laws.proofs.PlainRunFacts.{IsFixed, built-from, interpret-plain, match-fixed}
 use Rattle.mibtm.specs.Readings.{IsBuilt, plain_record, found_values_text, readings_text}
 use Rattle.mibtm.specs.Sources.{fixed_tables}
@@ -60,9 +61,8 @@ records-plain db number (packet ∷ packets) built =
 
 -- the text of a run of packets
 pub output-plain : (db : Database) (packets : List (List ℕ)) (tail : List ℕ) → IsBuilt db → output_of_one db packets tail ≡ plain_records db 1 packets ++ tail
-unfolding output_of_one
 output-plain db packets tail built =
-    ap (λ records. records_text records ++ tail) (interpret-plain db built.all 1 packets) ∙ ap (λ t. t ++ tail) (records-plain db 1 packets built)
+    output-one db packets tail ∙ ap (λ records. records_text records ++ tail) (interpret-plain db built.all 1 packets) ∙ ap (λ t. t ++ tail) (records-plain db 1 packets built)
 
 pub plain_records-nil : (db : Database) (number : ℕ) → plain_records db number [] ≡ []
 unfolding plain_records

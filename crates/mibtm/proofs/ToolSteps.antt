@@ -7,7 +7,7 @@ use Rattle.mib_model.specs.declared.code.Code.TheVariants as code
 use Rattle.mib_model.specs.declared.database.Database.{Database}
 use Rattle.mib_model.specs.declared.fault.MibFault.{MibFault}
 use Rattle.mib_model.specs.Interpreter.{interpret}
-use Rattle.mib_model.specs.Output.{output_of_one, stamped_from}
+use Rattle.mib_model.specs.Output.{output_of_one, output, stamped_by}
 use Rattle.mib_model.specs.Packets.{IsPacket}
 use Rattle.session.specs.Sources.{Files}
 use Rattle.mib_model.specs.declared.code.Input.TheVariants as input
@@ -18,7 +18,7 @@ use Rattle.mibtm.specs.Checking.{Checks, IsSummaryCode}
 
 -- no packet gives no text
 output-nothing : (db : Database) → output_of_one db [] [] ≡ []
-unfolding output_of_one interpret stamped_from
+unfolding output_of_one output stamped_by interpret
 output-nothing db = refl
 
 -- nothing was printed
