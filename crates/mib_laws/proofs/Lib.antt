@@ -4,7 +4,11 @@ pub mod RunFacts
 pub mod OneEdition
 pub mod PlainRunFacts
 pub mod RegisterFacts
+pub mod CutFacts
+pub mod DeskFacts
 mod Nesting
 mod WalkFacts
 mod Sorting
 mod SoundStructures
+mod LimitFacts
+mod Ends

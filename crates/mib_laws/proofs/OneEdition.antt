@@ -30,7 +30,7 @@ unfolding output_of_one output stamped_by stamped_from
 output-one first packets tail =
     let ns = range_with_len 1 (length packets) in
     let tables : tables_of (register_after first (stamps_of_one first packets)) 1 ≡ first =
-      ap (λ es. slice_index_or es 0 no_rows) (editions-stay first (opening first) ns) in
+    ap (λ es. slice_index_or es 0 no_rows) (editions-stay first (opening first) ns) in
     ap (λ s. records_text (interpret (start first) s) ++ tail) (stamped-same first (register_after first (stamps_of_one first packets)) tables ns packets)
 
 -- a register with one edition whose next packet has this number

@@ -1,10 +1,10 @@
 -- What an entry changes of the register.
-use Rattle.std.proofs.Common.{◌≡◌, ℕ, ◌+◌, ◌<◌, Bool, true, false, not, cond, List, [], ◌∷◌, ◌++◌, map, filter, length, Some, None, unwrap_or, sym, refl, ap, subst, ◌∙◌, arith, nat_lt, nat_le, nat_eq}
+use Rattle.std.proofs.Common.{◌≡◌, ℕ, zero, suc, ◌+◌, ◌<◌, Bool, true, false, not, cond, List, [], ◌∷◌, ◌++◌, map, filter, filter_map, length, Option, Some, None, unwrap_or, sym, refl, ap, subst, ◌∙◌, arith, nat_lt, nat_le, nat_eq, ◌==◌}
 use Rattle.std.proofs.lemmas.List.{append-nil}
 use Rattle.std.proofs.lemmas.Bool.{ltb-false}
 use Rattle.std.proofs.lemmas.List.Elements.{filter-append}
 use Rattle.std.specs.List.{range_with_len, last_or, cons_option}
-use Rattle.histories.specs.History.{IsLegal}
+use Rattle.histories.specs.History.{IsLegal, Permits, calls_of, move}
 use Rattle.mib_model.specs.declared.database.Database.{Database}
 use Rattle.mib_model.specs.declared.register.Answer.{Answer}
 use Rattle.mib_model.specs.declared.register.Answer.TheVariants.{Added, FullEditions, Stale, Used, NoEdition, Late, Disorder, FullPending, Drawn}
@@ -13,7 +13,8 @@ use Rattle.mib_model.specs.declared.register.Entry.TheVariants.{Stamp, Add, AddO
 use Rattle.mib_model.specs.declared.register.Register.{Register}
 use Rattle.mib_model.specs.declared.register.Scheduled.{Scheduled}
 use Rattle.mib_model.specs.Register.{opening, answer_to, after, added, used_from, with_tables, with_activation, is_pending, edition_for, has_edition, count_of_editions, is_disorder, last_pending, pending, most_pending, most_editions, tables_of}
-use Rattle.mib_model.specs.RegisterHistories.{RegisterHistory, IsRegisterHistory, stamps, stamp_in}
+use Rattle.mib_model.specs.RegisterHistories.{RegisterHistory, IsRegisterHistory, MayEnter, is_stamp, stamps, stamp_in}
+use Rattle.mib_laws.specs.Registers.{SeatShowsStamps}
 use Rattle.mib_laws.proofs.Choices.{choice}
 
 -- EDITIONS: those of an entry that adds tables, and of all others
@@ -100,6 +101,36 @@ count-from s (m ∷ ms) legal = count-one s m.entry m.reply (stamps ms) (counts 
 
 pub count-up : (first : Database) (history : RegisterHistory) → IsRegisterHistory first history → CountUp 1 (stamps history)
 count-up first history legal = count-from (opening first) history legal
+
+-- SEATS: what is no stamp shows none, and each stamp is of seat 0
+quiet : (s : Register) (e : Entry) → is_stamp e ≡ false → stamp_in (answer_to s e) ≡ None
+unfolding answer_to
+quiet s Stamp other = absurd (subst (λ c. cond c (Unit {0}) ⊥) other tt)
+quiet s (Add tables plans) other = added-quiet s
+quiet s (AddOn base tables plans) other =
+    choice (λ a. stamp_in a ≡ None) (nat_eq base (count_of_editions s)) (added s) (Stale (count_of_editions s)) (λ h. added-quiet s) (λ h. refl)
+quiet s (Use e) other = look-quiet s (has_edition s e) (Used s.next) refl
+quiet s (UseFrom e k) other = used_from-quiet s e k
+quiet s Newest other = refl
+quiet s (Look e) other = look-quiet s (has_edition s e) (Drawn e (tables_of s e)) refl
+
+shown : List (Entry × Answer) → List (ℕ × ℕ)
+shown calls = filter_map (λ call. stamp_in call.1) calls
+
+seat-stamps : (s : Register) (seat : ℕ) (e : Entry) (a : Answer) (rest : RegisterHistory) → a ≡ answer_to s e → MayEnter seat e → stamps rest ≡ shown (calls_of 0 rest)
+    → cons_option (stamp_in a) (stamps rest) ≡ shown (calls_of 0 (move seat e a ∷ rest))
+unfolding shown
+seat-stamps s zero e a rest is may same = ap (cons_option (stamp_in a)) same
+seat-stamps s (suc desk) e a rest is may same = let none : stamp_in a ≡ None = ap stamp_in is ∙ quiet s e may in let other : (suc desk == 0) ≡ false = search arith in rw (none, other) same
+
+seats-from : (s : Register) (history : RegisterHistory) → IsLegal answer_to after s history → Permits MayEnter history → stamps history ≡ shown (calls_of 0 history)
+unfolding shown
+seats-from s [] legal permits = refl
+seats-from s (m ∷ ms) legal permits = seat-stamps s m.seat m.entry m.reply ms legal.0 permits.0 (seats-from (after s m.entry) ms legal.1 permits.1)
+
+pub seats-show : SeatShowsStamps
+unfolding shown
+seats-show first history legal permits = seats-from (opening first) history legal permits
 
 -- SCHEDULE: a packet below the next one
 not_pending : (s : Register) (n : ℕ) (pair : Scheduled) → n < s.next → nat_le pair.from n ≡ true → not (is_pending s pair) ≡ true

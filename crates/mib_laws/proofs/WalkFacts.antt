@@ -19,7 +19,7 @@ module _ (db : Database) (packet : List ℕ) (d : ℕ) where
   more_on k m r more (Goes on) h = more on h
   more_on k m r more (Ends e values) h = h
 
-  walked-more : (k m : ℕ) (w : Walking) (r : Extracted) → k ≤ m → walked db packet k w ≡ Some r → walked db packet m w ≡ Some r
+  pub walked-more : (k m : ℕ) (w : Walking) (r : Extracted) → k ≤ m → walked db packet k w ≡ Some r → walked db packet m w ≡ Some r
   unfolding walked
   walked-more zero m w r le h = absurd (none-some r h)
   walked-more (suc k) zero w r le h = absurd (omega (arith, le))

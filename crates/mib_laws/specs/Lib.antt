@@ -1,3 +1,5 @@
 pub mod Runs
 pub mod Registers
 pub mod Walks
+pub mod Cuts
+pub mod Desks

@@ -39,9 +39,13 @@ pub enum CurveRows {
         txps: LinkedList<TxpRow>,
     },
     /// A polynomial.
-    Poly { mcf: McfRow },
+    Poly {
+        mcf: McfRow,
+    },
     /// A logarithmic curve.
-    Log { lgf: LgfRow },
+    Log {
+        lgf: LgfRow,
+    },
 }
 
 /// The rows that a plan depends on, as contracts see them.

@@ -32,13 +32,20 @@ pub enum Entry {
         plans: LinkedList<Plan>,
     },
     /// An edition is used from the next packet on.
-    Use { edition: u32 },
+    Use {
+        edition: u32,
+    },
     /// An edition is used from this packet on.
-    UseFrom { edition: u32, from: u64 },
+    UseFrom {
+        edition: u32,
+        from: u64,
+    },
     /// Which edition is the newest.
     Newest,
     /// Whether there is an edition.
-    Look { edition: u32 },
+    Look {
+        edition: u32,
+    },
 }
 
 /// The reply to an entry, as contracts see it; with an edition that is handed out stand its tables.
