@@ -1,6 +1,7 @@
 pub mod Padding
 pub mod Letters
 pub mod Names
+pub mod Hashes
 pub mod Kinds
 pub mod Keys
 pub mod Digits

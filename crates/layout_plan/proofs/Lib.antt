@@ -1,0 +1,4 @@
+pub mod ReadFacts
+pub mod SpanFacts
+pub mod LayoutFacts
+pub mod ValueFacts

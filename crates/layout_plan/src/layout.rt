@@ -1,0 +1,165 @@
+ghost use Rattle.std.specs.Prelude.{◌≡◌, ◌≤◌, ◌<◌, ◌+◌, ◌*◌, ◌^◌, ◌++◌, [], Option, Some, None, option_map, option_and_then, length, IfOk, IfSome, OnOk, OnErr};
+ghost use Rattle.std.specs.List.{All};
+ghost use Rattle.std.specs.Option.{option_copied};
+ghost use Rattle.mib_model.specs.Fixed.{most_values, occurrences, values_at};
+ghost use Rattle.mib_model.specs.Layouts.{item_named, item_encoding, layout_places};
+ghost use Rattle.bit_field.specs.Taken.{taken};
+ghost use Rattle.layout_plan.specs.Readings.{Reads};
+ghost use Rattle.layout_plan.specs.Spans.{span_places, spans_places, IsNear};
+
+use crate::items::ByName;
+use crate::span::Span;
+use bit_field::{Values, shape_of};
+use first_rows::FirstRows;
+use mib_model::{Ended, PidRow, PlfRow, Shape, Steps, TypeItem};
+use std::alloc::{AllocError, Global};
+use std::marker::Model;
+use std::snapshot::Snapshot;
+use std::sync::ledger::Ledger;
+
+/// The rows of a packet of fixed layout, compiled. Contracts see the rows.
+#[derive(Drop)]
+pub struct Layout {
+    spans: Vec<Span>,
+    pid: Snapshot<PidRow>,
+    plfs: Snapshot<Vec<PlfRow>>,
+    types: Snapshot<Vec<TypeItem>>,
+}
+
+impl Model for Layout {
+    ghost use Rattle.std.specs.Prelude.{◌≡◌};
+    ghost use Rattle.std.specs.List.{All};
+    ghost use Rattle.mib_model.specs.Layouts.{layout_places};
+    ghost use Rattle.layout_plan.specs.Slices.{LayoutRows};
+    ghost use Rattle.layout_plan.specs.Readings.{Reads};
+    ghost use Rattle.layout_plan.specs.Spans.{spans_places, IsNear};
+
+    ghost Value = { LayoutRows };
+
+    ghost view = { λ layout. record { pid = layout.pid.value; plfs = layout.plfs.value.items; types = layout.types.value.items } };
+
+    ghost invariant = { λ layout. (spans_places layout.spans.items ≡ layout_places layout.plfs.value.items layout.types.value.items) × All IsNear layout.spans.items };
+}
+
+// What the bits of a measured parameter's values are, by its type item.
+fn shape_by(item: Option<&TypeItem>) -> Option<Shape>
+    ensures { result ≡ option_and_then item_encoding (option_copied item.entry) }
+{
+    let item = item?;
+    if item.natur != b'R' {
+        return None;
+    }
+    shape_of(item.ptc, item.pfc, item.endian)
+}
+
+// The first bit of a place: an octet and a bit in it.
+fn first_bit(octet: u32, bit: u8) -> u64
+    ensures value { result ≡ 8 * octet + bit }
+    ensures near { result < 2 ^ 63 }
+{
+    8 * u64::from(octet) + u64::from(bit)
+}
+
+// The occurrences of a row whose values have this shape.
+fn span_of(row: &PlfRow, shape: Shape) -> Span
+    ensures places { span_places result ≡ occurrences row.now (Some shape) }
+    ensures near { IsNear result }
+{
+    Span {
+        name: row.name,
+        at: first_bit(row.offby, row.offbi),
+        step: row.lgocc,
+        count: row.nbocc,
+        shape,
+    }
+}
+
+// Adds the occurrences of a row, if its parameter has values.
+fn add_row(spans: &mut Vec<Span>, row: &PlfRow, types: &FirstRows<ByName>) -> Result<(), AllocError>
+    requires { All IsNear spans.old.items }
+    ensures places { OnOk result (spans_places spans.new.items ≡ spans_places spans.old.items ++ occurrences row.now (option_and_then item_encoding (item_named types.now row.now.name))) }
+    ensures near { OnOk result (All IsNear spans.new.items) }
+{
+    match shape_by(types.find(&row.name)) {
+        Some(shape) => spans.push(span_of(row, shape))?,
+        None => {}
+    }
+    Ok(())
+}
+
+// The occurrences of the rows whose parameters have values.
+fn spans_of(
+    alloc: Global,
+    plfs: &[PlfRow],
+    types: &FirstRows<ByName>,
+) -> Result<Vec<Span>, AllocError>
+    ensures places { IfOk result (λ spans. spans_places spans.items ≡ layout_places plfs.now types.now) }
+    ensures near { IfOk result (λ spans. All IsNear spans.items) }
+{
+    let mut spans = Vec::new(alloc);
+    for row in plfs {
+        add_row(&mut spans, row, types)?;
+    }
+    Ok(spans)
+}
+
+// Reads the values at the places of spans, and tells the end where one comes before the last of them.
+fn read_spans(spans: &[Span], packet: &[u8], values: &mut Values) -> Option<Ended>
+    requires slots { length values.old.slots.now ≡ most_values }
+    requires used { values.old.used ≤ most_values }
+    requires near { All IsNear spans.now }
+    ensures reads { Reads packet.now (spans_places spans.now) result values.old values.new }
+    ensures slots { length values.new.slots.now ≡ most_values }
+    ensures used { values.new.used ≤ most_values }
+    ensures borrow { values.new.slots.ghost_name ≡ values.old.slots.ghost_name }
+{
+    for span in spans {
+        if let Some(ended) = span.read(packet, values) {
+            return Some(ended);
+        }
+    }
+    None
+}
+
+impl Layout {
+    /// Compiles a packet's row of pid, its rows of plf in file order and the type items of their names, in one step.
+    /// An error is want of memory, and takes no step.
+    pub fn compile<L: Ledger>(
+        alloc: Global,
+        pid: &PidRow,
+        plfs: &[PlfRow],
+        types: &[TypeItem],
+        steps: &mut Steps<L>,
+    ) -> Result<Layout, AllocError>
+        ensures rows { IfOk result (λ layout. layout ≡ record { pid = pid.now; plfs = plfs.now; types = types.now }) }
+        ensures step { OnOk result (steps.new ≡ steps.old + 1) }
+        ensures refused { OnErr result (steps.new ≡ steps.old) }
+    {
+        let rows = Vec::from_slice(alloc, plfs)?;
+        let items = Vec::from_slice(alloc, types)?;
+        let spans = spans_of(alloc, &rows, &FirstRows::new(alloc, &items)?)?;
+        steps.tick();
+        Ok(Layout {
+            spans,
+            pid: Snapshot::of(pid),
+            plfs: Snapshot::of(&rows),
+            types: Snapshot::of(&items),
+        })
+    }
+
+    /// The values of a packet, in the order of the rows, and how they end: before the 8,193rd, or before the first whose
+    /// bits aren't in the packet. It takes no memory.
+    pub fn extract(&self, packet: &[u8], values: &mut Values) -> Ended
+        requires slots { length values.old.slots.now ≡ most_values }
+        requires used { values.old.used ≡ 0 }
+        ensures values { (taken values.new, result) ≡ values_at packet.now (layout_places self.now.plfs self.now.types) }
+        ensures slots { length values.new.slots.now ≡ most_values }
+        ensures used { values.new.used ≤ most_values }
+        ensures borrow { values.new.slots.ghost_name ≡ values.old.slots.ghost_name }
+    {
+        match read_spans(&self.spans, packet, values) {
+            Some(ended) => ended,
+            None => Ended::Whole,
+        }
+    }
+}
