@@ -29,7 +29,7 @@ cut-completes : (db : Database) (octets : List ℕ) (count before now : ℕ) (le
     → Completes (code.Cut count) db octets old new
 cut-completes db octets count before now None old new ran = absurd ran
 cut-completes db octets count before now (Some left) old new (read, packets, rest, whole, cut, (size, some, end, few, wrote)) =
-    (packets, rest, whole-cut octets read left rest packets whole end cut, size, wrote)
+    (packets, rest, whole-cut octets read left rest packets whole end cut, size, some, wrote)
 
 limit-completes : (db : Database) (octets : List ℕ) (before now : ℕ) (left old new : Option (List ℕ)) → Ran code.Limit db (Some octets) left before now old new
     → Completes code.Limit db octets old new

@@ -114,10 +114,10 @@ over-tail db packets tail old new built wrote = (tail, subst (Appends old new) (
 
 -- one packet was read that wasn't printed, or none
 reads_one : (packets : List (List ℕ)) (packet : List ℕ) → ReadsNoFurther (packets ++ packet ∷ []) packets []
-reads_one packets packet = record { more = packet ∷ []; parted = refl; one = omega arith; last = λ some. refl }
+reads_one packets packet = record { more = packet ∷ []; parted = refl; few = omega arith; last = λ some. refl }
 
 reads_all : (packets : List (List ℕ)) (rest : List ℕ) → ReadsNoFurther packets packets rest
-reads_all packets rest = record { more = []; parted = sym (append-nil packets); one = omega arith; last = λ some. absurd (omega (arith, some)) }
+reads_all packets rest = record { more = []; parted = sym (append-nil packets); few = omega arith; last = λ some. absurd (omega (arith, some)) }
 
 -- nothing begins no packet
 none-begins_none : BeginsNoPacket []

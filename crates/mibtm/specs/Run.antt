@@ -28,11 +28,15 @@ WritesPart db packets tail old new = AppendsPrefix old new (output_of_one db pac
 abbrev pub WritesOver : Database → List (List ℕ) → Option (List ℕ) → Option (List ℕ) → Type 0
 WritesOver db packets old new = (more : List ℕ) × Appends old new (output_of_one db packets [] ++ more)
 
--- of what was read at most one packet is left to be printed, and behind it nothing was read
+-- the most packets that are read and not printed yet
+abbrev pub most_in_flight : ℕ
+most_in_flight = 64
+
+-- of what was read only packets in flight are left to be printed, and behind them nothing was read
 pub record ReadsNoFurther (packets printed : List (List ℕ)) (rest : List ℕ) : Type 0 where
   pub more : List (List ℕ)
   pub parted : packets ≡ printed ++ more
-  pub one : length more ≤ 1
+  pub few : length more ≤ most_in_flight
   pub last : 0 < length more → rest ≡ []
 
 -- what was written where the output failed: a first part of the text, whose tail tells the rest unless the feed failed, and at

@@ -120,7 +120,7 @@ Decodes c db (Some octets) s = DecodesSome c db octets s
 abbrev pub Completes : Code → Database → List ℕ → Option (List ℕ) → Option (List ℕ) → Type 0
 Completes code.Ok db octets old new = (packets : List (List ℕ)) × IsCut octets packets [] × Writes db packets [] old new
 Completes (code.Cut count) db octets old new =
-    (packets : List (List ℕ)) × (rest : List ℕ) × IsCut octets packets rest × (length rest ≡ count) × Writes db packets (cut_text count) old new
+    (packets : List (List ℕ)) × (rest : List ℕ) × IsCut octets packets rest × (length rest ≡ count) × (0 < count) × Writes db packets (cut_text count) old new
 Completes code.Limit db octets old new =
     (packets : List (List ℕ)) × (more : List ℕ) × (octets ≡ concat packets ++ more) × All IsPacket packets × (length packets ≡ most_packets) × Writes db packets [] old new
 Completes code.Want db octets old new = ⊤

@@ -1,5 +1,5 @@
 // The command `decode`: tables, then a feed.
-ghost use Rattle.std.specs.Prelude.{◌≡◌, IfSome, IfOk, IfErr, OnOk, Ok};
+ghost use Rattle.std.specs.Prelude.{◌≡◌, ◌≢◌, IfSome, IfOk, IfErr, OnOk, Ok};
 ghost use Rattle.mib_model.specs.Database.{database_of};
 ghost use Rattle.mibtm.specs.Causes.{HasTablesCause, HasFeedCause, HasOutCause, IsLoadStop, IsTestStop};
 ghost use Rattle.mibtm.specs.Readings.{IsBuilt, Keeps};
@@ -27,6 +27,7 @@ fn decode_feed<F: Shelf, O: Sink>(
     ensures decodes { IfSome (F.holds feed.old) (λ feeds. Decodes result (database_of tables.now) (feeds name.now) (record { missed_before = F.missed feed.old; missed_now = F.missed feed.new; faults_before = F.faults feed.old; faults_now = F.faults feed.new; left = F.left feed.new; old = O.written out.old; new = O.written out.new })) }
     ensures code { IsFeedCode result }
     ensures feed { HasFeedCause result (F.faults feed.old) (F.faults feed.new) }
+    ensures handed { result ≢ Code.OutFault → O.handed out.old ≡ O.written out.old → O.handed out.new ≡ O.written out.new }
     ensures out { HasOutCause result (O.faults out.old) (O.faults out.new) }
     ensures before_run { IsBeforeRun result → out.new ≡ out.old }
 {
@@ -80,6 +81,7 @@ pub(crate) fn decode<T: Shelf, F: Shelf, O: Sink>(
     ensures code { IsDecodeCode result }
     ensures tables_cause { HasTablesCause result (T.faults tables.old) (T.faults tables.new) }
     ensures feed_cause { HasFeedCause result (F.faults feed.old) (F.faults feed.new) }
+    ensures handed { result ≢ Code.OutFault → O.handed out.old ≡ O.written out.old → O.handed out.new ≡ O.written out.new }
     ensures out_cause { HasOutCause result (O.faults out.old) (O.faults out.new) }
     ensures before_feed { IsBeforeFeed result → feed.new ≡ feed.old }
     ensures before_run { IsBeforeRun result → out.new ≡ out.old }

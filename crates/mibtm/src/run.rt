@@ -1,5 +1,5 @@
 // A run: packets are read and printed one after the other.
-ghost use Rattle.std.specs.Prelude.{◌≡◌, ◌≤◌, ◌<◌, length, OnOk, IfErr};
+ghost use Rattle.std.specs.Prelude.{◌≡◌, ◌≢◌, ◌≤◌, ◌<◌, length, OnOk, IfErr};
 ghost use Rattle.std.specs.Io.KnownBytes.{Appends};
 ghost use Rattle.mib_model.specs.Database.{database_of};
 ghost use Rattle.mib_model.specs.Headers.{header_of};
@@ -147,6 +147,7 @@ pub(crate) fn run<S: Source, O: Sink>(
     ensures code { IsRunCode result }
     ensures feed { HasFeedCause result (S.faults source.old) (S.faults source.new) }
     ensures out { HasOutCause result (O.faults out.old) (O.faults out.new) }
+    ensures handed { result ≢ Code.OutFault → O.handed out.old ≡ O.written out.old → O.handed out.new ≡ O.written out.new }
     ensures missed { S.missed source.new ≡ S.missed source.old }
 {
     let code = print_all(alloc, tables, source, out);

@@ -1,4 +1,4 @@
-ghost use Rattle.std.specs.Prelude.{◌≡◌, ℕ, List, Option, Some, Ok, map, string_bytes, IfSome, IfOk, MatchResult};
+ghost use Rattle.std.specs.Prelude.{◌≡◌, ◌≢◌, ℕ, List, Option, Some, Ok, map, string_bytes, IfSome, IfOk, MatchResult};
 ghost use Rattle.mib_model.specs.declared.database.Database.{Database};
 ghost use Rattle.mibtm.specs.Causes.{HasTablesCause, HasFeedCause, HasOutCause};
 ghost use Rattle.mibtm.specs.Inputs.{IfCheck, IfDecode, command_in};
@@ -63,6 +63,9 @@ pub fn tool<
     ensures tables_cause { HasTablesCause result.code (T.faults tables.old) (T.faults tables.new) }
     ensures feed_cause { HasFeedCause result.code (F.faults feed.old) (F.faults feed.new) }
     ensures out_cause { HasOutCause result.code (O.faults out.old) (O.faults out.new) }
+
+    // Unless the output failed, all that was written is handed on.
+    ensures handed { result.code ≢ Code.OutFault → O.handed out.old ≡ O.written out.old → O.handed out.new ≡ O.written out.new }
 
     ensures desk { desk.new ≡ desk.old }
     ensures replies { replies.new ≡ replies.old }

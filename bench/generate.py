@@ -1,0 +1,118 @@
+#!/usr/bin/env python3
+"""Makes the folders and feeds that docs/SPEED.md speaks of.
+
+    bench/generate.py FOLDER
+
+Below FOLDER come `rows_N`, a sound folder of N rows for each N of ROWS, `nested_N`, one structure of N rows whose groups
+are nested to half its depth, for each N of NESTED, and `fixed` with `fixed.feed`, PACKETS packets of two values of 16
+bits by three tables. What is there already is kept.
+"""
+import os
+import random
+import struct
+import sys
+
+ROWS = (10_000, 100_000, 1_500_000)
+NESTED = (8_192, 32_768)
+PACKETS = 1_000_000
+TABLES = 15
+
+
+def write_tables(folder, tables, rng=None):
+    """A file for each table, its rows in random order where there is a generator."""
+    os.makedirs(folder, exist_ok=True)
+    for name, rows in tables.items():
+        if rng:
+            rng.shuffle(rows)
+        with open(os.path.join(folder, name + ".dat"), "w") as file:
+            file.writelines("\t".join(map(str, row)) + "\n" for row in rows)
+
+
+def parameter(i):
+    return f"P{i:07d}"
+
+
+def curve(i):
+    return f"C{i:07d}"
+
+
+def even_tables(count):
+    """Sound tables of so many rows each, which refer to one another in all directions."""
+    halves = max(count // 2, 1)
+    each = range(count)
+    rows = {}
+    rows["pcf"] = [(parameter(i), "", "", "", 3, 12, "", parameter(i * 7 % count) if i % 3 == 0 else "",
+                    "", "N", "R", curve(i % halves) if i % 2 == 0 else "") for i in each]
+    rows["pid"] = [(3, 25, i % 2047, i // 2047, 0, i + 1, "", "", i // 2 + 1 if i % 2 == 0 else -1, 10) for i in each]
+    rows["pic"] = [(i % 256, i // 256 % 256, 10, 16, -1, 0, i // 65536) for i in each]
+    rows["tpcf"] = [(i + 1, f"packet {i + 1}") for i in each]
+    rows["plf"] = [(parameter(i), i % halves * 2 + 2, 12, 0) for i in each]
+    # Structure 1 has the rows of half of the table, in groups that are nested to half its depth; the others have one row.
+    deep = max(min(halves, 60_000), 2)
+    rows["vpd"] = nested_rows(1, deep) + [(2 + i, 0, parameter(i)) for i in range(count - deep)]
+    rows["cur"] = [(parameter(i | 1), i % 2 + 1, parameter(i * 3 % count), 1, curve(i % halves)) for i in each if i | 1 < count]
+    rows["caf"] = [(curve(i), "", "R", "U", "D", "", "", "P" if i % 2 else "F") for i in range(halves)]
+    rows["cap"] = [(curve(i // 2), i % 2 * 10, f"{i}.5") for i in range(2 * halves)]
+    rows["txf"] = [(f"T{i:07d}", "", "U") for i in each]
+    rows["txp"] = [(f"T{i:07d}", 0, 9, "ON") for i in each]
+    rows["mcf"] = [(f"M{i:07d}", "", "1.5", "0.25") for i in each]
+    rows["lgf"] = [(f"L{i:07d}",) for i in each]
+    rows["ocf"] = [(parameter(i), 2, "", "U") for i in each]
+    rows["ocp"] = [(parameter(i), 1, "S", 0, 1000) for i in each]
+    return rows
+
+
+def nested_rows(structure, count):
+    """Rows of a structure in falling order of POS: the first half opens groups, each inside the one before."""
+    half = count // 2
+    rows = [(structure, i, parameter(i % 2), count - 1 - i if i < half else 0, 0) for i in range(count)]
+    return rows[::-1]
+
+
+def nested_tables(count):
+    """One packet with one structure of so many rows."""
+    return {
+        "pcf": [(parameter(i), "", "", "", 3, 12) for i in range(2)],
+        "pid": [(3, 25, 100, "", "", 1, "", "", 1, 10)],
+        "vpd": nested_rows(1, count),
+    }
+
+
+def fixed_tables():
+    """Eight packets of two values each."""
+    return {
+        "pcf": [(f"D{j}", "", "", "", 3, 12) for j in range(16)],
+        "pid": [(3, 25, 99 + i, "", "", i) for i in range(1, 9)],
+        "plf": [(f"D{2 * i - 2 + k}", i, 10 + 2 * k, 0) for i in range(1, 9) for k in (0, 1)],
+    }
+
+
+def write_fixed_feed(path, count):
+    """Packets of the eight kinds, and of a ninth that no row knows."""
+    rng = random.Random(1)
+    pack = struct.Struct(">HHHBBBBHH").pack
+    with open(path, "wb") as file:
+        for i in range(count):
+            kind = rng.randrange(9)
+            apid = 100 + kind if kind < 8 else 300
+            file.write(pack(0x0800 | apid, 0xC000 | i % 16384, 7, 0x10, 3, 25, 0, rng.randrange(65536), rng.randrange(65536)))
+
+
+def main():
+    top = sys.argv[1]
+    for count in ROWS:
+        folder = os.path.join(top, f"rows_{count}")
+        if not os.path.isdir(folder):
+            write_tables(folder, even_tables(count // TABLES), random.Random(count))
+    for count in NESTED:
+        folder = os.path.join(top, f"nested_{count}")
+        if not os.path.isdir(folder):
+            write_tables(folder, nested_tables(count))
+    feed = os.path.join(top, "fixed.feed")
+    if not os.path.isfile(feed):
+        write_tables(os.path.join(top, "fixed"), fixed_tables())
+        write_fixed_feed(feed, PACKETS)
+
+
+if __name__ == "__main__":
+    main()
