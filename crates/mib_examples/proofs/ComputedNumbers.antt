@@ -1,6 +1,7 @@
 -- Decimals, counts, whole numbers, encodings and bits. Computed.
 use Rattle.std.proofs.Common.{refl}
 use Rattle.std.specs.Fmt.{digits}
+use Rattle.mib_model.specs.declared.shape.Endian.TheVariants as endian
 use Rattle.mib_model.specs.Alarms.{alarm}
 use Rattle.mib_model.specs.Bits.{bits, little_bits, raw_number}
 use Rattle.mib_model.specs.Carry.{is_carried, carry}
@@ -60,7 +61,7 @@ whole_number_examples = record { decimal = refl; fraction = refl; hexadecimal = 
 
 pub encoding_examples : EncodingExamples
 unfolding decoded database first_fault digits alarm bits little_bits raw_number is_carried carry checks_of class_of content_of value_of calibration curve_named selections curve_of database_read dec_of half count_of count_text way_of request_of rows_of put_in without_key type_of encoding_of code_of_ending fault_text code_line finished all_finished places places_inside values_at table_flaws values_of title_of record_for course_after interpret course_after_all same_key lines_of trimmed criterion match_of sorted_by stamped_by output stamped_from output_of_one param_plans layout_plans structure_plans plans knots interpolated by_points polynomial quoted raw_text row_at rows_from table_of row_read key_read answer_to after reply_words desk_text row_of key_of line_of same_values script reaches_limit flaws structure deduced head_text value_text record_body record_text same_slice touched unbuilt step walked structure_values decimal_whole whole_number parted command_of decimal_text
-encoding_examples = record { sixteen_bits = refl; little = refl; odd_little = refl; time = refl; outside = refl; no_segmented_time = refl }
+encoding_examples = record { sixteen_bits = refl; little = refl; odd_little = refl; time = refl; outside = refl; no_segmented_time = refl; is_one = (3, 12, endian.L, refl) }
 
 pub bit_examples : BitExamples
 unfolding decoded database first_fault digits alarm bits little_bits raw_number is_carried carry checks_of class_of content_of value_of calibration curve_named selections curve_of database_read dec_of half count_of count_text way_of request_of rows_of put_in without_key type_of encoding_of code_of_ending fault_text code_line finished all_finished places places_inside values_at table_flaws values_of title_of record_for course_after interpret course_after_all same_key lines_of trimmed criterion match_of sorted_by stamped_by output stamped_from output_of_one param_plans layout_plans structure_plans plans knots interpolated by_points polynomial quoted raw_text row_at rows_from table_of row_read key_read answer_to after reply_words desk_text row_of key_of line_of same_values script reaches_limit flaws structure deduced head_text value_text record_body record_text same_slice touched unbuilt step walked structure_values decimal_whole whole_number parted command_of decimal_text

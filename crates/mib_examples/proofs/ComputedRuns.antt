@@ -34,6 +34,9 @@ use Rattle.mib_examples.specs.LayoutsRuns.{LayoutsRuns}
 use Rattle.mib_examples.specs.StructuresRuns.{StructuresRuns}
 use Rattle.mib_examples.specs.CalibrationsRuns.{CalibrationsRuns}
 use Rattle.mib_examples.specs.ChecksRuns.{ChecksRuns}
+use Rattle.mib_examples.specs.PlacesRuns.{PlacesRuns}
+use Rattle.mib_examples.specs.LimitsRuns.{LimitsRuns}
+use Rattle.mib_examples.specs.CurvesRuns.{CurvesRuns}
 
 pub layouts_runs : LayoutsRuns
 unfolding decoded after digits alarm bits little_bits raw_number is_carried carry checks_of class_of content_of value_of calibration curve_named selections curve_of database_read dec_of half count_of count_text type_of encoding_of finished all_finished places places_inside values_at values_of title_of record_for course_after interpret course_after_all same_key lines_of trimmed criterion match_of sorted_by stamped_by output stamped_from output_of_one knots interpolated by_points polynomial quoted raw_text row_at rows_from table_of row_read key_read row_of key_of line_of same_values head_text value_text record_body record_text structure deduced step walked structure_values decimal_whole whole_number
@@ -50,3 +53,15 @@ calibrations_runs = record { between_points = refl; beyond_points = refl; rounde
 pub checks_runs : ChecksRuns
 unfolding decoded after digits alarm bits little_bits raw_number is_carried carry checks_of class_of content_of value_of calibration curve_named selections curve_of database_read dec_of half count_of count_text type_of encoding_of finished all_finished places places_inside values_at values_of title_of record_for course_after interpret course_after_all same_key lines_of trimmed criterion match_of sorted_by stamped_by output stamped_from output_of_one knots interpolated by_points polynomial quoted raw_text row_at rows_from table_of row_read key_read row_of key_of line_of same_values head_text value_text record_body record_text structure deduced step walked structure_values decimal_whole whole_number
 checks_runs = record { validity = refl; repeats = refl; states = refl; deltas = refl }
+
+pub curves_runs : CurvesRuns
+unfolding decoded after digits alarm bits little_bits raw_number is_carried carry checks_of class_of content_of value_of calibration curve_named selections curve_of database_read dec_of half count_of count_text type_of encoding_of finished all_finished places places_inside values_at values_of title_of record_for course_after interpret course_after_all same_key lines_of trimmed criterion match_of sorted_by stamped_by output stamped_from output_of_one knots interpolated by_points polynomial quoted raw_text row_at rows_from table_of row_read key_read row_of key_of line_of same_values head_text value_text record_body record_text structure deduced step walked structure_values decimal_whole whole_number
+curves_runs = record { right_line = refl; below_least = refl; outer_lines = refl; points_over = refl; radix = refl; scales = refl; category_t = refl; first_text = refl; text_between = refl; real_texts = refl }
+
+pub limits_runs : LimitsRuns
+unfolding decoded after digits alarm bits little_bits raw_number is_carried carry checks_of class_of content_of value_of calibration curve_named selections curve_of database_read dec_of half count_of count_text type_of encoding_of finished all_finished places places_inside values_at values_of title_of record_for course_after interpret course_after_all same_key lines_of trimmed criterion match_of sorted_by stamped_by output stamped_from output_of_one knots interpolated by_points polynomial quoted raw_text row_at rows_from table_of row_read key_read row_of key_of line_of same_values head_text value_text record_body record_text structure deduced step walked structure_values decimal_whole whole_number
+limits_runs = record { selection = refl; classes = refl; calibrated = refl; raw = refl; invalid = refl }
+
+pub places_runs : PlacesRuns
+unfolding decoded after digits alarm bits little_bits raw_number is_carried carry checks_of class_of content_of value_of calibration curve_named selections curve_of database_read dec_of half count_of count_text type_of encoding_of finished all_finished places places_inside values_at values_of title_of record_for course_after interpret course_after_all same_key lines_of trimmed criterion match_of sorted_by stamped_by output stamped_from output_of_one knots interpolated by_points polynomial quoted raw_text row_at rows_from table_of row_read key_read row_of key_of line_of same_values head_text value_text record_body record_text structure deduced step walked structure_values decimal_whole whole_number
+places_runs = record { identified = refl; last_occurrence = refl; before_bit_0 = refl; choice = refl; offsets = refl; sorts = refl }

@@ -5,3 +5,4 @@ mod ComputedTables
 mod ComputedRegisters
 mod ComputedPackets
 mod ComputedTools
+mod DerivedDesks

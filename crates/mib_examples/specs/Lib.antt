@@ -8,3 +8,8 @@ pub mod LayoutsRuns
 pub mod StructuresRuns
 pub mod CalibrationsRuns
 pub mod ChecksRuns
+pub mod CurvesRuns
+pub mod LimitsRuns
+pub mod PlacesRuns
+pub mod EditionRuns
+pub mod DeskExamples

@@ -6,7 +6,7 @@ use Rattle.mib_model.specs.declared.shape.Order.TheVariants.{Big, Little}
 use Rattle.mib_model.specs.declared.shape.Sort.TheVariants.{Unsigned, Signed, Cuc}
 use Rattle.mib_model.specs.Bits.{bits, little_bits, signed_number, is_inside}
 use Rattle.mib_model.specs.Decimals.{dec_of, half, count_of, count_text}
-use Rattle.mib_model.specs.Encodings.{encoding_of}
+use Rattle.mib_model.specs.Encodings.{encoding_of, IsEncoding}
 use Rattle.mib_model.specs.Orders.{sorted_by_number}
 use Rattle.mib_model.specs.WholeNumbers.{whole_number}
 
@@ -51,6 +51,7 @@ pub record EncodingExamples : Type 0 where
   pub time : encoding_of 10 4 endian.L ≡ Some (record { sort = Cuc 1 1; width = 16; order = Big })
   pub outside : encoding_of 3 17 endian.B ≡ None
   pub no_segmented_time : encoding_of 10 2 endian.B ≡ None
+  pub is_one : IsEncoding (record { sort = Unsigned; width = 16; order = Little })
 
 pub record BitExamples : Type 0 where
   pub unaligned : bits (0x12 ∷ 0x34 ∷ 0x56 ∷ []) 4 12 ≡ 0x234

@@ -1,11 +1,14 @@
 -- Lines, fields, rows, keys and first faults. [This profile.]
-use Rattle.std.specs.Prelude.{◌≡◌, ℕ, [], ◌∷◌, codes, Ok, Err, Some, None, true, false}
+use Rattle.std.specs.Prelude.{◌≡◌, ℕ, [], ◌∷◌, codes, Ok, Err, Some, None, true, false, map}
 use Rattle.mib_model.specs.declared.fault.MibCode.TheVariants as code
 use Rattle.mib_model.specs.declared.fault.MibFault.{MibFault}
 use Rattle.mib_model.specs.declared.key.Key.TheVariants as key
 use Rattle.mib_model.specs.declared.kind.Kind.{Kind}
 use Rattle.mib_model.specs.declared.kind.Kind.TheVariants as kind
 use Rattle.mib_model.specs.declared.rows.Row.TheVariants as row
+use Rattle.mib_model.specs.declared.tables.Tables.{Tables}
+use Rattle.mib_model.specs.Database.{database_of}
+use Rattle.mib_model.specs.Drafts.{rows_of}
 use Rattle.mib_model.specs.Keys.{same_key}
 use Rattle.mib_model.specs.Kinds.{kind_named}
 use Rattle.mib_model.specs.Lines.{lines, fields, trimmed}
@@ -54,3 +57,9 @@ pub record FirstFaultExamples : Type 0 where
   pub both : first_fault (given kind.Lgf (codes "L1\n") (given kind.Cur (table (codes "T1|1|T1|1|L1\n")) (given kind.Pcf (table (codes "T1||||3|12||||N|R|L1\n")) shared))) ≡ codes "pcf 1 BOTH"
   pub group : first_fault (given kind.Vpd (table (codes "10|1|T1|1\n")) shared) ≡ codes "vpd 1 GROUP"
   pub inner_group : first_fault (given kind.Vpd (table (codes "10|1|T1|1\n10|2|T1|1\n10|3|T1\n")) shared) ≡ codes "vpd 2 GROUP"
+
+-- the database that tables in memory are, whatever their rows
+pub record DatabaseExamples (t : Tables) : Type 0 where
+  pub curves : rows_of (database_of t) kind.Caf ≡ map row.Caf t.caf.items
+  pub points : rows_of (database_of t) kind.Cap ≡ map row.Cap t.cap.items
+  pub texts : rows_of (database_of t) kind.Txp ≡ map row.Txp t.txp.items

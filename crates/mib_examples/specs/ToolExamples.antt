@@ -9,7 +9,10 @@ use Rattle.mib_model.specs.Desk.{Plain, Stale}
 use Rattle.mib_model.specs.Faults.{code_line}
 use Rattle.mib_model.specs.Replies.{reply_words, desk_line}
 use Rattle.mib_model.specs.Script.{script, reaches_limit}
+use Rattle.mib_model.specs.Summaries.{count_line, summary}
+use Rattle.mib_model.specs.Texts.{cut_text, rest_text}
 use Rattle.mib_model.specs.Words.{Check, Decode, Live, Drill, command_of}
+use Rattle.mib_examples.specs.Given.{database, shared}
 
 abbrev pub d : List ℕ
 d = codes "d"
@@ -46,3 +49,12 @@ pub record LineExamples : Type 0 where
   pub single_desk : desk_line None (Plain reply.Go) ≡ codes "GO\n"
   pub script : script (codes "use 1\n\ngo") ≡ codes "use 1" ∷ [] ∷ codes "go" ∷ []
   pub no_limit : reaches_limit (codes "go\n") ≡ false
+
+pub record SummaryExamples : Type 0 where
+  pub cut : cut_text 11 ≡ codes "CUT 11\n"
+  pub rest : rest_text (codes "abc") ≡ codes "CUT 3\n"
+  pub no_rest : rest_text [] ≡ []
+  pub count : count_line (database shared) kind.Plf ≡ codes "plf 1\n"
+  pub summary :
+      summary (database shared) ≡
+      codes "pcf 1\npid 1\npic 0\ntpcf 0\nplf 1\nvpd 0\ncur 0\ncaf 0\ncap 0\ntxf 0\ntxp 0\nmcf 0\nlgf 0\nocf 0\nocp 0\nPLANS 3\n"

@@ -1,6 +1,7 @@
 //! Lines, fields, rows, keys and first faults.
 
-ghost use Rattle.mib_examples.specs.TableExamples.{TextExamples, RowExamples, FirstFaultExamples};
+ghost use Rattle.mib_model.specs.declared.tables.Tables.{Tables};
+ghost use Rattle.mib_examples.specs.TableExamples.{DatabaseExamples, TextExamples, RowExamples, FirstFaultExamples};
 
 #[tactic(auto, using(crate::proofs::ComputedTables::text_examples))]
 pub fn text_examples()
@@ -15,4 +16,9 @@ pub fn row_examples()
 #[tactic(auto, using(crate::proofs::ComputedTables::first_fault_examples))]
 pub fn first_fault_examples()
     ensures { FirstFaultExamples }
+{}
+
+#[tactic(auto, using(crate::proofs::ComputedTables::database_examples))]
+pub fn database_examples()
+    ensures { (t : Tables) → DatabaseExamples t }
 {}

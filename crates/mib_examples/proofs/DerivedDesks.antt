@@ -1,0 +1,82 @@
+-- Examples of what a desk leaves, derived.
+use Rattle.std.proofs.Common.{◌≡◌, ℕ, List, [], length, true, false, Bool, Option, Some, None, cond, refl, ap, subst, arith}
+use Rattle.std.proofs.lemmas.Option.{none-some}
+use Rattle.std.specs.Fmt.{digits}
+use Rattle.mib_model.specs.declared.register.Entry.{Entry}
+use Rattle.mib_model.specs.declared.register.Entry.TheVariants as entry
+use Rattle.mib_model.specs.DeskLines.{request_of}
+use Rattle.mib_model.specs.Alarms.{alarm}
+use Rattle.mib_model.specs.Bits.{bits, little_bits, raw_number}
+use Rattle.mib_model.specs.Carry.{is_carried, carry}
+use Rattle.mib_model.specs.Checks.{checks_of, class_of}
+use Rattle.mib_model.specs.Columns.{content_of, value_of}
+use Rattle.mib_model.specs.Curves.{calibration, curve_named, selections, curve_of}
+use Rattle.mib_model.specs.DatabaseTexts.{database_read}
+use Rattle.mib_model.specs.Decimals.{dec_of, half, count_of, count_text}
+use Rattle.mib_model.specs.Desk.{way_of}
+use Rattle.mib_model.specs.Drafts.{rows_of, put_in, without_key}
+use Rattle.mib_model.specs.Encodings.{type_of, encoding_of}
+use Rattle.mib_model.specs.Endings.{code_of_ending}
+use Rattle.mib_model.specs.Faults.{fault_text, code_line}
+use Rattle.mib_model.specs.Finish.{finished, all_finished}
+use Rattle.mib_model.specs.Fixed.{places, places_inside, values_at}
+use Rattle.mib_model.specs.Flaws.{table_flaws}
+use Rattle.mib_model.specs.Interpreter.{values_of, title_of, record_for, course_after, interpret, course_after_all}
+use Rattle.mib_model.specs.Keys.{same_key}
+use Rattle.mib_model.specs.Lines.{lines_of, trimmed}
+use Rattle.mib_model.specs.Match.{criterion, match_of}
+use Rattle.mib_model.specs.Orders.{sorted_by}
+use Rattle.mib_model.specs.Output.{stamped_by, output, stamped_from, output_of_one}
+use Rattle.mib_model.specs.Plans.{param_plans, layout_plans, structure_plans, plans}
+use Rattle.mib_model.specs.Points.{knots, interpolated, by_points}
+use Rattle.mib_model.specs.Polynomials.{polynomial}
+use Rattle.mib_model.specs.RawTexts.{quoted, raw_text}
+use Rattle.mib_model.specs.Reading.{row_at, rows_from, table_of, row_read, key_read}
+use Rattle.mib_model.specs.Register.{answer_to, after}
+use Rattle.mib_model.specs.Replies.{reply_words, desk_text}
+use Rattle.mib_model.specs.RowTexts.{row_of, key_of, line_of}
+use Rattle.mib_model.specs.Sameness.{same_values}
+use Rattle.mib_model.specs.Script.{script, reaches_limit}
+use Rattle.mib_model.specs.Soundness.{flaws}
+use Rattle.mib_model.specs.Structures.{structure, deduced}
+use Rattle.mib_model.specs.Texts.{head_text, value_text, record_body, record_text}
+use Rattle.mib_model.specs.Touched.{same_slice, touched}
+use Rattle.mib_model.specs.Unbuilt.{unbuilt}
+use Rattle.mib_model.specs.Walk.{step, walked, structure_values}
+use Rattle.mib_model.specs.WholeNumbers.{decimal_whole, whole_number}
+use Rattle.mib_model.specs.Words.{parted, command_of}
+use Rattle.mib_model.specs.Writing.{decimal_text}
+use Rattle.mib_examples.specs.Given.{decoded, database, first_fault}
+use Rattle.mib_examples.specs.DeskExamples.{WantExamples, PreludeExamples, WordedExamples}
+
+-- the edition that an entry looks at
+edition_in : Option Entry → ℕ
+edition_in (Some (entry.Look e)) = e
+edition_in other = 0
+
+pub want_examples : WantExamples
+unfolding edition_in
+want_examples = record {
+  take_looks = (refl, refl);
+  use_looks = (refl, refl);
+  other_edition = λ leaves. omega (arith, ap edition_in leaves.1);
+  put = λ leaves. none-some entry.Newest leaves.1;
+  single_desk = λ leaves. subst (λ (b : Bool). cond b ⊥ (Unit {0})) leaves.0 tt;
+}
+
+pub prelude_examples : PreludeExamples
+unfolding request_of
+prelude_examples = record { first_go = refl; no_go = refl }
+
+pub worded_examples : WordedExamples
+unfolding decoded database first_fault digits alarm bits little_bits raw_number is_carried carry checks_of class_of content_of value_of calibration curve_named selections curve_of database_read dec_of half count_of count_text way_of request_of rows_of put_in without_key type_of encoding_of code_of_ending fault_text code_line finished all_finished places places_inside values_at table_flaws values_of title_of record_for course_after interpret course_after_all same_key lines_of trimmed criterion match_of sorted_by stamped_by output stamped_from output_of_one param_plans layout_plans structure_plans plans knots interpolated by_points polynomial quoted raw_text row_at rows_from table_of row_read key_read answer_to after reply_words desk_text row_of key_of line_of same_values script reaches_limit flaws structure deduced head_text value_text record_body record_text same_slice touched unbuilt step walked structure_values decimal_whole whole_number parted command_of decimal_text
+worded_examples = record {
+  known = refl;
+  unknown = refl;
+  idle = refl;
+  bad = refl;
+  own_plans = refl;
+  no_plans = λ same. omega (arith, ap length same);
+  stamps = refl;
+  limit_without_rows = refl;
+}
