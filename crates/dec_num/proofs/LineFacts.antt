@@ -3,7 +3,7 @@ use Rattle.std.proofs.Common.{◌≡◌, true, false, None, Some, Err, sym, ap, 
 use Rattle.std.specs.Prelude.{ℤ, ◌*ℤ◌, ◌+ℤ◌, ◌-ℤ◌, nat_abs, Bool, ◌||◌}
 use Rattle.std.proofs.lemmas.Bool.Decides.{nat_tests}
 use Rattle.mib_model.specs.Calibrated.{is_wide, bounded}
-use Rattle.mib_model.specs.Decimals.{half}
+use Rattle.mib_model.specs.Counts.{half}
 use Rattle.mib_model.specs.Points.{Knot, interpolated, product_of}
 use Rattle.dec_num.specs.Narrow.{narrow}
 

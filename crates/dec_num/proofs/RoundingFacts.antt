@@ -2,7 +2,8 @@
 use Rattle.std.proofs.Common.{◌≡◌, ℕ, ◌+◌, ◌-◌, ◌*◌, ◌/◌, ◌%◌, ◌^◌, ◌<◌, ◌≤◌, Bool, true, false, sym, refl, arith}
 use Rattle.std.specs.Prelude.{ℤ, pos, nat_abs, int_lt}
 use Rattle.std.proofs.Math.Nat.{div-add-mod, div-eq_of_lt-le, div-eq_of_lt, mod-lt, pow-le-pow_right, one-le-pow}
-use Rattle.mib_model.specs.Decimals.{half, with_sign}
+use Rattle.mib_model.specs.Decimals.{with_sign}
+use Rattle.mib_model.specs.Counts.{half}
 
 pub nearest-below : (m b : ℕ) → m % b < b - m % b → m / b ≡ (2 * m + b) / (2 * b)
 nearest-below m b less =

@@ -1,6 +1,6 @@
 // Engineering values as counts of 10^-12, and their texts.
 ghost use Rattle.std.specs.Prelude.{◌≡◌, ◌<◌, ◌≤◌, ◌+◌, ◌*ℤ◌, ◌++◌, ◌^◌, pos, length, replicate};
-ghost use Rattle.mib_model.specs.Decimals as Spec;
+ghost use Rattle.mib_model.specs.Counts as Spec;
 ghost use Rattle.mib_model.specs.Digits.{decimal_of_width};
 ghost use Rattle.mib_model.specs.declared.line.TheConstants.{LINE_ROOM};
 
@@ -28,7 +28,7 @@ fn held(number: i128, exponent: u32) -> i128
 
 /// The count of a decimal: `m · 10^(e + 12)`, rounded half away from zero, and held to a magnitude of 10^37 (this
 /// profile).
-#[tactic(auto, unfolding(mib_model::specs::Decimals::count_of))]
+#[tactic(auto, unfolding(mib_model::specs::Counts::count_of))]
 pub fn eng_of(d: Dec) -> Eng
     ensures { result.count ≡ Spec.count_of d }
 {
@@ -86,7 +86,7 @@ fn write_pointed(number: u128, places: u8, out: &mut Line)
 
 /// Appends the text of a count with some decimals, 12 where more are asked for: a `-` where what is printed is below
 /// zero, the whole part, and behind a point the decimals (this profile).
-#[tactic(auto, unfolding(mib_model::specs::Decimals::count_text, mib_model::specs::Decimals::half))]
+#[tactic(auto, unfolding(mib_model::specs::Counts::count_text, mib_model::specs::Counts::half))]
 pub fn write_eng(v: Eng, decimals: u8, out: &mut Line)
     requires { length out.old + 60 ≤ LINE_ROOM }
     ensures text { out.new ≡ out.old ++ Spec.count_text v.count decimals }

@@ -3,7 +3,7 @@ ghost use Rattle.std.specs.Prelude.{◌≡◌, ◌<◌, ◌≤◌, ◌≤ℤ◌,
 ghost use Rattle.std.specs.List.{list_any};
 ghost use Rattle.mib_model.specs.WholeNumbers.{least_raw, greatest_raw};
 ghost use Rattle.mib_model.specs.Calibrated.{is_wide};
-ghost use Rattle.mib_model.specs.Decimals as Decimals;
+ghost use Rattle.mib_model.specs.Counts as Counts;
 ghost use Rattle.mib_model.specs.Polynomials as Spec;
 ghost use Rattle.dec_num.specs.Narrow.{counted, narrow, narrow_result, or_over};
 ghost use Rattle.dec_num.specs.Sums.{without_zeros, advanced, sum_behind};
@@ -33,7 +33,7 @@ fn scale_of(a: &[Dec; 5]) -> u8
 // A number times a power of 10, rounded where that is below 1, where it is below the bound of steps.
 fn times_power(number: i128, exponent: i32) -> Option<i128>
     requires { nat_abs number < 2 ^ 127 }
-    ensures value { result ≡ narrow (Decimals.times_power number exponent) }
+    ensures value { result ≡ narrow (Counts.times_power number exponent) }
     ensures within { IfSome result (λ z. nat_abs z < 10 ^ 37) }
 {
     if exponent < 0 {
@@ -45,7 +45,7 @@ fn times_power(number: i128, exponent: i32) -> Option<i128>
 
 // A coefficient as a whole number at a scale.
 fn at_scale(d: Dec, scale: u8) -> Option<i128>
-    ensures value { result ≡ narrow (Decimals.times_power d.m (d.e +ℤ pos scale)) }
+    ensures value { result ≡ narrow (Counts.times_power d.m (d.e +ℤ pos scale)) }
     ensures within { IfSome result (λ z. nat_abs z < 10 ^ 37) }
 {
     times_power(i128::from(d.m), i32::from(d.e) + i32::from(scale))

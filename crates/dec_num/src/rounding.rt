@@ -1,6 +1,6 @@
 // Quotients and powers of 10, rounded half away from zero.
 ghost use Rattle.std.specs.Prelude.{◌≡◌, ◌<◌, ◌≤◌, ◌+◌, ◌*◌, ◌/◌, ◌^◌, nat_abs};
-ghost use Rattle.mib_model.specs.Decimals as Spec;
+ghost use Rattle.mib_model.specs.Counts as Spec;
 
 /// The whole number nearest to a quotient; a tie goes up.
 #[tactic(auto, using(crate::proofs::RoundingFacts::nearest))]
@@ -19,7 +19,7 @@ pub fn rounded(dividend: u128, divisor: u128) -> u128
 }
 
 /// The same of a number with a sign, a tie going away from zero.
-#[tactic(auto, unfolding(mib_model::specs::Decimals::half))]
+#[tactic(auto, unfolding(mib_model::specs::Counts::half))]
 pub fn half(dividend: i128, divisor: u128) -> i128
     requires dividend { nat_abs dividend < 2 ^ 127 }
     requires divisor { 0 < divisor }

@@ -9,7 +9,8 @@ use Rattle.mib_model.specs.Checks.{checks_of, class_of}
 use Rattle.mib_model.specs.Columns.{content_of, value_of}
 use Rattle.mib_model.specs.Curves.{calibration, curve_named, selections, curve_of}
 use Rattle.mib_model.specs.DatabaseTexts.{database_read}
-use Rattle.mib_model.specs.Decimals.{dec_of, half, count_of, count_text}
+use Rattle.mib_model.specs.Decimals.{dec_of}
+use Rattle.mib_model.specs.Counts.{half, count_of, count_text}
 use Rattle.mib_model.specs.Desk.{way_of}
 use Rattle.mib_model.specs.DeskLines.{request_of}
 use Rattle.mib_model.specs.Drafts.{rows_of, put_in, without_key}

@@ -8,7 +8,8 @@ use Rattle.mib_model.specs.Checks.{checks_of, class_of}
 use Rattle.mib_model.specs.Columns.{content_of, value_of}
 use Rattle.mib_model.specs.Curves.{calibration, curve_named, selections, curve_of}
 use Rattle.mib_model.specs.DatabaseTexts.{database_read}
-use Rattle.mib_model.specs.Decimals.{dec_of, half, count_of, count_text}
+use Rattle.mib_model.specs.Decimals.{dec_of}
+use Rattle.mib_model.specs.Counts.{half, count_of, count_text}
 use Rattle.mib_model.specs.Encodings.{type_of, encoding_of}
 use Rattle.mib_model.specs.Finish.{finished, all_finished}
 use Rattle.mib_model.specs.Fixed.{places, places_inside, values_at}

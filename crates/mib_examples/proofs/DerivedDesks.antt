@@ -1,5 +1,5 @@
 -- Examples of what a desk leaves, derived.
-use Rattle.std.proofs.Common.{◌≡◌, ℕ, List, [], length, true, false, Bool, Option, Some, None, cond, refl, ap, subst, arith}
+use Rattle.std.proofs.Common.{ℕ, length, Bool, Option, Some, cond, refl, ap, subst, arith}
 use Rattle.std.proofs.lemmas.Option.{none-some}
 use Rattle.std.specs.Fmt.{digits}
 use Rattle.mib_model.specs.declared.register.Entry.{Entry}
@@ -12,7 +12,8 @@ use Rattle.mib_model.specs.Checks.{checks_of, class_of}
 use Rattle.mib_model.specs.Columns.{content_of, value_of}
 use Rattle.mib_model.specs.Curves.{calibration, curve_named, selections, curve_of}
 use Rattle.mib_model.specs.DatabaseTexts.{database_read}
-use Rattle.mib_model.specs.Decimals.{dec_of, half, count_of, count_text}
+use Rattle.mib_model.specs.Decimals.{dec_of}
+use Rattle.mib_model.specs.Counts.{half, count_of, count_text}
 use Rattle.mib_model.specs.Desk.{way_of}
 use Rattle.mib_model.specs.Drafts.{rows_of, put_in, without_key}
 use Rattle.mib_model.specs.Encodings.{type_of, encoding_of}

@@ -1,7 +1,7 @@
 -- Curves: what counts at, between and beyond points and texts. [This profile.]
 use Rattle.std.specs.Prelude.{◌≡◌, [], ◌∷◌, ◌++◌, codes, Ok}
 use Rattle.mib_model.specs.declared.kind.Kind.TheVariants as kind
-use Rattle.mib_examples.specs.Given.{decoded, given, nothing, packet_with, shared, table}
+use Rattle.mib_examples.specs.Given.{decoded, given, packet_with, shared, table}
 
 pub record CurvesRuns : Type 0 where
   -- at a point the line behind it counts

@@ -1,5 +1,5 @@
 -- What want of memory may leave, preludes, plans of what is added, and what is said of packets and walks. [This profile.]
-use Rattle.std.specs.Prelude.{◌≡◌, ℕ, List, [], ◌∷◌, codes, true, false, map}
+use Rattle.std.specs.Prelude.{◌≡◌, [], ◌∷◌, codes, true, false}
 use Rattle.mib_model.specs.declared.kind.Kind.TheVariants as kind
 use Rattle.mib_model.specs.declared.packet.BadWhy.TheVariants as why
 use Rattle.mib_model.specs.declared.packet.Found.TheVariants as found

@@ -1,7 +1,7 @@
 -- Conditions and limits: which selection and which checks count, and what is checked. [This profile.]
 use Rattle.std.specs.Prelude.{◌≡◌, [], ◌∷◌, ◌++◌, codes, Ok}
 use Rattle.mib_model.specs.declared.kind.Kind.TheVariants as kind
-use Rattle.mib_examples.specs.Given.{decoded, given, nothing, packet_with, shared, table}
+use Rattle.mib_examples.specs.Given.{decoded, given, packet_with, shared, table}
 
 pub record LimitsRuns : Type 0 where
   -- the selection with the lowest POS whose condition holds

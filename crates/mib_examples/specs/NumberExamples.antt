@@ -5,7 +5,8 @@ use Rattle.mib_model.specs.declared.shape.Endian.TheVariants as endian
 use Rattle.mib_model.specs.declared.shape.Order.TheVariants.{Big, Little}
 use Rattle.mib_model.specs.declared.shape.Sort.TheVariants.{Unsigned, Signed, Cuc}
 use Rattle.mib_model.specs.Bits.{bits, little_bits, signed_number, is_inside}
-use Rattle.mib_model.specs.Decimals.{dec_of, half, count_of, count_text}
+use Rattle.mib_model.specs.Decimals.{dec_of}
+use Rattle.mib_model.specs.Counts.{half, count_of, count_text}
 use Rattle.mib_model.specs.Encodings.{encoding_of, IsEncoding}
 use Rattle.mib_model.specs.Orders.{sorted_by_number}
 use Rattle.mib_model.specs.WholeNumbers.{whole_number}

@@ -18,7 +18,6 @@ pub fn first_fault_examples()
     ensures { FirstFaultExamples }
 {}
 
-#[tactic(auto, using(crate::proofs::ComputedTables::database_examples))]
 pub fn database_examples()
     ensures { (t : Tables) → DatabaseExamples t }
 {}

@@ -12,7 +12,8 @@ use Rattle.mib_model.specs.declared.rows.Bound.{Bound}
 use Rattle.mib_model.specs.declared.rows.Bound.TheVariants as bound
 use Rattle.mib_model.specs.declared.rows.OcpRow.{OcpRow}
 use Rattle.mib_model.specs.Database.{Database}
-use Rattle.mib_model.specs.Decimals.{count_of, dec_of}
+use Rattle.mib_model.specs.Decimals.{dec_of}
+use Rattle.mib_model.specs.Counts.{count_of}
 use Rattle.mib_model.specs.Kept.{Memory, is_met}
 use Rattle.mib_model.specs.Letters.{letter}
 use Rattle.mib_model.specs.Orders.{sorted_by_number}

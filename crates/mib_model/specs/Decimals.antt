@@ -1,11 +1,11 @@
--- Scaled decimals: their texts, their counts of 10^-12, and the texts of counts. [This profile.]
-use Rattle.std.specs.Prelude.{ℕ, zero, suc, ◌+◌, ◌-◌, ◌*◌, ◌/◌, ◌%◌, ◌^◌, min, ℤ, pos, negsuc, ◌+ℤ◌, ◌-ℤ◌, ◌*ℤ◌, neg_ℤ, nat_abs, int_lt, Bool, List, [], ◌∷◌, ◌++◌, length, take, drop, codes, decimal, nat_le, nat_lt, ◌==◌, ◌&&◌, ◌||◌, not, if◌then◌else◌, Result, Ok, Err}
+-- Scaled decimals, and the texts that are one. [This profile.]
+use Rattle.std.specs.Prelude.{ℕ, ◌-◌, ℤ, pos, negsuc, ◌+ℤ◌, ◌-ℤ◌, neg_ℤ, int_lt, Bool, List, [], ◌∷◌, ◌++◌, length, take, drop, decimal, nat_le, nat_lt, ◌==◌, ◌&&◌, ◌||◌, not, if◌then◌else◌, Result, Ok, Err}
 use Rattle.std.specs.List.{list_any, list_all, before_first, after_first, prefix_len, suffix_len}
 use Rattle.std.specs.Char.{is_ascii_digit}
 use Rattle.mib_model.specs.declared.number.Dec.{Dec}
 use Rattle.mib_model.specs.declared.number.DecFault.{DecFault}
 use Rattle.mib_model.specs.declared.number.DecFault.TheVariants.{Form, Digits, Exponent}
-use Rattle.mib_model.specs.Digits.{digits_value, are_digits, decimal_of_width}
+use Rattle.mib_model.specs.Digits.{digits_value, are_digits}
 use Rattle.mib_model.specs.Letters.{letter}
 
 -- a minus sign
@@ -97,37 +97,3 @@ dec_of text =
     if not (has_decimal_form text) then Err Form
     else scaled_from (has_minus text) (without_leading (whole_digits text ++ fraction_digits text))
     (exponent_value text -ℤ pos (length (fraction_digits text)))
-
--- the whole number nearest to a / b, for b above 0; a tie goes away from zero
-unfoldable pub half : ℤ → ℕ → ℤ
-half a b = with_sign (int_lt a (pos 0)) ((2 * nat_abs a + b) / (2 * b))
-
--- a count is held to a magnitude of 10^37
-abbrev pub held : ℤ → ℤ
-held count = if nat_le (10 ^ 37) (nat_abs count) then with_sign (int_lt count (pos 0)) (10 ^ 37) else count
-
--- m times 10^e, rounded where e is below 0
-abbrev pub times_power : ℤ → ℤ → ℤ
-times_power m (pos e) = m *ℤ pos (10 ^ e)
-times_power m (negsuc e) = half m (10 ^ (e + 1))
-
--- the count of a decimal: m·10^(e + 12), rounded and held
-unfoldable pub count_of : Dec → ℤ
-count_of d = held (times_power d.m (d.e +ℤ pos 12))
-
--- the count of a raw number
-abbrev pub raw_count : ℤ → ℤ
-raw_count raw = raw *ℤ pos (10 ^ 12)
-
--- a magnitude with a point before so many decimals; no point where there are none
-abbrev pub pointed : ℕ → ℕ → List ℕ
-pointed zero n = decimal n
-pointed (suc d) n = decimal (n / 10 ^ (d + 1)) ++ codes "." ++ decimal_of_width (d + 1) (n % 10 ^ (d + 1))
-
--- a number with its sign, with a point before so many decimals
-abbrev pub signed_pointed : ℕ → ℤ → List ℕ
-signed_pointed d n = if int_lt n (pos 0) then codes "-" ++ pointed d (nat_abs n) else pointed d (nat_abs n)
-
--- the text of a count with some decimals; more than 12 are 12
-unfoldable pub count_text : ℤ → ℕ → List ℕ
-count_text count decimals = signed_pointed (min decimals 12) (half count (10 ^ (12 - min decimals 12)))

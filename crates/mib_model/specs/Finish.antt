@@ -12,7 +12,7 @@ use Rattle.mib_model.specs.Carry.{check_of}
 use Rattle.mib_model.specs.Checks.{Sample, Numbered, Worded, checks_of, class_of}
 use Rattle.mib_model.specs.Curves.{curve_of, calibration}
 use Rattle.mib_model.specs.Database.{Database}
-use Rattle.mib_model.specs.Decimals.{raw_count}
+use Rattle.mib_model.specs.Counts.{raw_count}
 use Rattle.mib_model.specs.Kept.{Kept, Memory, keeping, has_number, is_met}
 use Rattle.mib_model.specs.Letters.{letter}
 use Rattle.mib_model.specs.Parameters.{parameter}

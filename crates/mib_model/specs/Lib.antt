@@ -1,4 +1,3 @@
-pub mod Padding
 pub mod Letters
 pub mod Names
 pub mod Hashes
@@ -6,6 +5,7 @@ pub mod Kinds
 pub mod Keys
 pub mod Digits
 pub mod Decimals
+pub mod Counts
 pub mod WholeNumbers
 pub mod Orders
 pub mod Encodings
@@ -40,6 +40,7 @@ pub mod Checks
 pub mod Alarms
 pub mod Tails
 pub mod RawTexts
+pub mod AlarmTexts
 pub mod Texts
 pub mod Flaws
 pub mod References
@@ -68,3 +69,4 @@ pub mod Faults
 pub mod Replies
 pub mod Unbuilt
 pub mod Words
+pub mod OctetsLayout

@@ -5,7 +5,7 @@ use Rattle.mib_model.specs.declared.rows.CafRow.{CafRow}
 use Rattle.mib_model.specs.declared.rows.CapRow.{CapRow}
 use Rattle.mib_model.specs.declared.number.Over.{Over}
 use Rattle.mib_model.specs.Calibrated.{Calibrated, Outside, calibrated, is_wide, bounded}
-use Rattle.mib_model.specs.Decimals.{count_of, half}
+use Rattle.mib_model.specs.Counts.{count_of, half}
 use Rattle.mib_model.specs.Letters.{letter}
 use Rattle.mib_model.specs.Orders.{sorted_by}
 use Rattle.mib_model.specs.WholeNumbers.{whole_number}

@@ -5,7 +5,7 @@ use Rattle.mib_model.specs.declared.number.Dec.{Dec}
 use Rattle.mib_model.specs.declared.number.Over.{Over}
 use Rattle.mib_model.specs.declared.rows.McfRow.{McfRow}
 use Rattle.mib_model.specs.Calibrated.{is_wide, bounded}
-use Rattle.mib_model.specs.Decimals.{times_power}
+use Rattle.mib_model.specs.Counts.{times_power}
 
 -- the five coefficients, that of the power 0 first
 abbrev pub coefficients : McfRow → List Dec

@@ -2,10 +2,6 @@
 use Rattle.std.specs.Prelude.{ℕ, List, [], ◌∷◌, ◌++◌, length, codes, decimal, Option, Some, None}
 use Rattle.std.specs.Fmt.{signed_decimal}
 use Rattle.std.specs.List.{flat_map}
-use Rattle.mib_model.specs.declared.check.Class.{Class}
-use Rattle.mib_model.specs.declared.check.Class.TheVariants as class
-use Rattle.mib_model.specs.declared.check.Change.{Change}
-use Rattle.mib_model.specs.declared.check.Change.TheVariants as change
 use Rattle.mib_model.specs.declared.packet.BadWhy.{BadWhy}
 use Rattle.mib_model.specs.declared.packet.BadWhy.TheVariants as why
 use Rattle.mib_model.specs.declared.packet.Ended.{Ended}
@@ -14,8 +10,9 @@ use Rattle.mib_model.specs.declared.packet.Found.{Found}
 use Rattle.mib_model.specs.declared.packet.Found.TheVariants as found
 use Rattle.mib_model.specs.declared.packet.Header.{Header}
 use Rattle.mib_model.specs.declared.packet.Value.{Value}
+use Rattle.mib_model.specs.AlarmTexts.{change_text_of}
 use Rattle.mib_model.specs.Calibrated.{Calibrated, Counted, StatusText, NoText, Outside, TooLarge, LogCurve, RealCurve}
-use Rattle.mib_model.specs.Decimals.{count_text}
+use Rattle.mib_model.specs.Counts.{count_text}
 use Rattle.mib_model.specs.Headers.{header_of}
 use Rattle.mib_model.specs.RawTexts.{quoted, raw_text}
 use Rattle.mib_model.specs.Tails.{Tail, Plain, Given, Invalid, Told, Record}
@@ -70,24 +67,6 @@ tail_text Invalid = codes " ? INVALID"
 unfoldable pub value_text : Value → List ℕ → Tail → List ℕ
 value_text v packet tail = codes "  " ++ v.name ++ codes " " ++ raw_text v packet ++ tail_text tail ++ codes "\n"
 
--- a class that is told of
-abbrev pub class_text : Class → List ℕ
-class_text class.Nominal = []
-class_text class.Hard = codes "HARD"
-class_text class.Status = codes "STATUS"
-class_text class.Delta = codes "DELTA"
-class_text class.Soft = codes "SOFT"
-
--- what is told of a name
-abbrev pub change_text : List ℕ → Change → List ℕ
-change_text name (change.Alarm c) = codes "  ALARM " ++ name ++ codes " " ++ class_text c ++ codes "\n"
-change_text name (change.Clear c) = codes "  CLEAR " ++ name ++ codes " " ++ class_text c ++ codes "\n"
-
--- the line of a change, where there is one
-abbrev pub change_text_of : List ℕ → Option Change → List ℕ
-change_text_of name None = []
-change_text_of name (Some c) = change_text name c
-
 -- how values end that aren't whole
 abbrev pub ended_text : Ended → List ℕ
 ended_text ended.Whole = []
@@ -118,11 +97,11 @@ record_body r =
 unfoldable pub record_text : Record → List ℕ
 record_text r = edition_text_of r.edition ++ record_body r
 
--- the rest of a feed that ends inside a packet
+-- the line of a feed that ends inside a packet, of which so many octets are there
 abbrev pub cut_text : ℕ → List ℕ
 cut_text octets = codes "CUT " ++ decimal octets ++ codes "\n"
 
--- none where the feed ends with a packet
+-- the line of a feed's rest: none where the feed ends with a packet
 abbrev pub rest_text : List ℕ → List ℕ
 rest_text [] = []
 rest_text (b ∷ rest) = cut_text (length (b ∷ rest))

@@ -11,7 +11,7 @@ pub struct Octets<const N: usize> {
 
 impl<const N: usize> Model for Octets<N> {
     ghost use Rattle.std.specs.Prelude.{List, ℕ, take, length};
-    ghost use Rattle.mib_model.specs.Padding.{padded, IsPadded, length-padded};
+    ghost use Rattle.mib_model.specs.OctetsLayout.{padded, IsPadded, length-padded};
 
     ghost Value = { List ℕ };
 

@@ -4,7 +4,7 @@ use Rattle.std.specs.Prelude.{pos, ◌-ℤ◌}
 use Rattle.std.proofs.lemmas.Int.{ints}
 use Rattle.dec_num.proofs.LineFacts.{narrow-Some}
 use Rattle.dec_num.specs.Narrow.{narrow_result}
-use Rattle.mib_model.specs.Decimals.{times_power}
+use Rattle.mib_model.specs.Counts.{times_power}
 use Rattle.dec_num.proofs.polynomial.to_count.Goals as goal
 
 pub returns : goal.returns

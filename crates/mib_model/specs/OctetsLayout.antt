@@ -1,4 +1,4 @@
--- How short texts lie in a room of fixed size: the octets, and zeros behind them.
+-- How the octets of `Octets` lie in their room of fixed size: in front, and zeros behind them. No definition of the product.
 use Rattle.std.specs.Prelude.{◌≡◌, ℕ, ◌-◌, ◌≤◌, List, ◌++◌, length, take, replicate}
 use Rattle.std.proofs.Common.{ap, sym, ◌∙◌, arith, length-append, length-take}
 use Rattle.std.proofs.lemmas.List.{length-replicate}
