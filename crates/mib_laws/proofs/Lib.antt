@@ -1,5 +1,5 @@
 mod Options
-mod Choices
+pub mod Choices
 pub mod RunFacts
 pub mod OneEdition
 pub mod PlainRunFacts

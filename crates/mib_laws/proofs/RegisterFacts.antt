@@ -54,11 +54,11 @@ used_from-quiet s e k =
     choice P (is_disorder k (last_pending s)) (Disorder (unwrap_or (last_pending s) 0)) _ (λ j. refl) (λ j.
     choice P (nat_le most_pending (length (pending s))) FullPending (Used k) (λ l. refl) (λ l. refl))))
 
-with_tables-next : (s : Register) (tables : Database) (a : Answer) → (with_tables s tables a).next ≡ s.next
+pub with_tables-next : (s : Register) (tables : Database) (a : Answer) → (with_tables s tables a).next ≡ s.next
 with_tables-next s tables (Added e) = refl
 with_tables-next s tables other = refl
 
-with_activation-next : (s : Register) (stay : List Scheduled) (e : ℕ) (a : Answer) → (with_activation s stay e a).next ≡ s.next
+pub with_activation-next : (s : Register) (stay : List Scheduled) (e : ℕ) (a : Answer) → (with_activation s stay e a).next ≡ s.next
 with_activation-next s stay e (Used k) = refl
 with_activation-next s stay e other = refl
 
@@ -103,7 +103,7 @@ pub count-up : (first : Database) (history : RegisterHistory) → IsRegisterHist
 count-up first history legal = count-from (opening first) history legal
 
 -- SEATS: what is no stamp shows none, and each stamp is of seat 0
-quiet : (s : Register) (e : Entry) → is_stamp e ≡ false → stamp_in (answer_to s e) ≡ None
+pub quiet : (s : Register) (e : Entry) → is_stamp e ≡ false → stamp_in (answer_to s e) ≡ None
 unfolding answer_to
 quiet s Stamp other = absurd (subst (λ c. cond c (Unit {0}) ⊥) other tt)
 quiet s (Add tables plans) other = added-quiet s

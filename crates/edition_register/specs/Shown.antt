@@ -1,0 +1,40 @@
+-- What moves of the register show of packets and of editions. [This profile.]
+use Rattle.std.specs.Prelude.{◌≡◌, ◌≢◌, ℕ, ◌-◌, List, [], ◌∷◌}
+use Rattle.std.specs.List.{AllByRecursion, flat_map, slice_index_or}
+use Rattle.mib_model.specs.declared.database.Database.{Database}
+use Rattle.mib_model.specs.declared.register.Answer.{Answer}
+use Rattle.mib_model.specs.declared.register.Answer.TheVariants.{Stamped, Added}
+use Rattle.mib_model.specs.declared.register.Entry.{Entry}
+use Rattle.mib_model.specs.declared.register.Entry.TheVariants.{Add, AddOn}
+use Rattle.mib_model.specs.declared.register.Register.{Register}
+use Rattle.mib_model.specs.Database.{no_rows}
+use Rattle.mib_model.specs.RegisterHistories.{RegisterHistory}
+
+-- the edition and the tables that a reply stamps, or else those before
+abbrev pub stamped_by : ℕ × Database → Answer → ℕ × Database
+stamped_by before (Stamped number edition tables) = (edition, tables)
+stamped_by before other = before
+
+-- the edition and the tables of the last stamp, or those before where there is none
+abbrev pub last_stamped : ℕ × Database → RegisterHistory → ℕ × Database
+last_stamped before [] = before
+last_stamped before (m ∷ ms) = last_stamped (stamped_by before m.reply) ms
+
+-- the tables that an entry added
+abbrev pub added_by : Entry → Answer → List Database
+added_by (Add tables plans) (Added e) = tables ∷ []
+added_by (AddOn base tables plans) (Added e) = tables ∷ []
+added_by entry other = []
+
+-- the tables that moves added, in their order
+abbrev pub added_in : RegisterHistory → List Database
+added_in moves = flat_map (λ m. added_by m.entry m.reply) moves
+
+-- a stamp's tables are those of its edition
+abbrev pub HasItsTables : List Database → Answer → Type 0
+HasItsTables editions (Stamped number edition tables) = tables ≡ slice_index_or editions (edition - 1) no_rows
+HasItsTables editions other = Unit {0}
+
+-- no activation begins with the next packet
+abbrev pub NoneBegins : Register → Type 0
+NoneBegins s = AllByRecursion (λ pair. pair.from ≢ s.next) s.schedule

@@ -1,0 +1,21 @@
+ghost use Rattle.edition_register.specs.Laws.{DeskShowsEditions, IntakeCounts, StampGoesOn, TablesStay};
+
+/// The number of the next packet is one more than the intake has moves.
+pub fn intake_counts()
+    ensures { IntakeCounts }
+{}
+
+/// The editions are the first and those that the desk's moves show.
+pub fn desk_shows_editions()
+    ensures { DeskShowsEditions }
+{}
+
+/// A stamp at which no activation begins goes on with the edition and the tables of the intake's stamp before.
+pub fn stamp_goes_on()
+    ensures { StampGoesOn }
+{}
+
+/// The tables of each stamp are those of its edition at the end.
+pub fn tables_stay()
+    ensures { TablesStay }
+{}

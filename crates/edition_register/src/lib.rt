@@ -1,0 +1,10 @@
+//! What a history of the register of editions shows its seats.
+//!
+//! Each law is the contract of a function with an empty body, and its proof a lemma that the crates above may cite. They
+//! speak of the definitions' own register, without a thread: what the intake's moves tell of the next packet and its
+//! edition, and what the desk's moves tell of the editions. The crate rests on `mib_model` and `mib_laws`.
+#![tactic(auto)]
+
+mod laws;
+
+pub use laws::{desk_shows_editions, intake_counts, stamp_goes_on, tables_stay};
