@@ -1,7 +1,7 @@
 -- Each feed is cut into packets.
-use Rattle.std.proofs.Common.{◌≡◌, ℕ, zero, suc, ◌+◌, ◌≤◌, ◌<◌, Bool, true, false, List, [], ◌∷◌, ◌++◌, length, take, drop, nat_le, refl, sym, ap, ◌∙◌, subst, arith, append_assoc, length-take, get_or-take}
+use Rattle.std.proofs.Common.{◌≡◌, ℕ, zero, suc, ◌+◌, ◌≤◌, ◌<◌, Bool, true, false, List, [], ◌∷◌, ◌++◌, length, take, drop, nat_le, refl, sym, ap, ◌∙◌, arith, append_assoc, length-take, get_or-take}
 use Rattle.std.proofs.lemmas.List.{length-drop, take-append-drop}
-use Rattle.std.specs.List.{All, concat}
+use Rattle.std.specs.List.{concat}
 use Rattle.std.proofs.lemmas.Bool.{leb-true, leb-false}
 use Rattle.std.proofs.lemmas.List.Elements.{All-nil, All-cons}
 use Rattle.mib_model.specs.Headers.{header_of}

@@ -1,5 +1,5 @@
 -- A desk's lines in parts, and what decides them.
-use Rattle.std.proofs.Common.{◌≡◌, ◌⊎◌, ℕ, Bool, true, false, List, [], ◌∷◌, ◌++◌, map, length, drop, Option, Some, None, inl, inr, refl, sym, ap, ◌∙◌, subst, append_assoc, arith, ◌||◌, cond}
+use Rattle.std.proofs.Common.{◌≡◌, ℕ, Bool, true, false, List, [], ◌∷◌, ◌++◌, map, length, drop, Option, Some, None, inl, inr, refl, sym, ap, ◌∙◌, subst, arith, ◌||◌, cond}
 use Rattle.std.specs.List.{flat_map, filter_map, list_any, cons_option, slice_index_or}
 use Rattle.std.proofs.lemmas.Grind.{flat_map-append}
 use Rattle.std.proofs.lemmas.List.{map-append}

@@ -12,3 +12,4 @@ mod Sorting
 mod SoundStructures
 mod LimitFacts
 mod Ends
+pub mod SliceFacts

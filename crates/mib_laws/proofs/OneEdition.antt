@@ -1,5 +1,5 @@
 -- A run with one edition.
-use Rattle.std.proofs.Common.{◌≡◌, ℕ, ◌+◌, zero, suc, List, [], ◌∷◌, ◌++◌, map, length, true, nat_le, refl, ap, ◌∙◌, arith}
+use Rattle.std.proofs.Common.{◌≡◌, ℕ, ◌+◌, zero, suc, List, [], ◌∷◌, ◌++◌, map, length, true, nat_le, refl, ap, arith}
 use Rattle.std.specs.List.{range_with_len, slice_index_or, zip}
 use Rattle.histories.specs.History.{IsLegal, state_after}
 use Rattle.mib_model.specs.declared.database.Database.{Database}

@@ -3,3 +3,4 @@ pub mod Registers
 pub mod Walks
 pub mod Cuts
 pub mod Desks
+pub mod Places
