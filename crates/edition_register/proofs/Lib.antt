@@ -1,1 +1,2 @@
 pub mod RegisterFacts
+pub mod BoundedFacts

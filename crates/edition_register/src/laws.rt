@@ -1,3 +1,4 @@
+ghost use Rattle.edition_register.specs.Bounded.{BoundedServes};
 ghost use Rattle.edition_register.specs.Laws.{DeskShowsEditions, IntakeCounts, StampGoesOn, TablesStay};
 
 /// The number of the next packet is one more than the intake has moves.
@@ -18,4 +19,9 @@ pub fn stamp_goes_on()
 /// The tables of each stamp are those of its edition at the end.
 pub fn tables_stay()
     ensures { TablesStay }
+{}
+
+/// A machine that keeps of the activations that aren't pending the last alone has the register's histories.
+pub fn bounded_serves()
+    ensures { BoundedServes }
 {}

@@ -7,4 +7,4 @@
 
 mod laws;
 
-pub use laws::{desk_shows_editions, intake_counts, stamp_goes_on, tables_stay};
+pub use laws::{bounded_serves, desk_shows_editions, intake_counts, stamp_goes_on, tables_stay};

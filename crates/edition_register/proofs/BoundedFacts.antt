@@ -1,0 +1,314 @@
+-- A register that forgets what no packet to come needs answers as one that keeps all.
+use Rattle.std.proofs.Common.{◌≡◌, ℕ, zero, suc, ◌+◌, ◌-◌, ◌<◌, ◌≤◌, Bool, true, false, not, cond, List, [], ◌∷◌, ◌++◌, map, filter, length, Option, Some, None, unwrap_or, option_map, sym, refl, ap, subst, ◌∙◌, arith, nat_le, nat_lt, append_assoc}
+use Rattle.std.proofs.lemmas.Grind.{common_steps}
+use Rattle.std.proofs.lemmas.List.{append-nil}
+use Rattle.std.proofs.lemmas.List.Elements.{filter-append}
+use Rattle.std.proofs.lemmas.Bool.{false≢true, leb-true, leb-false, ltb-false, le-leb}
+use Rattle.std.specs.List.{AllByRecursion, last_or}
+use Rattle.histories.specs.History.{IsLegal, state_after}
+use Rattle.mib_model.specs.declared.database.Database.{Database}
+use Rattle.mib_model.specs.declared.register.Answer.{Answer}
+use Rattle.mib_model.specs.declared.register.Answer.TheVariants.{Stamped, Added, Used, NoEdition, Late, Disorder, FullPending}
+use Rattle.mib_model.specs.declared.register.Entry.{Entry}
+use Rattle.mib_model.specs.declared.register.Entry.TheVariants.{Stamp, Add, AddOn, Use, UseFrom, Newest, Look}
+use Rattle.mib_model.specs.declared.register.Register.{Register}
+use Rattle.mib_model.specs.declared.register.Scheduled.{Scheduled}
+use Rattle.mib_model.specs.Register.{opening, answer_to, after, with_tables, with_activation, is_pending, edition_for, has_edition, count_of_editions, is_disorder, last_pending, pending, most_pending, tables_of}
+use Rattle.mib_model.specs.RegisterHistories.{RegisterHistory}
+use Rattle.mib_laws.proofs.Choices.{choice}
+use Rattle.edition_register.specs.Bounded.{last_alone, bounded, bounded_after, BoundedServes}
+
+-- LISTS
+module _ {X : Type 0} where
+  all-last : (P : X → Type 0) (xs : List X) → AllByRecursion P xs → AllByRecursion P (last_alone xs)
+  all-last P [] all = tt
+  all-last P (x ∷ []) all = all
+  all-last P (x ∷ y ∷ zs) all = all-last P (y ∷ zs) all.1
+
+  last-append : (xs ys : List X) → last_alone (last_alone xs ++ ys) ≡ last_alone (xs ++ ys)
+  last-append [] ys = refl
+  last-append (x ∷ []) ys = refl
+  last-append (x ∷ y ∷ zs) ys = last-append (y ∷ zs) ys
+
+  last_or-append : {Y : Type 0} (f : X → Y) (xs ys : List X) → last_or None (map f (last_alone xs ++ ys)) ≡ last_or None (map f (xs ++ ys))
+  last_or-append f [] ys = refl
+  last_or-append f (x ∷ []) ys = refl
+  last_or-append f (x ∷ y ∷ zs) ys = last_or-append f (y ∷ zs) ys
+
+  filter-all : (test : X → Bool) (xs : List X) → AllByRecursion (λ x. test x ≡ true) xs → filter test xs ≡ xs
+  filter-all test [] all = refl
+  filter-all test (x ∷ xs) all = ap (λ b. cond b (x ∷ filter test xs) (filter test xs)) all.0 ∙ ap (λ (l : List X). x ∷ l) (filter-all test xs all.1)
+
+  filter-none : (test : X → Bool) (xs : List X) → AllByRecursion (λ x. test x ≡ false) xs → filter test xs ≡ []
+  filter-none test [] all = refl
+  filter-none test (x ∷ xs) all = ap (λ b. cond b (x ∷ filter test xs) (filter test xs)) all.0 ∙ filter-none test xs all.1
+
+  filter-tests : (test : X → Bool) (xs : List X) → AllByRecursion (λ x. test x ≡ true) (filter test xs)
+  filter-tests test [] = tt
+  filter-tests test (x ∷ xs) =
+      let rest = filter-tests test xs in
+      choice (λ l. AllByRecursion (λ y. test y ≡ true) l) (test x) (x ∷ filter test xs) (filter test xs) (λ is. (is, rest)) (λ _. rest)
+
+  all-map : (P Q : X → Type 0) → ((x : X) → P x → Q x) → (xs : List X) → AllByRecursion P xs → AllByRecursion Q xs
+  all-map P Q of [] all = tt
+  all-map P Q of (x ∷ xs) all = (of x all.0, all-map P Q of xs all.1)
+
+  all-append : (P : X → Type 0) (xs ys : List X) → AllByRecursion P xs → AllByRecursion P ys → AllByRecursion P (xs ++ ys)
+  all-append P [] ys all more = more
+  all-append P (x ∷ xs) ys all more = (all.0, all-append P xs ys all.1 more)
+
+-- SCHEDULES
+abbrev past : ℕ → List Scheduled → List Scheduled
+past n pairs = filter (λ q. not (nat_le n q.from)) pairs
+
+abbrev pend : ℕ → List Scheduled → List Scheduled
+pend n pairs = filter (λ q. nat_le n q.from) pairs
+
+abbrev trim : ℕ → List Scheduled → List Scheduled
+trim n pairs = last_alone (past n pairs) ++ pend n pairs
+
+-- the packets from which activations begin rise, from this one on
+abbrev Rises : ℕ → List Scheduled → Type 0
+Rises low [] = Unit {0}
+Rises low (q ∷ qs) = (low ≤ q.from) × Rises (suc q.from) qs
+
+rises-weaken : (low high : ℕ) (pairs : List Scheduled) → low ≤ high → Rises high pairs → Rises low pairs
+rises-weaken low high [] le rises = tt
+rises-weaken low high (q ∷ qs) le rises = let above = rises.0 in (omega arith, rises.1)
+
+rises-filter : (test : Scheduled → Bool) (low : ℕ) (pairs : List Scheduled) → Rises low pairs → Rises low (filter test pairs)
+rises-filter test low [] rises = tt
+rises-filter test low (q ∷ qs) rises =
+    let above = rises.0 in
+    choice (λ l. Rises low l) (test q) (q ∷ filter test qs) (filter test qs) (λ _. (above, rises-filter test (suc q.from) qs rises.1))
+    (λ _. rises-weaken low (suc q.from) (filter test qs) (omega arith) (rises-filter test (suc q.from) qs rises.1))
+
+rises-one : (low : ℕ) (pairs : List Scheduled) (x : Scheduled) → Rises low pairs → low ≤ x.from → AllByRecursion (λ (q : Scheduled). q.from < x.from) pairs → Rises low (pairs ++ x ∷ [])
+rises-one low [] x rises le all = (le, tt)
+rises-one low (q ∷ qs) x rises le all = let below = all.0 in (rises.0, rises-one (suc q.from) qs x rises.1 (omega arith) all.1)
+
+rises-above : (n low : ℕ) (pairs : List Scheduled) → n ≤ low → Rises low pairs → AllByRecursion (λ (q : Scheduled). nat_le n q.from ≡ true) pairs
+rises-above n low [] le rises = tt
+rises-above n low (q ∷ qs) le rises = let above = rises.0 in (le-leb n q.from (omega arith), rises-above n (suc q.from) qs (omega arith) rises.1)
+
+split-by : (b : Bool) (n : ℕ) (q : Scheduled) (qs : List Scheduled) → nat_le n q.from ≡ b → Rises (suc q.from) qs → past n qs ++ pend n qs ≡ qs
+    → cond (not b) (q ∷ past n qs) (past n qs) ++ cond b (q ∷ pend n qs) (pend n qs) ≡ q ∷ qs
+split-by true n q qs is rises same =
+    let le = leb-true n q.from is in let above = rises-above n (suc q.from) qs (omega arith) rises in
+    ap (λ (l : List Scheduled). l ++ q ∷ pend n qs) (filter-none (λ r. not (nat_le n r.from)) qs (all-map (λ (r : Scheduled). nat_le n r.from ≡ true) (λ (r : Scheduled). not (nat_le n r.from) ≡ false) (λ r h. ap not h) qs above))
+    ∙ ap (λ (l : List Scheduled). q ∷ l) (filter-all (λ r. nat_le n r.from) qs above)
+split-by false n q qs is rises same = ap (λ (l : List Scheduled). q ∷ l) same
+
+-- what is past stands before what is pending
+split : (n low : ℕ) (pairs : List Scheduled) → Rises low pairs → past n pairs ++ pend n pairs ≡ pairs
+split n low [] rises = refl
+split n low (q ∷ qs) rises = split-by (nat_le n q.from) n q qs refl rises.1 (split n (suc q.from) qs rises.1)
+
+-- activations from packets below this one
+abbrev Below : ℕ → List Scheduled → Type 0
+Below n pairs = AllByRecursion (λ (q : Scheduled). q.from < n) pairs
+
+not-le : (n k : ℕ) → not (nat_le n k) ≡ true → k < n
+not-le n k h = grind (arith, common_steps)
+
+past-below : (n : ℕ) (pairs : List Scheduled) → Below n (past n pairs)
+past-below n pairs = all-map (λ (q : Scheduled). not (nat_le n q.from) ≡ true) (λ (q : Scheduled). q.from < n) (λ q h. not-le n q.from h) (past n pairs) (filter-tests (λ q. not (nat_le n q.from)) pairs)
+
+lt-not : (n k : ℕ) → k < n → nat_le n k ≡ false
+lt-not n k h = search (arith, h)
+
+below-past : (n m : ℕ) (pairs : List Scheduled) → n ≤ m → Below n pairs → past m pairs ≡ pairs
+below-past n m pairs le all = filter-all (λ q. not (nat_le m q.from)) pairs (all-map (λ (q : Scheduled). q.from < n) (λ (q : Scheduled). not (nat_le m q.from) ≡ true) (λ q h. ap not (lt-not m q.from (omega arith))) pairs all)
+
+below-pend : (n m : ℕ) (pairs : List Scheduled) → n ≤ m → Below n pairs → pend m pairs ≡ []
+below-pend n m pairs le all = filter-none (λ q. nat_le m q.from) pairs (all-map (λ (q : Scheduled). q.from < n) (λ (q : Scheduled). nat_le m q.from ≡ false) (λ q h. lt-not m q.from (omega arith)) pairs all)
+
+trim-parts : (m n : ℕ) (xs ys : List Scheduled) → n ≤ m → Below n xs → trim m (xs ++ ys) ≡ last_alone (xs ++ past m ys) ++ pend m ys
+trim-parts m n xs ys le below = λ i.
+    last_alone ((filter-append (λ q. not (nat_le m q.from)) xs ys ∙ ap (λ (l : List Scheduled). l ++ past m ys) (below-past n m xs le below)) i)
+    ++ (filter-append (λ q. nat_le m q.from) xs ys ∙ ap (λ (l : List Scheduled). l ++ pend m ys) (below-pend n m xs le below)) i
+
+-- of what is past the last alone counts
+trim-last : (m n : ℕ) (xs ys : List Scheduled) → n ≤ m → Below n xs → trim m (last_alone xs ++ ys) ≡ trim m (xs ++ ys)
+trim-last m n xs ys le below =
+    trim-parts m n (last_alone xs) ys le (all-last (λ (q : Scheduled). q.from < n) xs below)
+    ∙ ap (λ (l : List Scheduled). l ++ pend m ys) (last-append xs (past m ys))
+    ∙ sym (trim-parts m n xs ys le below)
+
+trim-again : (m n low : ℕ) (pairs : List Scheduled) → n ≤ m → Rises low pairs → trim m (trim n pairs) ≡ trim m pairs
+trim-again m n low pairs le rises = trim-last m n (past n pairs) (pend n pairs) le (past-below n pairs) ∙ ap (trim m) (split n low pairs rises)
+
+pend-pend : (n : ℕ) (pairs : List Scheduled) → pend n (pend n pairs) ≡ pend n pairs
+pend-pend n pairs = filter-all (λ q. nat_le n q.from) (pend n pairs) (filter-tests (λ q. nat_le n q.from) pairs)
+
+past-pend : (n : ℕ) (pairs : List Scheduled) → past n (pend n pairs) ≡ []
+past-pend n pairs = filter-none (λ q. not (nat_le n q.from)) (pend n pairs) (all-map (λ (q : Scheduled). nat_le n q.from ≡ true) (λ (q : Scheduled). not (nat_le n q.from) ≡ false) (λ q h. ap not h) (pend n pairs) (filter-tests (λ q. nat_le n q.from) pairs))
+
+last-below : (n : ℕ) (pairs : List Scheduled) → Below n (last_alone (past n pairs))
+last-below n pairs = all-last (λ (q : Scheduled). q.from < n) (past n pairs) (past-below n pairs)
+
+-- a trimmed schedule has the same pending activations, and of the past ones the last
+pend-trim : (n : ℕ) (pairs : List Scheduled) → pend n (trim n pairs) ≡ pend n pairs
+pend-trim n pairs =
+    filter-append (λ q. nat_le n q.from) (last_alone (past n pairs)) (pend n pairs)
+    ∙ ap (λ (l : List Scheduled). l ++ pend n (pend n pairs)) (below-pend n n (last_alone (past n pairs)) (omega arith) (last-below n pairs))
+    ∙ pend-pend n pairs
+
+past-trim : (n : ℕ) (pairs : List Scheduled) → past n (trim n pairs) ≡ last_alone (past n pairs)
+past-trim n pairs =
+    filter-append (λ q. not (nat_le n q.from)) (last_alone (past n pairs)) (pend n pairs)
+    ∙ ap (λ (l : List Scheduled). l ++ past n (pend n pairs)) (below-past n n (last_alone (past n pairs)) (omega arith) (last-below n pairs))
+    ∙ ap (λ (l : List Scheduled). last_alone (past n pairs) ++ l) (past-pend n pairs)
+    ∙ append-nil (last_alone (past n pairs))
+
+-- ANSWERS
+below-le : (n : ℕ) (pairs : List Scheduled) → Below n pairs → filter (λ q. nat_le q.from n) pairs ≡ pairs
+below-le n pairs all = filter-all (λ q. nat_le q.from n) pairs (all-map (λ (q : Scheduled). q.from < n) (λ (q : Scheduled). nat_le q.from n ≡ true) (λ q h. le-leb q.from n (omega arith)) pairs all)
+
+le-parts : (n : ℕ) (xs ys : List Scheduled) → Below n xs → filter (λ q. nat_le q.from n) (xs ++ ys) ≡ xs ++ filter (λ q. nat_le q.from n) ys
+le-parts n xs ys below = filter-append (λ q. nat_le q.from n) xs ys ∙ ap (λ (l : List Scheduled). l ++ filter (λ q. nat_le q.from n) ys) (below-le n xs below)
+
+abbrev edition_in : ℕ → List Scheduled → ℕ
+edition_in n pairs = unwrap_or (last_or None (map (λ pair. pair.edition) (filter (λ pair. nat_le pair.from n) pairs))) 1
+
+edition-trim : (n low : ℕ) (pairs : List Scheduled) → Rises low pairs → edition_in n (trim n pairs) ≡ edition_in n pairs
+edition-trim n low pairs rises =
+    let edition = λ (l : List Scheduled). unwrap_or (last_or None (map (λ (pair : Scheduled). pair.edition) l)) 1 in
+    let rest = filter (λ (q : Scheduled). nat_le q.from n) (pend n pairs) in
+    ap edition (le-parts n (last_alone (past n pairs)) (pend n pairs) (last-below n pairs))
+    ∙ ap (λ (o : Option ℕ). unwrap_or o 1) (last_or-append (λ (pair : Scheduled). pair.edition) (past n pairs) rest)
+    ∙ sym (ap edition (le-parts n (past n pairs) (pend n pairs) (past-below n pairs)))
+    ∙ ap (edition_in n) (split n low pairs rises)
+
+abbrev In : Register → Type 0
+In s = Rises 0 s.schedule
+
+same-answer : (s : Register) (e : Entry) → In s → answer_to (bounded s) e ≡ answer_to s e
+unfolding answer_to
+same-answer s Stamp rises = ap (λ e. Stamped s.next e (tables_of s e)) (edition-trim s.next 0 s.schedule rises)
+same-answer s (Add tables plans) rises = refl
+same-answer s (AddOn base tables plans) rises = refl
+same-answer s (Use e) rises = refl
+same-answer s (UseFrom e k) rises =
+    ap (λ (l : List Scheduled).
+    let last = option_map (λ (pair : Scheduled). pair.from) (last_or None l) in
+    cond (not (has_edition s e)) (NoEdition (count_of_editions s))
+    (cond (nat_lt k s.next) (Late s.next)
+    (cond (is_disorder k last) (Disorder (unwrap_or last 0))
+    (cond (nat_le most_pending (length l)) FullPending (Used k)))))
+    (pend-trim s.next s.schedule)
+same-answer s Newest rises = refl
+same-answer s (Look e) rises = refl
+
+-- STATES
+again : (s : Register) → In s → bounded (bounded s) ≡ bounded s
+again s rises = ap (λ (l : List Scheduled). record s { schedule = l }) (trim-again s.next s.next 0 s.schedule (omega arith) rises)
+
+tables-same : (s : Register) (tables : Database) (a : Answer) → In s → bounded (with_tables (bounded s) tables a) ≡ bounded (with_tables s tables a)
+tables-same s tables (Added e) rises = ap (λ (l : List Scheduled). record s { editions = s.editions ++ tables ∷ []; schedule = l }) (trim-again s.next s.next 0 s.schedule (omega arith) rises)
+tables-same s tables other rises = again s rises
+
+use-same : (s : Register) (e : ℕ) (a : Answer) → In s
+    → bounded (with_activation (bounded s) (past s.next (trim s.next s.schedule)) e a) ≡ bounded (with_activation s (past s.next s.schedule) e a)
+use-same s e (Used k) rises =
+    let n = s.next in let x : Scheduled = record { from = k; edition = e } in
+    ap (λ (l : List Scheduled). record s { schedule = trim n (l ++ x ∷ []) }) (past-trim n s.schedule)
+    ∙ ap (λ (l : List Scheduled). record s { schedule = l }) (trim-last n n (past n s.schedule) (x ∷ []) (omega arith) (past-below n s.schedule))
+use-same s e other rises = again s rises
+
+use_from-same : (s : Register) (e : ℕ) (a : Answer) → In s → bounded (with_activation (bounded s) (trim s.next s.schedule) e a) ≡ bounded (with_activation s s.schedule e a)
+use_from-same s e (Used k) rises =
+    let n = s.next in let x : Scheduled = record { from = k; edition = e } in let xs = past n s.schedule in let ys = pend n s.schedule in
+    ap (λ (l : List Scheduled). record s { schedule = l })
+    (ap (trim n) (append_assoc (last_alone xs) ys (x ∷ []))
+    ∙ trim-last n n xs (ys ++ x ∷ []) (omega arith) (past-below n s.schedule)
+    ∙ ap (trim n) (sym (append_assoc xs ys (x ∷ [])) ∙ ap (λ (l : List Scheduled). l ++ x ∷ []) (split n 0 s.schedule rises)))
+use_from-same s e other rises = again s rises
+
+same-after : (s : Register) (e : Entry) → In s → bounded (after (bounded s) e) ≡ bounded (after s e)
+unfolding after
+same-after s Stamp rises = ap (λ (l : List Scheduled). record s { next = s.next + 1; schedule = l }) (trim-again (s.next + 1) s.next 0 s.schedule (omega arith) rises)
+same-after s (Add tables plans) rises =
+    ap (λ a. bounded (with_tables (bounded s) tables a)) (same-answer s (Add tables plans) rises) ∙ tables-same s tables (answer_to s (Add tables plans)) rises
+same-after s (AddOn base tables plans) rises =
+    ap (λ a. bounded (with_tables (bounded s) tables a)) (same-answer s (AddOn base tables plans) rises) ∙ tables-same s tables (answer_to s (AddOn base tables plans)) rises
+same-after s (Use e) rises =
+    ap (λ a. bounded (with_activation (bounded s) (past s.next (trim s.next s.schedule)) e a)) (same-answer s (Use e) rises) ∙ use-same s e (answer_to s (Use e)) rises
+same-after s (UseFrom e k) rises =
+    ap (λ a. bounded (with_activation (bounded s) (trim s.next s.schedule) e a)) (same-answer s (UseFrom e k) rises) ∙ use_from-same s e (answer_to s (UseFrom e k)) rises
+same-after s Newest rises = again s rises
+same-after s (Look e) rises = again s rises
+
+-- ORDER
+below-last : (k : ℕ) (p : Scheduled) (pairs : List Scheduled) → Rises (suc p.from) pairs → is_disorder k (option_map (λ (pair : Scheduled). pair.from) (last_or (Some p) pairs)) ≡ false
+    → (p.from < k) × Below k pairs
+below-last k p [] rises last = (leb-false k p.from last, tt)
+below-last k p (q ∷ qs) rises last = let rest = below-last k q qs rises.1 last in let lt = rest.0 in let above = rises.0 in (omega arith, rest)
+
+below-all : (k low : ℕ) (pairs : List Scheduled) → Rises low pairs → is_disorder k (option_map (λ (pair : Scheduled). pair.from) (last_or None pairs)) ≡ false → Below k pairs
+below-all k low [] rises last = tt
+below-all k low (q ∷ qs) rises last = below-last k q qs rises.1 last
+
+tables-in : (s : Register) (tables : Database) (a : Answer) → In s → In (with_tables s tables a)
+tables-in s tables (Added e) rises = rises
+tables-in s tables other rises = rises
+
+use-in : (s : Register) (e : ℕ) → In s → In (after s (Use e))
+unfolding after answer_to
+use-in s e rises =
+    let stay = past s.next s.schedule in
+    choice (λ a. In (with_activation s stay e a)) (has_edition s e) (Used s.next) (NoEdition (count_of_editions s))
+    (λ _. rises-one 0 stay (record { from = s.next; edition = e }) (rises-filter (λ q. not (nat_le s.next q.from)) 0 s.schedule rises) (omega arith) (past-below s.next s.schedule))
+    (λ _. rises)
+
+use_from-in : (s : Register) (e k : ℕ) → In s → In (after s (UseFrom e k))
+unfolding after answer_to
+use_from-in s e k rises =
+    let n = s.next in
+    let P : Answer → Type 0 = λ a. In (with_activation s s.schedule e a) in
+    choice P (not (has_edition s e)) (NoEdition (count_of_editions s)) _ (λ h. rises) (λ h.
+    choice P (nat_lt k s.next) (Late s.next) _ (λ i. rises) (λ i.
+    choice P (is_disorder k (last_pending s)) (Disorder (unwrap_or (last_pending s) 0)) _ (λ j. rises) (λ j.
+    choice P (nat_le most_pending (length (pending s))) FullPending (Used k) (λ l. rises)
+    (λ l.
+    let late = ltb-false k s.next i in
+    let early : Below k (past n s.schedule) = all-map (λ (q : Scheduled). q.from < n) (λ (q : Scheduled). q.from < k) (λ q h. omega arith) (past n s.schedule) (past-below n s.schedule) in
+    let waiting : Below k (pend n s.schedule) = below-all k 0 (pend n s.schedule) (rises-filter (λ q. nat_le n q.from) 0 s.schedule rises) j in
+    rises-one 0 s.schedule (record { from = k; edition = e }) rises (omega arith)
+    (subst (Below k) (split n 0 s.schedule rises) (all-append (λ (q : Scheduled). q.from < k) (past n s.schedule) (pend n s.schedule) early waiting))))))
+
+in-step : (s : Register) (e : Entry) → In s → In (after s e)
+unfolding after
+in-step s Stamp rises = rises
+in-step s (Add tables plans) rises = tables-in s tables (answer_to s (Add tables plans)) rises
+in-step s (AddOn base tables plans) rises = tables-in s tables (answer_to s (AddOn base tables plans)) rises
+in-step s (Use e) rises = use-in s e rises
+in-step s (UseFrom e k) rises = use_from-in s e k rises
+in-step s Newest rises = rises
+in-step s (Look e) rises = rises
+
+-- HISTORIES
+same-state : (s : Register) (history : RegisterHistory) → In s → state_after bounded_after (bounded s) history ≡ bounded (state_after after s history)
+same-state s [] rises = refl
+same-state s (m ∷ ms) rises = ap (λ t. state_after bounded_after t ms) (same-after s m.entry rises) ∙ same-state (after s m.entry) ms (in-step s m.entry rises)
+
+legal-there : (s : Register) (history : RegisterHistory) → In s → IsLegal answer_to bounded_after (bounded s) history → IsLegal answer_to after s history
+legal-there s [] rises legal = tt
+legal-there s (m ∷ ms) rises legal = (
+  legal.0 ∙ same-answer s m.entry rises,
+  legal-there (after s m.entry) ms (in-step s m.entry rises) (subst (λ t. IsLegal answer_to bounded_after t ms) (same-after s m.entry rises) legal.1),
+)
+
+legal-here : (s : Register) (history : RegisterHistory) → In s → IsLegal answer_to after s history → IsLegal answer_to bounded_after (bounded s) history
+legal-here s [] rises legal = tt
+legal-here s (m ∷ ms) rises legal = (
+  legal.0 ∙ sym (same-answer s m.entry rises),
+  subst (λ t. IsLegal answer_to bounded_after t ms) (sym (same-after s m.entry rises)) (legal-here (after s m.entry) ms (in-step s m.entry rises) legal.1),
+)
+
+pub bounded-serves : BoundedServes
+bounded-serves first history =
+    let rises : In (opening first) = (omega arith, tt) in (
+      (legal-there (opening first) history rises, legal-here (opening first) history rises),
+      same-state (opening first) history rises,
+    )

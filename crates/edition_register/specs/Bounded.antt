@@ -1,0 +1,29 @@
+-- The register with the activations alone that a packet to come may need. [This profile.]
+use Rattle.std.specs.Prelude.{◌≡◌, List, [], ◌∷◌, ◌++◌, filter, not, ◌↔◌}
+use Rattle.histories.specs.History.{IsLegal, state_after}
+use Rattle.mib_model.specs.declared.database.Database.{Database}
+use Rattle.mib_model.specs.declared.register.Entry.{Entry}
+use Rattle.mib_model.specs.declared.register.Register.{Register}
+use Rattle.mib_model.specs.Register.{opening, answer_to, after, is_pending, pending}
+use Rattle.mib_model.specs.RegisterHistories.{RegisterHistory, IsRegisterHistory, register_after}
+
+-- the last item alone, or none
+abbrev pub last_alone : {X : Type 0} → List X → List X
+last_alone [] = []
+last_alone (x ∷ []) = x ∷ []
+last_alone (x ∷ y ∷ more) = last_alone (y ∷ more)
+
+-- the register without what no packet to come needs: of the activations that aren't pending the last one stays
+abbrev pub bounded : Register → Register
+bounded s = record s { schedule = last_alone (filter (λ pair. not (is_pending s pair)) s.schedule) ++ pending s }
+
+-- the state after an entry, bounded
+abbrev pub bounded_after : Register → Entry → Register
+bounded_after s e = bounded (after s e)
+
+-- a machine that bounds its state after each entry has the register's histories, and ends in its bounded state
+abbrev pub BoundedServes : Type 0
+BoundedServes =
+    (first : Database) (history : RegisterHistory) →
+    (IsLegal answer_to bounded_after (opening first) history ↔ IsRegisterHistory first history)
+    × (state_after bounded_after (opening first) history ≡ bounded (register_after first history))
