@@ -1,5 +1,5 @@
 -- A register that forgets what no packet to come needs answers as one that keeps all.
-use Rattle.std.proofs.Common.{◌≡◌, ℕ, zero, suc, ◌+◌, ◌-◌, ◌<◌, ◌≤◌, Bool, true, false, not, cond, List, [], ◌∷◌, ◌++◌, map, filter, length, Option, Some, None, unwrap_or, option_map, sym, refl, ap, subst, ◌∙◌, arith, nat_le, nat_lt, append_assoc}
+use Rattle.std.proofs.Common.{◌≡◌, ℕ, zero, suc, ◌+◌, ◌-◌, ◌<◌, ◌≤◌, Bool, true, false, not, cond, List, [], ◌∷◌, ◌++◌, map, filter, length, Option, Some, None, unwrap_or, option_map, sym, refl, ap, subst, ◌∙◌, arith, nat_le, nat_lt, append_assoc, length-append}
 use Rattle.std.proofs.lemmas.Grind.{common_steps}
 use Rattle.std.proofs.lemmas.List.{append-nil}
 use Rattle.std.proofs.lemmas.List.Elements.{filter-append}
@@ -16,7 +16,7 @@ use Rattle.mib_model.specs.declared.register.Scheduled.{Scheduled}
 use Rattle.mib_model.specs.Register.{opening, answer_to, after, with_tables, with_activation, is_pending, edition_for, has_edition, count_of_editions, is_disorder, last_pending, pending, most_pending, tables_of}
 use Rattle.mib_model.specs.RegisterHistories.{RegisterHistory}
 use Rattle.mib_laws.proofs.Choices.{choice}
-use Rattle.edition_register.specs.Bounded.{last_alone, bounded, bounded_after, BoundedServes}
+use Rattle.edition_register.specs.Bounded.{last_alone, bounded, bounded_after, BoundedServes, FewActivations}
 
 -- LISTS
 module _ {X : Type 0} where
@@ -312,3 +312,77 @@ bounded-serves first history =
       (legal-there (opening first) history rises, legal-here (opening first) history rises),
       same-state (opening first) history rises,
     )
+
+-- SIZE
+last-length : {X : Type 0} (xs : List X) → length (last_alone xs) ≤ 1
+last-length [] = omega arith
+last-length (x ∷ []) = omega arith
+last-length (x ∷ y ∷ zs) = last-length (y ∷ zs)
+
+pend-step : (b c : Bool) (q : Scheduled) (xs ys : List Scheduled) → (b ≡ true → c ≡ true) → length xs ≤ length ys → length (cond b (q ∷ xs) xs) ≤ length (cond c (q ∷ ys) ys)
+pend-step true true q xs ys only le = omega arith
+pend-step true false q xs ys only le = absurd (false≢true (only refl))
+pend-step false true q xs ys only le = omega arith
+pend-step false false q xs ys only le = le
+
+-- fewer activations are pending before a later packet
+pend-less : (n m : ℕ) (pairs : List Scheduled) → n ≤ m → length (pend m pairs) ≤ length (pend n pairs)
+pend-less n m [] le = omega arith
+pend-less n m (q ∷ qs) le =
+    pend-step (nat_le m q.from) (nat_le n q.from) q (pend m qs) (pend n qs) (λ h. let above = leb-true m q.from h in le-leb n q.from (omega arith)) (pend-less n m qs le)
+
+pend-one : (n : ℕ) (x : Scheduled) → length (pend n (x ∷ [])) ≤ 1
+pend-one n x = choice (λ (l : List Scheduled). length l ≤ 1) (nat_le n x.from) (x ∷ []) [] (λ _. omega arith) (λ _. omega arith)
+
+abbrev Few : Register → Type 0
+Few s = length (pending s) ≤ 16
+
+tables-few : (s : Register) (tables : Database) (a : Answer) → Few s → Few (with_tables s tables a)
+tables-few s tables (Added e) few = few
+tables-few s tables other few = few
+
+use-few : (s : Register) (e : ℕ) → Few s → Few (after s (Use e))
+unfolding after answer_to
+use-few s e few =
+    let n = s.next in let stay = past n s.schedule in let x : Scheduled = record { from = n; edition = e } in
+    choice (λ a. Few (with_activation s stay e a)) (has_edition s e) (Used n) (NoEdition (count_of_editions s))
+    (λ _. let parts = filter-append (λ q. nat_le n q.from) stay (x ∷ []) ∙ ap (λ (l : List Scheduled). l ++ pend n (x ∷ [])) (below-pend n n stay (omega arith) (past-below n s.schedule)) in
+    let one = pend-one n x in let l = ap (λ (y : List Scheduled). length y) parts in omega arith)
+    (λ _. few)
+
+use_from-few : (s : Register) (e k : ℕ) → Few s → Few (after s (UseFrom e k))
+unfolding after answer_to
+use_from-few s e k few =
+    let n = s.next in let x : Scheduled = record { from = k; edition = e } in
+    let P : Answer → Type 0 = λ a. Few (with_activation s s.schedule e a) in
+    choice P (not (has_edition s e)) (NoEdition (count_of_editions s)) _ (λ h. few) (λ h.
+    choice P (nat_lt k s.next) (Late s.next) _ (λ i. few) (λ i.
+    choice P (is_disorder k (last_pending s)) (Disorder (unwrap_or (last_pending s) 0)) _ (λ j. few) (λ j.
+    choice P (nat_le most_pending (length (pending s))) FullPending (Used k) (λ l. few)
+    (λ l.
+    let room = leb-false most_pending (length (pending s)) l in
+    let parts = ap (λ (y : List Scheduled). length y) (filter-append (λ q. nat_le n q.from) s.schedule (x ∷ [])) ∙ length-append (pend n s.schedule) (pend n (x ∷ [])) in
+    let one = pend-one n x in omega arith))))
+
+few-step : (s : Register) (e : Entry) → Few s → Few (after s e)
+unfolding after
+few-step s Stamp few = let less = pend-less s.next (s.next + 1) s.schedule (omega arith) in omega arith
+few-step s (Add tables plans) few = tables-few s tables (answer_to s (Add tables plans)) few
+few-step s (AddOn base tables plans) few = tables-few s tables (answer_to s (AddOn base tables plans)) few
+few-step s (Use e) few = use-few s e few
+few-step s (UseFrom e k) few = use_from-few s e k few
+few-step s Newest few = few
+few-step s (Look e) few = few
+
+few-after : (s : Register) (history : RegisterHistory) → Few s → Few (state_after after s history)
+few-after s [] few = few
+few-after s (m ∷ ms) few = few-after (after s m.entry) ms (few-step s m.entry few)
+
+trim-few : (s : Register) → Few s → length (bounded s).schedule ≤ 17
+trim-few s few =
+    let one = last-length (past s.next s.schedule) in let l = length-append (last_alone (past s.next s.schedule)) (pending s) in omega arith
+
+pub few-activations : FewActivations
+few-activations first history =
+    let rises : In (opening first) = (omega arith, tt) in
+    subst (λ (t : Register). length t.schedule ≤ 17) (sym (same-state (opening first) history rises)) (trim-few (state_after after (opening first) history) (few-after (opening first) history (omega arith)))

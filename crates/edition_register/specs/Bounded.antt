@@ -1,10 +1,10 @@
 -- The register with the activations alone that a packet to come may need. [This profile.]
-use Rattle.std.specs.Prelude.{◌≡◌, List, [], ◌∷◌, ◌++◌, filter, not, ◌↔◌}
+use Rattle.std.specs.Prelude.{◌≡◌, ◌≤◌, ◌+◌, List, [], ◌∷◌, ◌++◌, length, filter, not, ◌↔◌}
 use Rattle.histories.specs.History.{IsLegal, state_after}
 use Rattle.mib_model.specs.declared.database.Database.{Database}
 use Rattle.mib_model.specs.declared.register.Entry.{Entry}
 use Rattle.mib_model.specs.declared.register.Register.{Register}
-use Rattle.mib_model.specs.Register.{opening, answer_to, after, is_pending, pending}
+use Rattle.mib_model.specs.Register.{opening, answer_to, after, is_pending, most_pending, pending}
 use Rattle.mib_model.specs.RegisterHistories.{RegisterHistory, IsRegisterHistory, register_after}
 
 -- the last item alone, or none
@@ -27,3 +27,7 @@ BoundedServes =
     (first : Database) (history : RegisterHistory) →
     (IsLegal answer_to bounded_after (opening first) history ↔ IsRegisterHistory first history)
     × (state_after bounded_after (opening first) history ≡ bounded (register_after first history))
+
+-- the bounded state has at most the activation in use and those that may be pending
+abbrev pub FewActivations : Type 0
+FewActivations = (first : Database) (history : RegisterHistory) → length (state_after bounded_after (opening first) history).schedule ≤ most_pending + 1

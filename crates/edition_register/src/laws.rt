@@ -1,4 +1,4 @@
-ghost use Rattle.edition_register.specs.Bounded.{BoundedServes};
+ghost use Rattle.edition_register.specs.Bounded.{BoundedServes, FewActivations};
 ghost use Rattle.edition_register.specs.Laws.{DeskShowsEditions, IntakeCounts, StampGoesOn, TablesStay};
 
 /// The number of the next packet is one more than the intake has moves.
@@ -24,4 +24,9 @@ pub fn tables_stay()
 /// A machine that keeps of the activations that aren't pending the last alone has the register's histories.
 pub fn bounded_serves()
     ensures { BoundedServes }
+{}
+
+/// Such a machine keeps 17 activations at most.
+pub fn few_activations()
+    ensures { FewActivations }
 {}

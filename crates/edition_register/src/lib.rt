@@ -7,4 +7,6 @@
 
 mod laws;
 
-pub use laws::{bounded_serves, desk_shows_editions, intake_counts, stamp_goes_on, tables_stay};
+pub use laws::{
+    bounded_serves, desk_shows_editions, few_activations, intake_counts, stamp_goes_on, tables_stay,
+};
