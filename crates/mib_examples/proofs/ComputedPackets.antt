@@ -10,7 +10,7 @@ use Rattle.mib_model.specs.Curves.{calibration, curve_named, selections, curve_o
 use Rattle.mib_model.specs.DatabaseTexts.{database_read}
 use Rattle.mib_model.specs.Decimals.{dec_of}
 use Rattle.mib_model.specs.Counts.{half, count_of, count_text}
-use Rattle.mib_model.specs.Desk.{way_of}
+use Rattle.mib_model.specs.DeskWays.{way_of}
 use Rattle.mib_model.specs.DeskLines.{request_of}
 use Rattle.mib_model.specs.Drafts.{rows_of, put_in, without_key}
 use Rattle.mib_model.specs.Encodings.{type_of, encoding_of}

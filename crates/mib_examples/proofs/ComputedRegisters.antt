@@ -10,7 +10,7 @@ use Rattle.mib_model.specs.Curves.{calibration, curve_named, selections, curve_o
 use Rattle.mib_model.specs.DatabaseTexts.{database_read}
 use Rattle.mib_model.specs.Decimals.{dec_of}
 use Rattle.mib_model.specs.Counts.{half, count_of, count_text}
-use Rattle.mib_model.specs.Desk.{way_of}
+use Rattle.mib_model.specs.DeskWays.{way_of}
 use Rattle.mib_model.specs.DeskLines.{request_of}
 use Rattle.mib_model.specs.Drafts.{rows_of, put_in, without_key}
 use Rattle.mib_model.specs.Encodings.{type_of, encoding_of}
@@ -46,7 +46,8 @@ use Rattle.mib_model.specs.Words.{parted, command_of}
 use Rattle.mib_model.specs.Writing.{decimal_text}
 use Rattle.mib_examples.specs.Given.{decoded, database, first_fault}
 use Rattle.mib_examples.specs.EditionRuns.{EditionRuns, printed}
-use Rattle.mib_examples.specs.RegisterExamples.{ReplyExamples, DeskExamples, PlanExamples, EditionExamples, CarryExamples}
+use Rattle.mib_examples.specs.CarryExamples.{CarryExamples}
+use Rattle.mib_examples.specs.RegisterExamples.{ReplyExamples, DeskExamples, PlanExamples, EditionExamples}
 
 pub reply_examples : ReplyExamples
 unfolding decoded database first_fault digits alarm bits little_bits raw_number is_carried carry checks_of class_of content_of value_of calibration curve_named selections curve_of database_read dec_of half count_of count_text way_of request_of rows_of put_in without_key type_of encoding_of code_of_ending fault_text code_line finished all_finished places places_inside values_at table_flaws values_of title_of record_for course_after interpret course_after_all same_key lines_of trimmed criterion match_of sorted_by stamped_by output stamped_from output_of_one param_plans layout_plans structure_plans plans knots interpolated by_points polynomial quoted raw_text row_at rows_from table_of row_read key_read answer_to after reply_words desk_text row_of key_of line_of same_values script reaches_limit flaws structure deduced head_text value_text record_body record_text same_slice touched unbuilt step walked structure_values decimal_whole whole_number parted command_of decimal_text

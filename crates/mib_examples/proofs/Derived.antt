@@ -5,7 +5,8 @@ use Rattle.mib_model.specs.declared.register.Answer.TheVariants as answer
 use Rattle.mib_model.specs.declared.register.Entry.TheVariants as entry
 use Rattle.mib_model.specs.declared.reply.Reply.TheVariants as reply
 use Rattle.mib_model.specs.Database.{no_rows}
-use Rattle.mib_model.specs.Desk.{Plain, desk_start, way_of}
+use Rattle.mib_model.specs.Desk.{Plain, desk_start}
+use Rattle.mib_model.specs.DeskWays.{way_of}
 use Rattle.mib_model.specs.DeskLines.{request_of}
 use Rattle.mib_model.specs.DeskRuns.{IsDesk}
 use Rattle.mib_model.specs.Packets.{IsPacket, IsCut, BeginsNoPacket}

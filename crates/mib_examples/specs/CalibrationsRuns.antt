@@ -3,6 +3,7 @@ use Rattle.std.specs.Prelude.{◌≡◌, [], ◌∷◌, ◌++◌, codes, Ok}
 use Rattle.mib_model.specs.declared.kind.Kind.TheVariants as kind
 use Rattle.mib_examples.specs.Given.{decoded, given, packet_a, packet_with, shared, table}
 
+-- runs whose values are calibrated
 pub record CalibrationsRuns : Type 0 where
   -- between two points
   pub between_points :

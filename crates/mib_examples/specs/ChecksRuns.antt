@@ -3,6 +3,7 @@ use Rattle.std.specs.Prelude.{◌≡◌, [], ◌∷◌, ◌++◌, codes, Ok}
 use Rattle.mib_model.specs.declared.kind.Kind.TheVariants as kind
 use Rattle.mib_examples.specs.Given.{decoded, given, packet_a, packet_with, shared, table}
 
+-- runs whose values are checked
 pub record ChecksRuns : Type 0 where
   -- a parameter that is valid while another is 1: the whole packet is entered first, and what was kept stays
   pub validity :

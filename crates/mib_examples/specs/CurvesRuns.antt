@@ -3,6 +3,7 @@ use Rattle.std.specs.Prelude.{◌≡◌, [], ◌∷◌, ◌++◌, codes, Ok}
 use Rattle.mib_model.specs.declared.kind.Kind.TheVariants as kind
 use Rattle.mib_examples.specs.Given.{decoded, given, packet_with, shared, table}
 
+-- runs whose curves are at, between and beyond their points and texts
 pub record CurvesRuns : Type 0 where
   -- at a point the line behind it counts
   pub right_line :

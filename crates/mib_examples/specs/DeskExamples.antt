@@ -15,6 +15,7 @@ use Rattle.mib_model.specs.RegisterHistories.{HasItsPlans, stamps}
 use Rattle.mib_model.specs.Walk.{walk_limit}
 use Rattle.mib_examples.specs.Given.{database, packet_a, shared}
 
+-- what want of memory may and may not leave
 pub record WantExamples : Type 0 where
   pub take_looks : LeavesLook true Take ((entry.Newest, answer.NoEdition 1) ∷ [])
   pub use_looks : LeavesLook true (Use 2) ((entry.Look 2, answer.NoEdition 1) ∷ [])
@@ -22,10 +23,12 @@ pub record WantExamples : Type 0 where
   pub put : LeavesLook true (Put kind.Pcf []) ((entry.Newest, answer.NoEdition 1) ∷ []) → ⊥
   pub single_desk : LeavesLook false Take ((entry.Newest, answer.NoEdition 1) ∷ []) → ⊥
 
+-- preludes of scripts
 pub record PreludeExamples : Type 0 where
   pub first_go : prelude false (codes "use 1" ∷ codes "go\r" ∷ codes "go" ∷ codes "save" ∷ []) ≡ codes "use 1" ∷ codes "go\r" ∷ []
   pub no_go : prelude false (codes "save" ∷ codes "go " ∷ []) ≡ codes "save" ∷ codes "go " ∷ []
 
+-- packets, entries, stamps and walks by what is said of them
 pub record WordedExamples : Type 0 where
   pub known : is_well_formed (match_of (database shared) packet_a) ≡ true
   pub unknown : is_well_formed (match_of no_rows packet_a) ≡ true

@@ -32,6 +32,7 @@ two pcf = given kind.Pcf (table pcf) (given kind.Plf (table (codes "T1|4001|10|0
 abbrev pub limited : List ℕ → List ℕ → Database
 limited ocf ocp = database (given kind.Ocf (table ocf) (given kind.Ocp (table ocp) shared))
 
+-- runs over a change of edition
 pub record EditionRuns : Type 0 where
   -- the latest number of an unchanged parameter is carried over
   pub latest :

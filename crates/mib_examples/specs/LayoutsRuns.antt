@@ -3,6 +3,7 @@ use Rattle.std.specs.Prelude.{◌≡◌, [], ◌∷◌, ◌++◌, codes, Ok}
 use Rattle.mib_model.specs.declared.kind.Kind.TheVariants as kind
 use Rattle.mib_examples.specs.Given.{decoded, given, packet_a, packet_with, shared, table}
 
+-- runs of packets of fixed layout
 pub record LayoutsRuns : Type 0 where
   -- one unsigned parameter
   pub one_packet :
@@ -70,7 +71,7 @@ pub record LayoutsRuns : Type 0 where
       (packet_a ∷ [])
       ≡ Ok (codes "PKT 1 APID 100 COUNT 0 TYPE 3/25 SPID 4001\n" ++
       codes "  T1 53255\n")
-  -- the same of a signed value
+  -- a signed value with its octets the other way round
   pub little_signed :
       decoded (given kind.Pcf (table (codes "T1||||4|12||||N|R||||||||||||L\n")) shared)
       (packet_with 0xFE 0xFF ∷ [])

@@ -11,5 +11,6 @@ pub mod ChecksRuns
 pub mod CurvesRuns
 pub mod LimitsRuns
 pub mod PlacesRuns
+pub mod CarryExamples
 pub mod EditionRuns
 pub mod DeskExamples

@@ -3,6 +3,7 @@ use Rattle.std.specs.Prelude.{◌≡◌, [], ◌∷◌, ◌++◌, codes, Ok}
 use Rattle.mib_model.specs.declared.kind.Kind.TheVariants as kind
 use Rattle.mib_examples.specs.Given.{decoded, given, packet_with, shared, table}
 
+-- runs with conditions and checks
 pub record LimitsRuns : Type 0 where
   -- the selection with the lowest POS whose condition holds
   pub selection :

@@ -11,6 +11,7 @@ use Rattle.mib_model.specs.Encodings.{encoding_of, IsEncoding}
 use Rattle.mib_model.specs.Orders.{sorted_by_number}
 use Rattle.mib_model.specs.WholeNumbers.{whole_number}
 
+-- texts read as decimals
 pub record DecimalExamples : Type 0 where
   pub exponent : dec_of (codes "1.500000E+01") ≡ Ok (record { m = pos 15; e = pos 0 })
   pub point_first : dec_of (codes ".5") ≡ Ok (record { m = pos 5; e = negsuc 0 })
@@ -26,6 +27,7 @@ pub record DecimalExamples : Type 0 where
   pub large : dec_of (codes "1E31") ≡ Err Exponent
   pub raised_too_far : dec_of (codes "100E29") ≡ Err Exponent
 
+-- counts, their rounding and their texts
 pub record CountExamples : Type 0 where
   pub tie : half (pos 1) 2 ≡ pos 1
   pub tie_below_zero : half (neg_ℤ (pos 1)) 2 ≡ neg_ℤ (pos 1)
@@ -37,6 +39,7 @@ pub record CountExamples : Type 0 where
   pub whole : count_text (pos 4100000000000) 0 ≡ codes "4"
   pub twelve_at_most : count_text (neg_ℤ (pos 1)) 200 ≡ codes "-0.000000000001"
 
+-- texts of curves read as whole numbers
 pub record WholeNumberExamples : Type 0 where
   pub decimal : whole_number 68 (codes " 1E3 ") ≡ Some (pos 1000)
   pub fraction : whole_number 68 (codes "0.5") ≡ None
@@ -45,6 +48,7 @@ pub record WholeNumberExamples : Type 0 where
   pub octal : whole_number 79 (codes "1777777777777777777777") ≡ Some (pos (2 ^ 64 - 1))
   pub large_octal : whole_number 79 (codes "2000000000000000000000") ≡ None
 
+-- types and what their bits are
 pub record EncodingExamples : Type 0 where
   pub sixteen_bits : encoding_of 3 12 endian.B ≡ Some (record { sort = Unsigned; width = 16; order = Big })
   pub little : encoding_of 4 12 endian.L ≡ Some (record { sort = Signed; width = 16; order = Little })
@@ -54,6 +58,7 @@ pub record EncodingExamples : Type 0 where
   pub no_segmented_time : encoding_of 10 2 endian.B ≡ None
   pub is_one : IsEncoding (record { sort = Unsigned; width = 16; order = Little })
 
+-- bits, numbers in them, and order
 pub record BitExamples : Type 0 where
   pub unaligned : bits (0x12 ∷ 0x34 ∷ 0x56 ∷ []) 4 12 ≡ 0x234
   pub little_octets : little_bits (0x07 ∷ 0xD0 ∷ []) 0 2 ≡ 53255

@@ -28,11 +28,13 @@ seven = record { name = codes "P"; at = 80; raw = pos 7; shape = record { sort =
 abbrev pub begun : List ℕ
 begun = 0x08 ∷ 0x64 ∷ 0xC0 ∷ 0x01 ∷ []
 
+-- a header, a packet and a cut
 pub record PacketExamples : Type 0 where
   pub header : header_of packet_a ≡ record { version = 0; telecommand = false; secondary = true; apid = 100; flags = 3; count = 0; length = 5 }
   pub packet : IsPacket packet_a
   pub cut : IsCut (packet_a ++ begun) (packet_a ∷ []) begun
 
+-- what is kept, and steps of the alarm
 pub record StateExamples : Type 0 where
   pub latest : holds (entered empty_memory seven) (codes "P") (pos 7) ≡ true
   pub not_seen : holds empty_memory (codes "P") (pos 0) ≡ false
@@ -42,6 +44,7 @@ pub record StateExamples : Type 0 where
   pub cleared : alarm (Some Soft, 2) Nominal 2 ≡ ((None, 0), Some (Clear Soft))
   pub built : unbuilt (database shared) ≡ None
 
+-- how runs end, and a desk of three lines
 pub record EndExamples : Type 0 where
   pub first_fault : code_of_ending (record { out_failed = false; replies_failed = true; feed_failed = true; desk_failed = false; rest = 3; is_limit = false }) ≡ code.ReplyFault
   pub rest : code_of_ending (record { out_failed = false; replies_failed = false; feed_failed = false; desk_failed = false; rest = 11; is_limit = false }) ≡ code.Cut 11

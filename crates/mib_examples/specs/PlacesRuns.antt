@@ -3,6 +3,7 @@ use Rattle.std.specs.Prelude.{◌≡◌, [], ◌∷◌, ◌++◌, codes, Ok}
 use Rattle.mib_model.specs.declared.kind.Kind.TheVariants as kind
 use Rattle.mib_examples.specs.Given.{decoded, given, packet_with, shared, table}
 
+-- runs by the place and the sort of values
 pub record PlacesRuns : Type 0 where
   -- criteria and discriminants
   pub identified :

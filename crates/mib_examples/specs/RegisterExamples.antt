@@ -8,7 +8,8 @@ use Rattle.mib_model.specs.declared.register.Entry.TheVariants as entry
 use Rattle.mib_model.specs.declared.register.Register.{Register}
 use Rattle.mib_model.specs.declared.reply.Reply.TheVariants as reply
 use Rattle.mib_model.specs.Database.{no_rows}
-use Rattle.mib_model.specs.Desk.{desk_start, Ask, says, saved, way_of}
+use Rattle.mib_model.specs.Desk.{desk_start, Ask, says}
+use Rattle.mib_model.specs.DeskWays.{saved, way_of}
 use Rattle.mib_model.specs.DeskLines.{Comment, BadLine, BadTable, Put, Delete, Save, Use, UseFrom, Take, request_of}
 use Rattle.mib_model.specs.Output.{output}
 use Rattle.mib_model.specs.Plans.{plans}
@@ -21,9 +22,11 @@ use Rattle.mib_examples.specs.Given.{database, given, packet_a, shared, table}
 abbrev pub use_one : Register → ℕ → Register
 use_one s k = after s (entry.UseFrom 1 k)
 
+-- a register over one edition with no rows
 abbrev pub start : Register
 start = opening no_rows
 
+-- answers of the register
 pub record ReplyExamples : Type 0 where
   pub no_edition : answer_to start (entry.Use 9) ≡ answer.NoEdition 1
   pub late : answer_to start (entry.UseFrom 1 0) ≡ answer.Late 1
@@ -36,17 +39,19 @@ pub record ReplyExamples : Type 0 where
   pub stamped : answer_to start entry.Stamp ≡ answer.Stamped 1 1 no_rows
   pub next : (after start entry.Stamp).next ≡ 2
 
--- a curve by two points, and the same with a third
+-- a curve by two points
 abbrev pub curved : Database
 curved =
     database (given kind.Cap (table (codes "C1|0|-50\nC1|4000|150\n"))
     (given kind.Caf (table (codes "C1||R|U|D|||F\n")) (given kind.Pcf (table (codes "T1||||3|12||||N|R|C1\n")) shared)))
 
+-- a curve by three points
 abbrev pub bent : Database
 bent =
     database (given kind.Cap (table (codes "C1|0|-50\nC1|4000|150\nC1|2000|100\n"))
     (given kind.Caf (table (codes "C1||R|U|D|||F\n")) (given kind.Pcf (table (codes "T1||||3|12||||N|R|C1\n")) shared)))
 
+-- requests of lines, and the ways of some
 pub record DeskExamples : Type 0 where
   pub put : request_of false (table (codes "put cap|C1|2000|100")) ≡ Put kind.Cap (table (codes "C1|2000|100"))
   pub no_tab : request_of false (codes "put pcf") ≡ BadLine
@@ -64,6 +69,7 @@ pub record DeskExamples : Type 0 where
   pub saves : way_of false (record (desk_start curved) { draft = bent }) Save ≡ Ask (entry.Add bent (plans bent)) (saved (record (desk_start curved) { draft = bent }))
   pub one_plan : saved (record (desk_start curved) { draft = bent }) (answer.Added 2) ≡ says (record { draft = bent; base = bent; edition = 2 }) (reply.Saved 2 1)
 
+-- plans, and which are touched
 pub record PlanExamples : Type 0 where
   pub three : map (λ p. p.name) (plans (database shared)) ≡ plan.Param (codes "T1") ∷ plan.Layout 4001 ∷ plan.Ident ∷ []
   pub new_point : touched curved bent ≡ plan.Param (codes "T1") ∷ []
@@ -78,6 +84,7 @@ bending =
     record { seat = 0; entry = entry.Stamp; reply = answer.Stamped 2 2 bent } ∷
     record { seat = 0; entry = entry.Stamp; reply = answer.Stamped 3 2 bent } ∷ []
 
+-- a run over a change of curve
 pub record EditionExamples : Type 0 where
   pub legal : IsRegisterHistory curved bending
   pub stamps : stamps bending ≡ (1, 1) ∷ (2, 2) ∷ (3, 2) ∷ []
@@ -90,29 +97,3 @@ pub record EditionExamples : Type 0 where
       codes "  T1 2000 = 100\n" ++
       codes "PKT 3 APID 100 COUNT 0 TYPE 3/25 SPID 4001\n" ++
       codes "  T1 2000 = 100\n"
-
--- a soft limit with an alarm after three samples, and after two
-abbrev pub patient : Database
-patient = database (given kind.Ocp (table (codes "T1|1|S|0|1000\n")) (given kind.Ocf (table (codes "T1|3||U\n")) shared))
-
-abbrev pub hasty : Database
-hasty = database (given kind.Ocp (table (codes "T1|1|S|0|1000\n")) (given kind.Ocf (table (codes "T1|2||U\n")) shared))
-
-abbrev pub hastening : RegisterHistory
-hastening =
-    record { seat = 1; entry = entry.Add hasty (plans hasty); reply = answer.Added 2 } ∷
-    record { seat = 1; entry = entry.UseFrom 2 2; reply = answer.Used 2 } ∷
-    record { seat = 0; entry = entry.Stamp; reply = answer.Stamped 1 1 patient } ∷
-    record { seat = 0; entry = entry.Stamp; reply = answer.Stamped 2 2 hasty } ∷ []
-
--- a run that is kept over a new number of checks
-pub record CarryExamples : Type 0 where
-  pub legal : IsRegisterHistory patient hastening
-  pub printed :
-      output patient (packet_a ∷ packet_a ∷ []) hastening [] ≡
-      codes "PKT 1 APID 100 COUNT 0 TYPE 3/25 SPID 4001\n" ++
-      codes "  T1 2000\n" ++
-      codes "EDITION 2\n" ++
-      codes "PKT 2 APID 100 COUNT 0 TYPE 3/25 SPID 4001\n" ++
-      codes "  T1 2000\n" ++
-      codes "  ALARM T1 SOFT\n"

@@ -3,6 +3,7 @@ use Rattle.std.specs.Prelude.{◌≡◌, [], ◌∷◌, ◌++◌, codes, Ok}
 use Rattle.mib_model.specs.declared.kind.Kind.TheVariants as kind
 use Rattle.mib_examples.specs.Given.{decoded, given, shared, table}
 
+-- runs of packets of variable structure
 pub record StructuresRuns : Type 0 where
   -- a group that is walked no time
   pub no_repetition :

@@ -21,6 +21,7 @@ use Rattle.mib_examples.specs.Given.{given, shared, table, first_fault}
 abbrev pub in_column : Kind → ℕ → ℕ → MibFault
 in_column table number column = record { table = table; row = number; column = column; first = 0; code = code.BadNumber }
 
+-- lines, fields, names and texts
 pub record TextExamples : Type 0 where
   pub lines : lines (codes "a\r\n\nb\r\r\n\r\nc") ≡ codes "a" ∷ codes "b\r" ∷ codes "c" ∷ []
   pub fields : fields (codes "a\t\tb") ≡ codes "a" ∷ [] ∷ codes "b" ∷ []
@@ -31,6 +32,7 @@ pub record TextExamples : Type 0 where
   pub kind : kind_named (codes "tpcf") ≡ Some kind.Tpcf
   pub no_kind : kind_named (codes "PCF") ≡ None
 
+-- rows and keys read from lines
 pub record RowExamples : Type 0 where
   pub place : row_read kind.Plf (table (codes "T1|4001|10|0")) ≡ Ok (row.Plf (record { name = codes "T1"; spid = 4001; offby = 10; offbi = 0; nbocc = 1; lgocc = 0 }))
   pub too_few : row_read kind.Plf (table (codes "T1|4001|10")) ≡ Err (record { table = kind.Plf; row = 0; column = 0; first = 0; code = code.FewFields })

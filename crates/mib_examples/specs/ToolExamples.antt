@@ -14,12 +14,15 @@ use Rattle.mib_model.specs.Texts.{cut_text, rest_text}
 use Rattle.mib_model.specs.Words.{Check, Decode, Live, Drill, command_of}
 use Rattle.mib_examples.specs.Given.{database, shared}
 
+-- a folder
 abbrev pub d : List ℕ
 d = codes "d"
 
+-- a feed
 abbrev pub f : List ℕ
 f = codes "f"
 
+-- words of the command line
 pub record WordExamples : Type 0 where
   pub none : command_of [] ≡ Err misuse.Command
   pub unknown : command_of (codes "frob" ∷ []) ≡ Err misuse.Command
@@ -38,6 +41,7 @@ pub record WordExamples : Type 0 where
   pub seed : command_of (codes "drill" ∷ codes "18446744073709551615" ∷ []) ≡ Ok (Drill 18446744073709551615)
   pub large_seed : command_of (codes "drill" ∷ codes "18446744073709551616" ∷ []) ≡ Err misuse.Words
 
+-- lines of codes and replies, and scripts
 pub record LineExamples : Type 0 where
   pub ok : code_line code.Ok ≡ []
   pub usage : code_line (code.Usage misuse.Words) ≡ codes "USAGE WORDS"
@@ -50,6 +54,7 @@ pub record LineExamples : Type 0 where
   pub script : script (codes "use 1\n\ngo") ≡ codes "use 1" ∷ [] ∷ codes "go" ∷ []
   pub no_limit : reaches_limit (codes "go\n") ≡ false
 
+-- what a check and a cut feed print
 pub record SummaryExamples : Type 0 where
   pub cut : cut_text 11 ≡ codes "CUT 11\n"
   pub rest : rest_text (codes "abc") ≡ codes "CUT 3\n"

@@ -1,6 +1,7 @@
 //! The register, desks, plans and changes of edition.
 
-ghost use Rattle.mib_examples.specs.RegisterExamples.{ReplyExamples, DeskExamples, PlanExamples, EditionExamples, CarryExamples};
+ghost use Rattle.mib_examples.specs.CarryExamples.{CarryExamples};
+ghost use Rattle.mib_examples.specs.RegisterExamples.{ReplyExamples, DeskExamples, PlanExamples, EditionExamples};
 
 #[tactic(auto, using(crate::proofs::ComputedRegisters::reply_examples))]
 pub fn reply_examples()

@@ -7,7 +7,8 @@ use Rattle.std.proofs.lemmas.List.Elements.{filter_map-append}
 use Rattle.mib_model.specs.declared.register.Answer.{Answer}
 use Rattle.mib_model.specs.declared.register.Entry.{Entry}
 use Rattle.mib_model.specs.declared.reply.Reply.TheVariants as reply
-use Rattle.mib_model.specs.Desk.{DeskReply, Plain, DeskState, Way, Done, Ask, way_of}
+use Rattle.mib_model.specs.Desk.{DeskReply, Plain, DeskState, Way, Done, Ask}
+use Rattle.mib_model.specs.DeskWays.{way_of}
 use Rattle.mib_model.specs.DeskLines.{request_of}
 use Rattle.mib_model.specs.DeskRuns.{Calls, Follows, LineRun, IsLine, IsChain, IsDesk, is_want}
 use Rattle.mib_laws.specs.Desks.{InParts, LinesDecide}

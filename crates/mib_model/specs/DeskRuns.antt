@@ -6,7 +6,8 @@ use Rattle.mib_model.specs.declared.register.Entry.{Entry}
 use Rattle.mib_model.specs.declared.register.Entry.TheVariants as entry
 use Rattle.mib_model.specs.declared.reply.Reply.{Reply}
 use Rattle.mib_model.specs.declared.reply.Reply.TheVariants as reply
-use Rattle.mib_model.specs.Desk.{DeskReply, Plain, DeskState, Way, Done, Ask, way_of}
+use Rattle.mib_model.specs.Desk.{DeskReply, Plain, DeskState, Way, Done, Ask}
+use Rattle.mib_model.specs.DeskWays.{way_of}
 use Rattle.mib_model.specs.DeskLines.{Request, Put, Delete, Save, Drop, Use, UseFrom, Take, Go, request_of}
 
 -- the entries that a desk made, each with its answer

@@ -60,6 +60,7 @@ pub mod Script
 pub mod DeskLines
 pub mod Drafts
 pub mod Desk
+pub mod DeskWays
 pub mod DeskRuns
 pub mod Summaries
 pub mod Output
