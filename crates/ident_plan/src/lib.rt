@@ -10,3 +10,6 @@ mod keys;
 
 pub use ident::Ident;
 pub use mib_model::{BadWhy, Found};
+
+#[cfg(test)]
+mod tests;
