@@ -1,9 +1,9 @@
 -- A register that forgets what no packet to come needs answers as one that keeps all.
-use Rattle.std.proofs.Common.{◌≡◌, ℕ, zero, suc, ◌+◌, ◌-◌, ◌<◌, ◌≤◌, Bool, true, false, not, cond, List, [], ◌∷◌, ◌++◌, map, filter, length, Option, Some, None, unwrap_or, option_map, sym, refl, ap, subst, ◌∙◌, arith, nat_le, nat_lt, append_assoc, length-append}
+use Rattle.std.proofs.Common.{◌≡◌, ℕ, suc, ◌+◌, ◌<◌, ◌≤◌, Bool, true, false, not, cond, List, [], ◌∷◌, ◌++◌, map, filter, length, Option, Some, None, unwrap_or, option_map, sym, refl, ap, subst, ◌∙◌, arith, nat_le, nat_lt, nat_eq, append_assoc, length-append}
 use Rattle.std.proofs.lemmas.Grind.{common_steps}
 use Rattle.std.proofs.lemmas.List.{append-nil}
 use Rattle.std.proofs.lemmas.List.Elements.{filter-append}
-use Rattle.std.proofs.lemmas.Bool.{false≢true, leb-true, leb-false, ltb-false, le-leb}
+use Rattle.std.proofs.lemmas.Bool.{false≢true, eqb-true, eqb-false, leb-true, leb-false, ltb-false, le-leb}
 use Rattle.std.specs.List.{AllByRecursion, last_or}
 use Rattle.histories.specs.History.{IsLegal, state_after}
 use Rattle.mib_model.specs.declared.database.Database.{Database}
@@ -13,10 +13,10 @@ use Rattle.mib_model.specs.declared.register.Entry.{Entry}
 use Rattle.mib_model.specs.declared.register.Entry.TheVariants.{Stamp, Add, AddOn, Use, UseFrom, Newest, Look}
 use Rattle.mib_model.specs.declared.register.Register.{Register}
 use Rattle.mib_model.specs.declared.register.Scheduled.{Scheduled}
-use Rattle.mib_model.specs.Register.{opening, answer_to, after, with_tables, with_activation, is_pending, edition_for, has_edition, count_of_editions, is_disorder, last_pending, pending, most_pending, tables_of}
+use Rattle.mib_model.specs.Register.{opening, answer_to, after, with_tables, with_activation, edition_for, has_edition, count_of_editions, is_disorder, last_pending, pending, most_pending, tables_of}
 use Rattle.mib_model.specs.RegisterHistories.{RegisterHistory}
 use Rattle.mib_laws.proofs.Choices.{choice}
-use Rattle.edition_register.specs.Bounded.{last_alone, bounded, bounded_after, BoundedServes, FewActivations}
+use Rattle.edition_register.specs.Bounded.{last_alone, bounded, bounded_after, edition_of, IsKept, BoundedServes, FewActivations, KeepsOneInUse}
 
 -- LISTS
 module _ {X : Type 0} where
@@ -386,3 +386,101 @@ pub few-activations : FewActivations
 few-activations first history =
     let rises : In (opening first) = (omega arith, tt) in
     subst (λ (t : Register). length t.schedule ≤ 17) (sym (same-state (opening first) history rises)) (trim-few (state_after after (opening first) history) (few-after (opening first) history (omega arith)))
+
+-- FORM
+past-more : (n m : ℕ) (pairs : List Scheduled) → n ≤ m → length (past n pairs) ≤ length (past m pairs)
+past-more n m [] le = omega arith
+past-more n m (q ∷ qs) le =
+    pend-step (not (nat_le n q.from)) (not (nat_le m q.from)) q (past n qs) (past m qs) (λ h. let lt = not-le n q.from h in ap not (lt-not m q.from (omega arith))) (past-more n m qs le)
+
+abbrev Past : Register → Type 0
+Past s = 1 ≤ length (past s.next s.schedule)
+
+past-front : (n : ℕ) (xs ys : List Scheduled) → length (past n xs) ≤ length (past n (xs ++ ys))
+past-front n xs ys = let l = ap (λ (y : List Scheduled). length y) (filter-append (λ q. not (nat_le n q.from)) xs ys) ∙ length-append (past n xs) (past n ys) in omega arith
+
+tables-past : (s : Register) (tables : Database) (a : Answer) → Past s → Past (with_tables s tables a)
+tables-past s tables (Added e) some = some
+tables-past s tables other some = some
+
+activation-past : (s : Register) (stay : List Scheduled) (e : ℕ) (a : Answer) → Past s → 1 ≤ length (past s.next stay) → Past (with_activation s stay e a)
+activation-past s stay e (Used k) some staying = let l = past-front s.next stay (record { from = k; edition = e } ∷ []) in omega arith
+activation-past s stay e other some staying = some
+
+past-step : (s : Register) (e : Entry) → Past s → Past (after s e)
+unfolding after
+past-step s Stamp some = let more = past-more s.next (s.next + 1) s.schedule (omega arith) in omega arith
+past-step s (Add tables plans) some = tables-past s tables (answer_to s (Add tables plans)) some
+past-step s (AddOn base tables plans) some = tables-past s tables (answer_to s (AddOn base tables plans)) some
+past-step s (Use e) some =
+    let l = ap (λ (y : List Scheduled). length y) (below-past s.next s.next (past s.next s.schedule) (omega arith) (past-below s.next s.schedule)) in
+    activation-past s (past s.next s.schedule) e (answer_to s (Use e)) some (omega arith)
+past-step s (UseFrom e k) some = activation-past s s.schedule e (answer_to s (UseFrom e k)) some some
+past-step s Newest some = some
+past-step s (Look e) some = some
+
+past-after : (s : Register) (history : RegisterHistory) → Past s → Past (state_after after s history)
+past-after s [] some = some
+past-after s (m ∷ ms) some = past-after (after s m.entry) ms (past-step s m.entry some)
+
+in-after : (s : Register) (history : RegisterHistory) → In s → In (state_after after s history)
+in-after s [] rises = rises
+in-after s (m ∷ ms) rises = in-after (after s m.entry) ms (in-step s m.entry rises)
+
+last-one : {X : Type 0} (xs : List X) → 1 ≤ length xs → (x : X) × (last_alone xs ≡ x ∷ [])
+last-one [] some = absurd (omega arith)
+last-one (x ∷ []) some = (x, refl)
+last-one (x ∷ y ∷ zs) some = last-one (y ∷ zs) (omega arith)
+
+bounded-kept : (s : Register) → Past s → IsKept (bounded s)
+bounded-kept s some =
+    let one = last-one (past s.next s.schedule) some in record {
+      used = one.0;
+      schedule = ap (λ (l : List Scheduled). l ++ pending s) one.1 ∙ ap (λ (l : List Scheduled). one.0 ∷ l) (sym (pend-trim s.next s.schedule));
+      before = (subst (Below s.next) one.1 (last-below s.next s.schedule)).0;
+    }
+
+-- of rising activations none but the first is from the packet or an earlier one
+later-none : (n low : ℕ) (pairs : List Scheduled) → n < low → Rises low pairs → filter (λ q. nat_le q.from n) pairs ≡ []
+later-none n low [] lt rises = refl
+later-none n low (q ∷ qs) lt rises =
+    let above = rises.0 in
+    ap (λ b. cond b (q ∷ filter (λ r. nat_le r.from n) qs) (filter (λ r. nat_le r.from n) qs)) (lt-not q.from n (omega arith))
+    ∙ later-none n (suc q.from) qs (omega arith) rises.1
+
+edition-first : (n : ℕ) (used : Scheduled) (pairs : List Scheduled) → used.from < n → Rises n pairs → edition_in n (used ∷ pairs) ≡ edition_of n used pairs
+edition-first n used pairs before rises =
+    ap (λ b. unwrap_or (last_or None (map (λ (pair : Scheduled). pair.edition) (cond b (used ∷ filter (λ q. nat_le q.from n) pairs) (filter (λ q. nat_le q.from n) pairs)))) 1) (le-leb used.from n (omega arith))
+    ∙ next-edition pairs rises
+  where
+    begins : (b : Bool) (q : Scheduled) (qs : List Scheduled) → nat_eq q.from n ≡ b → n ≤ q.from → Rises (suc q.from) qs
+        → unwrap_or (last_or (Some used.edition) (map (λ (pair : Scheduled). pair.edition) (filter (λ r. nat_le r.from n) (q ∷ qs)))) 1 ≡ cond b q.edition used.edition
+    begins true q qs is le above =
+        let same = eqb-true q.from n is in
+        ap (λ b. unwrap_or (last_or (Some used.edition) (map (λ (pair : Scheduled). pair.edition) (cond b (q ∷ filter (λ r. nat_le r.from n) qs) (filter (λ r. nat_le r.from n) qs)))) 1) (le-leb q.from n (omega arith))
+        ∙ ap (λ (l : List Scheduled). unwrap_or (last_or (Some q.edition) (map (λ (pair : Scheduled). pair.edition) l)) 1) (later-none n (suc q.from) qs (omega arith) above)
+    begins false q qs is le above =
+        let other = eqb-false q.from n is in
+        ap (λ (l : List Scheduled). unwrap_or (last_or (Some used.edition) (map (λ (pair : Scheduled). pair.edition) l)) 1) (later-none n q.from (q ∷ qs) (omega arith) (omega arith, above))
+
+    next-edition : (pairs : List Scheduled) → Rises n pairs → unwrap_or (last_or (Some used.edition) (map (λ (pair : Scheduled). pair.edition) (filter (λ q. nat_le q.from n) pairs))) 1 ≡ edition_of n used pairs
+    next-edition [] rises = refl
+    next-edition (q ∷ qs) rises = begins (nat_eq q.from n) q qs refl rises.0 rises.1
+
+rises-pending : (n low : ℕ) (pairs : List Scheduled) → Rises low pairs → AllByRecursion (λ (q : Scheduled). nat_le n q.from ≡ true) pairs → Rises n pairs
+rises-pending n low [] rises all = tt
+rises-pending n low (q ∷ qs) rises all = (leb-true n q.from all.0, rises.1)
+
+bounded-edition : (s : Register) (kept : IsKept s) → Rises s.next (pending s) → edition_for s s.next ≡ edition_of s.next kept.used (pending s)
+bounded-edition s kept rises = ap (edition_in s.next) kept.schedule ∙ edition-first s.next kept.used (pending s) kept.before rises
+
+pub keeps-one : KeepsOneInUse
+keeps-one first history =
+    let s : Register = state_after after (opening first) history in
+    let rises : In (opening first) = (omega arith, tt) in
+    let here : In s = in-after (opening first) history rises in
+    let some : Past s = past-after (opening first) history (omega arith) in
+    let waiting : Rises s.next (pend s.next s.schedule) = rises-pending s.next 0 (pend s.next s.schedule) (rises-filter (λ q. nat_le s.next q.from) 0 s.schedule here) (filter-tests (λ q. nat_le s.next q.from) s.schedule) in
+    let kept : IsKept (bounded s) = bounded-kept s some in
+    subst (λ (t : Register). (k : IsKept t) × (edition_for t t.next ≡ edition_of t.next k.used (pending t))) (sym (same-state (opening first) history rises))
+    (kept, bounded-edition (bounded s) kept (subst (Rises s.next) (sym (pend-trim s.next s.schedule)) waiting))

@@ -1,5 +1,5 @@
 -- What the moves of each seat tell of the register.
-use Rattle.std.proofs.Common.{◌≡◌, ◌≢◌, ℕ, zero, suc, ◌+◌, ◌-◌, ◌<◌, ◌≤◌, Bool, true, false, not, cond, List, [], ◌∷◌, ◌++◌, map, filter, length, Option, Some, None, is_some, unwrap_or, sym, refl, ap, subst, ◌∙◌, arith, nat_le, nat_lt, nat_eq, ◌==◌, length-append, append_assoc}
+use Rattle.std.proofs.Common.{◌≡◌, ◌≢◌, ℕ, zero, suc, ◌+◌, ◌-◌, ◌<◌, ◌≤◌, Bool, true, false, not, cond, List, [], ◌∷◌, ◌++◌, map, filter, length, Option, Some, None, is_some, unwrap_or, sym, refl, ap, subst, ◌∙◌, arith, nat_le, nat_lt, ◌==◌, length-append, append_assoc}
 use Rattle.std.proofs.lemmas.Grind.{common_steps}
 use Rattle.std.proofs.lemmas.List.{append-nil, get_or_append_left}
 use Rattle.std.proofs.lemmas.Bool.{false≢true}
@@ -8,14 +8,14 @@ use Rattle.std.specs.List.{AllByRecursion, last_or, slice_index_or}
 use Rattle.histories.specs.History.{IsLegal, IsOfSeatsBelow, Permits, move, moves_of, state_after}
 use Rattle.mib_model.specs.declared.database.Database.{Database}
 use Rattle.mib_model.specs.declared.register.Answer.{Answer}
-use Rattle.mib_model.specs.declared.register.Answer.TheVariants.{Stamped, Added, FullEditions, Stale, Used, NoEdition, Late, Disorder, FullPending, Drawn}
+use Rattle.mib_model.specs.declared.register.Answer.TheVariants.{Stamped, Added, Used, NoEdition, Late, Disorder, FullPending}
 use Rattle.mib_model.specs.declared.register.Entry.{Entry}
 use Rattle.mib_model.specs.declared.register.Entry.TheVariants.{Stamp, Add, AddOn, Use, UseFrom, Newest, Look}
 use Rattle.mib_model.specs.declared.register.Register.{Register}
 use Rattle.mib_model.specs.declared.register.Scheduled.{Scheduled}
 use Rattle.mib_model.specs.Database.{no_rows}
-use Rattle.mib_model.specs.Register.{opening, answer_to, after, added, used_from, with_tables, with_activation, is_pending, edition_for, has_edition, count_of_editions, is_disorder, last_pending, pending, most_pending, most_editions, tables_of}
-use Rattle.mib_model.specs.RegisterHistories.{RegisterHistory, IsRegisterHistory, MayEnter, is_stamp, register_after, stamp_in}
+use Rattle.mib_model.specs.Register.{opening, answer_to, after, with_tables, with_activation, is_pending, edition_for, has_edition, count_of_editions, is_disorder, last_pending, pending, most_pending, tables_of}
+use Rattle.mib_model.specs.RegisterHistories.{RegisterHistory, MayEnter, is_stamp, register_after, stamp_in}
 use Rattle.mib_laws.proofs.Choices.{choice}
 use Rattle.mib_laws.proofs.RegisterFacts.{quiet, stays-stamped, with_activation-next, with_tables-next}
 use Rattle.edition_register.specs.Shown.{stamped_by, last_stamped, added_by, added_in, HasItsTables, NoneBegins}

@@ -1,10 +1,11 @@
 -- The register with the activations alone that a packet to come may need. [This profile.]
-use Rattle.std.specs.Prelude.{◌≡◌, ◌≤◌, ◌+◌, List, [], ◌∷◌, ◌++◌, length, filter, not, ◌↔◌}
+use Rattle.std.specs.Prelude.{◌≡◌, ℕ, ◌<◌, ◌==◌, if◌then◌else◌, ◌≤◌, ◌+◌, List, [], ◌∷◌, ◌++◌, length, filter, not, ◌↔◌}
 use Rattle.histories.specs.History.{IsLegal, state_after}
 use Rattle.mib_model.specs.declared.database.Database.{Database}
 use Rattle.mib_model.specs.declared.register.Entry.{Entry}
 use Rattle.mib_model.specs.declared.register.Register.{Register}
-use Rattle.mib_model.specs.Register.{opening, answer_to, after, is_pending, most_pending, pending}
+use Rattle.mib_model.specs.declared.register.Scheduled.{Scheduled}
+use Rattle.mib_model.specs.Register.{opening, answer_to, after, edition_for, is_pending, most_pending, pending}
 use Rattle.mib_model.specs.RegisterHistories.{RegisterHistory, IsRegisterHistory, register_after}
 
 -- the last item alone, or none
@@ -31,3 +32,21 @@ BoundedServes =
 -- the bounded state has at most the activation in use and those that may be pending
 abbrev pub FewActivations : Type 0
 FewActivations = (first : Database) (history : RegisterHistory) → length (state_after bounded_after (opening first) history).schedule ≤ most_pending + 1
+
+-- one activation is in use, from a packet before the next, and behind it stand those that are pending
+pub record IsKept (s : Register) : Type 0 where
+  pub used : Scheduled
+  pub schedule : s.schedule ≡ used ∷ pending s
+  pub before : used.from < s.next
+
+-- the edition of the next packet: that of the first pending activation where it begins with this packet, else the one in use
+abbrev pub edition_of : ℕ → Scheduled → List Scheduled → ℕ
+edition_of next used [] = used.edition
+edition_of next used (first ∷ more) = if first.from == next then first.edition else used.edition
+
+-- the bounded state has that form, and the next packet the edition that the form tells
+abbrev pub KeepsOneInUse : Type 0
+KeepsOneInUse =
+    (first : Database) (history : RegisterHistory) →
+    let s = state_after bounded_after (opening first) history in
+    (kept : IsKept s) × (edition_for s s.next ≡ edition_of s.next kept.used (pending s))

@@ -1,5 +1,5 @@
 -- What a history of the register shows each seat. [This profile.]
-use Rattle.std.specs.Prelude.{◌≡◌, ℕ, ◌+◌, List, [], ◌∷◌, length}
+use Rattle.std.specs.Prelude.{◌≡◌, ℕ, ◌+◌, ◌∷◌, length}
 use Rattle.std.specs.List.{AllByRecursion}
 use Rattle.histories.specs.History.{IsOfSeatsBelow, Permits, moves_of}
 use Rattle.mib_model.specs.declared.database.Database.{Database}

@@ -1,4 +1,4 @@
-ghost use Rattle.edition_register.specs.Bounded.{BoundedServes, FewActivations};
+ghost use Rattle.edition_register.specs.Bounded.{BoundedServes, FewActivations, KeepsOneInUse};
 ghost use Rattle.edition_register.specs.Laws.{DeskShowsEditions, IntakeCounts, StampGoesOn, TablesStay};
 
 /// The number of the next packet is one more than the intake has moves.
@@ -29,4 +29,9 @@ pub fn bounded_serves()
 /// Such a machine keeps 17 activations at most.
 pub fn few_activations()
     ensures { FewActivations }
+{}
+
+/// Such a machine has one activation in use and behind it those that are pending, which tell the next packet's edition.
+pub fn keeps_one_in_use()
+    ensures { KeepsOneInUse }
 {}
