@@ -1,15 +1,21 @@
 -- Where nothing fails, a call decodes the feed whole.
-use Rattle.std.proofs.Common.{◌≡◌, ℕ, List, [], ◌++◌, Option, Some, None, Ok, ap, ◌∙◌, arith, append-nil, append_assoc}
+use Rattle.std.proofs.Common.{◌≡◌, ℕ, List, [], ◌++◌, Option, Some, None, Result, Ok, Err, IfSome, IsOkAnd, IsSomeAnd, ap, ◌∙◌, arith, append-nil, append_assoc, subst}
 use Rattle.std.specs.List.{concat}
 use Rattle.mib_model.specs.declared.code.Code.{Code}
 use Rattle.mib_model.specs.declared.code.Code.TheVariants as code
 use Rattle.mib_model.specs.declared.database.Database.{Database}
 use Rattle.mib_model.specs.Packets.{IsCut}
+use Rattle.mib_model.specs.declared.code.Input.TheVariants as input
+use Rattle.mib_model.specs.declared.fault.MibFault.{MibFault}
+use Rattle.mib_model.specs.Summaries.{summary}
 use Rattle.session.specs.Causes.{Failed}
-use Rattle.mibtm.specs.Causes.{HasTablesCause, HasFeedCause, HasOutCause}
+use Rattle.session.specs.Sources.{Files}
+use Rattle.std.specs.Io.KnownBytes.{Appends}
+use Rattle.mibtm.specs.Objects.{ShelfView, SinkView, Took}
 use Rattle.mibtm.specs.Run.{Ran}
-use Rattle.mibtm.specs.Tool.{AnswersTables, Completes, Decodes, IsDecodeCode, IsUnfailed, Standing}
-use Rattle.mibtm.specs.Checking.{Checks, CompletesCheck, IsCheckCode}
+use Rattle.mibtm.specs.Sources.{built_in, sound_in}
+use Rattle.mibtm.specs.Statement.{Checked, Decoded, Printed, RanBy}
+use Rattle.mibtm.specs.Tool.{Completes, CompletesCheck, IsUnfailed}
 
 -- a count that stays as it was, below its end, didn't rise
 not_failed : (before now : ℕ) → IsUnfailed before now → Failed before now → ⊥
@@ -37,35 +43,76 @@ limit-completes db octets before now None old new ran = absurd ran
 limit-completes db octets before now (Some left) old new (read, packets, rest, whole, cut, (none, all, wrote)) =
     (packets, rest ++ left, whole ∙ ap (λ l. l ++ left) cut.whole ∙ append_assoc (concat packets) rest left, cut.each, all, wrote)
 
-pub completes : (c : Code) (db : Database) (octets : List ℕ) (s : Standing) (tables tables_now out out_now : ℕ)
-    → IsDecodeCode c → AnswersTables c (Ok db) → Decodes c db (Some octets) s → HasTablesCause c tables tables_now → HasFeedCause c s.faults_before s.faults_now → HasOutCause c out out_now
-    → IsUnfailed tables tables_now → IsUnfailed s.faults_before s.faults_now → IsUnfailed out out_now → Completes c db octets s.old s.new
-completes code.Ok db octets s t tn o on decode said decodes tables feed out still feed_still out_still = ok-completes db octets _ _ s.left s.old s.new decodes
-completes (code.Cut count) db octets s t tn o on decode said decodes tables feed out still feed_still out_still = cut-completes db octets count _ _ s.left s.old s.new decodes
-completes code.Limit db octets s t tn o on decode said decodes tables feed out still feed_still out_still = limit-completes db octets _ _ s.left s.old s.new decodes
-completes code.Want db octets s t tn o on decode said decodes tables feed out still feed_still out_still = tt
-completes (code.Usage misuse) db octets s t tn o on decode said decodes tables feed out still feed_still out_still = decode
-completes (code.BadMib fault) db octets s t tn o on decode said decodes tables feed out still feed_still out_still = cc
-completes (code.NoFile i) db octets s t tn o on decode said decodes tables feed out still feed_still out_still = decodes
-completes code.TablesFault db octets s t tn o on decode said decodes tables feed out still feed_still out_still = not_failed t tn still tables
-completes code.FeedFault db octets s t tn o on decode said decodes tables feed out still feed_still out_still = not_failed s.faults_before s.faults_now feed_still feed
-completes code.OutFault db octets s t tn o on decode said decodes tables feed out still feed_still out_still = not_failed o on out_still out
-completes code.DeskFault db octets s t tn o on decode said decodes tables feed out still feed_still out_still = decode
-completes code.ReplyFault db octets s t tn o on decode said decodes tables feed out still feed_still out_still = decode
+-- what is said of the database and the feed that there are
+told : (holds : Option Files) (read : Files → Result Database MibFault) (files : Files) (db : Database) (P : Database → Type 0) → holds ≡ Some files → read files ≡ Ok db
+    → IfSome holds (λ f. IsOkAnd (read f) P) → P db
+told None read files db P is read_as said = cc is
+told (Some f) read files db P is read_as said = ok (read files) read_as (subst (λ (x : Option Files). IfSome x (λ g. IsOkAnd (read g) P)) is said)
+  where
+    ok : (r : Result Database MibFault) → r ≡ Ok db → IsOkAnd r P → P db
+    ok (Ok other) same s = subst (λ (x : Result Database MibFault). IsOkAnd x P) same s
+    ok (Err fault) same s = cc same
 
--- the same of a check
-pub completes_check : (c : Code) (db : Database) (old new : Option (List ℕ)) (tables tables_now out out_now : ℕ)
-    → IsCheckCode c → AnswersTables c (Ok db) → Checks c db old new → HasTablesCause c tables tables_now → HasOutCause c out out_now
-    → IsUnfailed tables tables_now → IsUnfailed out out_now → CompletesCheck c db old new
-completes_check code.Ok db old new t tn o on check said checks tables out still out_still = checks
-completes_check code.Want db old new t tn o on check said checks tables out still out_still = tt
-completes_check (code.BadMib fault) db old new t tn o on check said checks tables out still out_still = cc
-completes_check code.TablesFault db old new t tn o on check said checks tables out still out_still = not_failed t tn still tables
-completes_check code.OutFault db old new t tn o on check said checks tables out still out_still = not_failed o on out_still out
-completes_check (code.Cut count) db old new t tn o on check said checks tables out still out_still = check
-completes_check code.Limit db old new t tn o on check said checks tables out still out_still = check
-completes_check (code.Usage misuse) db old new t tn o on check said checks tables out still out_still = check
-completes_check (code.NoFile i) db old new t tn o on check said checks tables out still out_still = check
-completes_check code.FeedFault db old new t tn o on check said checks tables out still out_still = check
-completes_check code.DeskFault db old new t tn o on check said checks tables out still out_still = check
-completes_check code.ReplyFault db old new t tn o on check said checks tables out still out_still = check
+held : (holds : Option Files) (files : Files) (name octets : List ℕ) (P : List ℕ → Type 0) → holds ≡ Some files → files name ≡ Some octets → IfSome holds (λ f. IsSomeAnd (f name) P) → P octets
+held None files name octets P is found said = cc is
+held (Some f) files name octets P is found said =
+    subst (λ (x : Option (List ℕ)). IsSomeAnd x P) found (subst (λ (x : Option Files). IfSome x (λ g. IsSomeAnd (g name) P)) is said)
+
+module _ {T F O : Type 0} (folder name octets : List ℕ) (files feeds : Files) (db : Database) (tables : ShelfView T) (feed : ShelfView F) (out : SinkView O)
+    (is_told : tables.holds tables.before ≡ Some files) (is_read : built_in files folder ≡ Ok db) (is_held : feed.holds feed.before ≡ Some feeds) (is_found : feeds name ≡ Some octets) where
+  ran : (c : Code) → Printed c folder name tables feed out → RanBy c feed out db octets
+  ran c printed =
+      held (feed.holds feed.before) feeds name octets (RanBy c feed out db) is_held is_found
+      (told (tables.holds tables.before) (λ f. built_in f folder) files db (λ d. IfSome (feed.holds feed.before) (λ f. IsSomeAnd (f name) (RanBy c feed out d))) is_told is_read printed)
+
+  all-decoded : (c : Code) → Decoded c folder name tables feed out → IsUnfailed (tables.faults tables.before) (tables.faults tables.now) → IsUnfailed (feed.faults feed.before) (feed.faults feed.now)
+      → IsUnfailed (out.faults out.before) (out.faults out.now) → Completes c db octets (out.written out.before) (out.written out.now)
+  all-decoded code.Ok (stood, read, handed, printed) t f o = ok-completes db octets _ _ (feed.left feed.now) _ _ (ran code.Ok printed)
+  all-decoded (code.Cut count) (stood, read, handed, printed) t f o = cut-completes db octets count _ _ (feed.left feed.now) _ _ (ran (code.Cut count) printed)
+  all-decoded code.Limit (stood, read, handed, printed) t f o = limit-completes db octets _ _ (feed.left feed.now) _ _ (ran code.Limit printed)
+  all-decoded code.Want said t f o = tt
+  all-decoded (code.BadMib fault) (stood, uncalled, same, refused) t f o = no-refusal refused
+    where
+      no-refusal : IfSome (tables.holds tables.before) (λ f. built_in f folder ≡ Err fault) → ⊥
+      no-refusal said = (let bad : built_in files folder ≡ Err fault = subst (λ (x : Option Files). IfSome x (λ g. built_in g folder ≡ Err fault)) is_told said in cc (bad, is_read))
+  all-decoded (code.NoFile input.Feed) (stood, read, same, missing) t f o = no-feed missing
+    where
+      no-feed : IfSome (tables.holds tables.before) (λ f. IsOkAnd (built_in f folder) (λ d. IfSome (feed.holds feed.before) (λ g. g name ≡ None))) → ⊥
+      no-feed said =
+          let here = told (tables.holds tables.before) (λ f. built_in f folder) files db (λ d. IfSome (feed.holds feed.before) (λ g. g name ≡ None)) is_told is_read said in
+          let bad : feeds name ≡ None = subst (λ (x : Option Files). IfSome x (λ g. g name ≡ None)) is_held here in cc (bad, is_found)
+  all-decoded code.TablesFault (failed, uncalled, same) t f o = not_failed _ _ t failed
+  all-decoded code.FeedFault (stood, failed, handed, faulty) t f o = not_failed _ _ f failed
+  all-decoded code.OutFault (stood, read, failed, printed) t f o = not_failed _ _ o failed
+  all-decoded (code.Usage misuse) said t f o = said
+  all-decoded (code.NoFile input.Desk) said t f o = said
+  all-decoded code.DeskFault said t f o = said
+  all-decoded code.ReplyFault said t f o = said
+
+pub completes : {T F O : Type 0} (c : Code) (folder name octets : List ℕ) (files feeds : Files) (db : Database) (tables : ShelfView T) (feed : ShelfView F) (out : SinkView O)
+    → tables.holds tables.before ≡ Some files → built_in files folder ≡ Ok db → feed.holds feed.before ≡ Some feeds → feeds name ≡ Some octets
+    → Decoded c folder name tables feed out
+    → IsUnfailed (tables.faults tables.before) (tables.faults tables.now) → IsUnfailed (feed.faults feed.before) (feed.faults feed.now) → IsUnfailed (out.faults out.before) (out.faults out.now)
+    → Completes c db octets (out.written out.before) (out.written out.now)
+completes c folder name octets files feeds db tables feed out is_told is_read is_held is_found said t f o =
+    all-decoded folder name octets files feeds db tables feed out is_told is_read is_held is_found c said t f o
+
+-- of a check that nothing hinders
+pub completes_check : {T O : Type 0} (c : Code) (folder : List ℕ) (files : Files) (db : Database) (tables : ShelfView T) (out : SinkView O)
+    → tables.holds tables.before ≡ Some files → sound_in files folder ≡ Ok db → Checked c folder tables out
+    → IsUnfailed (tables.faults tables.before) (tables.faults tables.now) → IsUnfailed (out.faults out.before) (out.faults out.now)
+    → CompletesCheck c db (out.written out.before) (out.written out.now)
+completes_check code.Ok folder files db tables out is_told is_read (stood, handed, wrote) t o =
+    told (tables.holds tables.before) (λ f. sound_in f folder) files db (λ d. Took out (λ old new. Appends old new (summary d))) is_told is_read wrote
+completes_check code.Want folder files db tables out is_told is_read said t o = tt
+completes_check (code.BadMib fault) folder files db tables out is_told is_read (stood, same, refused) t o =
+    let bad : sound_in files folder ≡ Err fault = subst (λ (x : Option Files). IfSome x (λ g. sound_in g folder ≡ Err fault)) is_told refused in cc (bad, is_read)
+completes_check code.TablesFault folder files db tables out is_told is_read (failed, same) t o = not_failed _ _ t failed
+completes_check code.OutFault folder files db tables out is_told is_read (stood, failed, wrote) t o = not_failed _ _ o failed
+completes_check (code.Cut count) folder files db tables out is_told is_read said t o = said
+completes_check code.Limit folder files db tables out is_told is_read said t o = said
+completes_check (code.Usage misuse) folder files db tables out is_told is_read said t o = said
+completes_check (code.NoFile i) folder files db tables out is_told is_read said t o = said
+completes_check code.FeedFault folder files db tables out is_told is_read said t o = said
+completes_check code.DeskFault folder files db tables out is_told is_read said t o = said
+completes_check code.ReplyFault folder files db tables out is_told is_read said t o = said

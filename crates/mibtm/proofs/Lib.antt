@@ -10,5 +10,5 @@ pub mod TableSteps
 pub mod UnbuiltSteps
 pub mod LoadSteps
 pub mod DecodeSteps
-pub mod ToolSteps
+pub mod StatementSteps
 pub mod Completeness

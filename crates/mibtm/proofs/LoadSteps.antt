@@ -1,7 +1,8 @@
 -- From what was read to what is accepted: a fault ends it.
 use Rattle.std.proofs.Common.{◌≡◌, ℕ, List, Option, Some, None, Result, Ok, Err, IfSome, IfOk, IfErr, ap}
-use Rattle.mib_model.specs.declared.code.Code.{Code}
-use Rattle.mib_model.specs.declared.code.Code.TheVariants as code
+use Rattle.mibtm.specs.declared.load.Refusal.{Refusal}
+use Rattle.mibtm.specs.declared.load.Refusal.TheVariants as refusal
+use Rattle.mibtm.specs.Refusals.{Refuses}
 use Rattle.mib_model.specs.declared.database.Database.{Database}
 use Rattle.mib_model.specs.declared.fault.MibFault.{MibFault}
 use Rattle.mib_model.specs.declared.tables.Tables.{Tables}
@@ -9,29 +10,20 @@ use Rattle.mib_model.specs.Attempts.{◌>>=◌}
 use Rattle.mib_model.specs.Database.{database_of}
 use Rattle.session.specs.Sources.{Files, database_in}
 use Rattle.mibtm.specs.Readings.{Keeps}
-use Rattle.mibtm.specs.Sources.{Refuses, built_in, if_built, if_sound, sound_in}
+use Rattle.mibtm.specs.Sources.{built_in, if_built, if_sound, sound_in}
 
 -- a fault that ends the first step ends all
-refuses-first : {A B : Type 0} (c : Code) (read : Result A MibFault) (next : A → Result B MibFault) → Refuses c read → Refuses c (read >>= next)
-refuses-first (code.BadMib fault) read next refused = ap (λ r. r >>= next) refused
-refuses-first code.TablesFault read next refused = tt
-refuses-first code.Want read next refused = tt
-refuses-first code.Ok read next refused = absurd refused
-refuses-first (code.Usage misuse) read next refused = absurd refused
-refuses-first (code.NoFile input) read next refused = absurd refused
-refuses-first (code.Cut cut) read next refused = absurd refused
-refuses-first code.FeedFault read next refused = absurd refused
-refuses-first code.DeskFault read next refused = absurd refused
-refuses-first code.OutFault read next refused = absurd refused
-refuses-first code.ReplyFault read next refused = absurd refused
-refuses-first code.Limit read next refused = absurd refused
+refuses-first : {A B : Type 0} (r : Refusal) (read : Result A MibFault) (next : A → Result B MibFault) → Refuses r read → Refuses r (read >>= next)
+refuses-first (refusal.Mib fault) read next refused = ap (λ r. r >>= next) refused
+refuses-first refusal.Failed read next refused = tt
+refuses-first refusal.Memory read next refused = tt
 
-pub refused_unread : (holds : Option Files) (folder : List ℕ) (c : Code) → IfSome holds (λ files. Refuses c (database_in files folder)) → IfSome holds (λ files. Refuses c (sound_in files folder))
+pub refused_unread : (holds : Option Files) (folder : List ℕ) (c : Refusal) → IfSome holds (λ files. Refuses c (database_in files folder)) → IfSome holds (λ files. Refuses c (sound_in files folder))
 unfolding sound_in
 refused_unread None folder c refused = tt
 refused_unread (Some files) folder c refused = refuses-first c (database_in files folder) if_sound refused
 
-pub refused_unsound : (holds : Option Files) (folder : List ℕ) (c : Code) → IfSome holds (λ files. Refuses c (sound_in files folder)) → IfSome holds (λ files. Refuses c (built_in files folder))
+pub refused_unsound : (holds : Option Files) (folder : List ℕ) (c : Refusal) → IfSome holds (λ files. Refuses c (sound_in files folder)) → IfSome holds (λ files. Refuses c (built_in files folder))
 unfolding built_in
 refused_unsound None folder c refused = tt
 refused_unsound (Some files) folder c refused = refuses-first c (sound_in files folder) if_built refused
@@ -50,23 +42,23 @@ second_built P None folder db read said = tt
 second_built P (Some files) folder db read said = rw read said
 
 -- the answers of the second step
-pub told_sound : (holds : Option Files) (folder : List ℕ) (db : Database) (result : Result Database Code) → IfSome holds (λ files. database_in files folder ≡ Ok db)
+pub told_sound : (holds : Option Files) (folder : List ℕ) (db : Database) (result : Result Database Refusal) → IfSome holds (λ files. database_in files folder ≡ Ok db)
     → IfOk result (λ kept. if_sound db ≡ Ok kept) → IfOk result (λ kept. IfSome holds (λ files. sound_in files folder ≡ Ok kept))
 told_sound holds folder db (Ok kept) read told = second_sound (λ r. r ≡ Ok kept) holds folder db read told
 told_sound holds folder db (Err c) read told = tt
 
-pub refused_sound : {A : Type 0} (holds : Option Files) (folder : List ℕ) (db : Database) (result : Result A Code) → IfSome holds (λ files. database_in files folder ≡ Ok db)
+pub refused_sound : {A : Type 0} (holds : Option Files) (folder : List ℕ) (db : Database) (result : Result A Refusal) → IfSome holds (λ files. database_in files folder ≡ Ok db)
     → IfErr result (λ c. Refuses c (if_sound db)) → IfErr result (λ c. IfSome holds (λ files. Refuses c (sound_in files folder)))
 refused_sound holds folder db (Ok kept) read refused = tt
 refused_sound holds folder db (Err c) read refused = second_sound (Refuses c) holds folder db read refused
 
 -- and of the third
-pub told_built : (holds : Option Files) (folder : List ℕ) (db : Database) (result : Result Tables Code) → IfSome holds (λ files. sound_in files folder ≡ Ok db)
+pub told_built : (holds : Option Files) (folder : List ℕ) (db : Database) (result : Result Tables Refusal) → IfSome holds (λ files. sound_in files folder ≡ Ok db)
     → IfOk result (λ kept. Keeps (if_built db) (database_of kept)) → IfOk result (λ kept. IfSome holds (λ files. Keeps (built_in files folder) (database_of kept)))
 told_built holds folder db (Ok kept) read told = second_built (λ r. Keeps r (database_of kept)) holds folder db read told
 told_built holds folder db (Err c) read told = tt
 
-pub refused_built : {A : Type 0} (holds : Option Files) (folder : List ℕ) (db : Database) (result : Result A Code) → IfSome holds (λ files. sound_in files folder ≡ Ok db)
+pub refused_built : {A : Type 0} (holds : Option Files) (folder : List ℕ) (db : Database) (result : Result A Refusal) → IfSome holds (λ files. sound_in files folder ≡ Ok db)
     → IfErr result (λ c. Refuses c (if_built db)) → IfErr result (λ c. IfSome holds (λ files. Refuses c (built_in files folder)))
 refused_built holds folder db (Ok kept) read refused = tt
 refused_built holds folder db (Err c) read refused = second_built (Refuses c) holds folder db read refused

@@ -3,7 +3,9 @@ pub mod Causes
 pub mod Run
 pub mod Inputs
 pub mod Sources
+pub mod Refusals
 pub mod UnbuiltRows
-pub mod Checking
 pub mod Requests
 pub mod Tool
+pub mod Objects
+pub mod Statement

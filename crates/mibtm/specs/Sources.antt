@@ -1,7 +1,5 @@
 -- Which database is accepted. [This profile.]
-use Rattle.std.specs.Prelude.{◌≡◌, ℕ, List, Option, Some, None, Result, Ok, Err, ⊤}
-use Rattle.mib_model.specs.declared.code.Code.{Code}
-use Rattle.mib_model.specs.declared.code.Code.TheVariants as code
+use Rattle.std.specs.Prelude.{◌≡◌, ℕ, List, Option, Some, None, Result, Ok, Err}
 use Rattle.mib_model.specs.declared.database.Database.{Database}
 use Rattle.mib_model.specs.declared.fault.MibFault.{MibFault}
 use Rattle.mib_model.specs.declared.rows.PcfRow.{PcfRow}
@@ -42,10 +40,3 @@ fixed_by pcf pid tpcf plf = record no_rows { pcf = pcf; pid = pid; tpcf = tpcf; 
 -- those of a database
 abbrev pub fixed_tables : Database → Database
 fixed_tables db = fixed_by db.pcf db.pid db.tpcf db.plf
-
--- the codes that reading may end with, and that a fault is the one of what was read
-abbrev pub Refuses : {Made : Type 0} → Code → Result Made MibFault → Type 0
-Refuses (code.BadMib fault) read = read ≡ Err fault
-Refuses code.TablesFault read = ⊤
-Refuses code.Want read = ⊤
-Refuses other read = ⊥

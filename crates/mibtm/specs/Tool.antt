@@ -6,29 +6,11 @@ use Rattle.mib_model.specs.declared.code.Code.{Code}
 use Rattle.mib_model.specs.declared.code.Code.TheVariants as code
 use Rattle.mib_model.specs.declared.code.Input.TheVariants as input
 use Rattle.mib_model.specs.declared.database.Database.{Database}
-use Rattle.mib_model.specs.declared.fault.MibFault.{MibFault}
 use Rattle.mib_model.specs.Packets.{IsPacket, IsCut}
+use Rattle.mib_model.specs.Summaries.{summary}
 use Rattle.mib_model.specs.Texts.{cut_text}
-use Rattle.mib_model.specs.Words.{Command, Check, Decode}
 use Rattle.session.specs.Causes.{Failed}
-use Rattle.session.specs.Sources.{Files}
-use Rattle.mibtm.specs.Checking.{IsCheckCode}
-use Rattle.mibtm.specs.Sources.{built_in, sound_in}
 use Rattle.mibtm.specs.Run.{Ran, Writes, most_packets}
-
--- the codes of `decode`: those of wrong words, of a desk and of replies never come
-abbrev pub IsDecodeCode : Code → Type 0
-IsDecodeCode (code.Usage misuse) = ⊥
-IsDecodeCode (code.NoFile input.Desk) = ⊥
-IsDecodeCode code.DeskFault = ⊥
-IsDecodeCode code.ReplyFault = ⊥
-IsDecodeCode other = ⊤
-
--- the codes of a command
-abbrev pub IsCodeOf : Command → Code → Type 0
-IsCodeOf (Check folder) c = IsCheckCode c
-IsCodeOf (Decode folder feed workers) c = IsDecodeCode c
-IsCodeOf other c = ⊥
 
 -- the codes of a feed that is read by some tables
 abbrev pub IsFeedCode : Code → Type 0
@@ -41,18 +23,6 @@ IsFeedCode code.Limit = ⊤
 IsFeedCode code.Want = ⊤
 IsFeedCode other = ⊥
 
--- a code with which no object was called
-abbrev pub IsUsage : Code → Type 0
-IsUsage (code.Usage misuse) = ⊤
-IsUsage other = ⊥
-
--- a code with which the feed was not called
-abbrev pub IsBeforeFeed : Code → Type 0
-IsBeforeFeed (code.Usage misuse) = ⊤
-IsBeforeFeed (code.BadMib fault) = ⊤
-IsBeforeFeed code.TablesFault = ⊤
-IsBeforeFeed other = ⊥
-
 -- a code with which the output was not called
 abbrev pub IsBeforeRun : Code → Type 0
 IsBeforeRun (code.Usage misuse) = ⊤
@@ -60,19 +30,6 @@ IsBeforeRun (code.BadMib fault) = ⊤
 IsBeforeRun code.TablesFault = ⊤
 IsBeforeRun (code.NoFile i) = ⊤
 IsBeforeRun other = ⊥
-
--- what a code says of the database that the tables are: the tables are refused with just their fault
-abbrev pub AnswersTables : Code → Result Database MibFault → Type 0
-AnswersTables (code.BadMib fault) read = read ≡ Err fault
-AnswersTables code.TablesFault read = ⊤
-AnswersTables code.Want read = ⊤
-AnswersTables other read = IsOk read
-
--- the same of the tables that a command reads
-abbrev pub AnswersFor : Command → Code → Files → Type 0
-AnswersFor (Check folder) c files = AnswersTables c (sound_in files folder)
-AnswersFor (Decode folder feed workers) c files = AnswersTables c (built_in files folder)
-AnswersFor other c files = ⊥
 
 -- packets at the front of the feed were printed, and nothing else
 abbrev pub PrintsFront : Database → List ℕ → Option (List ℕ) → Option (List ℕ) → Type 0
@@ -125,6 +82,12 @@ Completes code.Limit db octets old new =
     (packets : List (List ℕ)) × (more : List ℕ) × (octets ≡ concat packets ++ more) × All IsPacket packets × (length packets ≡ most_packets) × Writes db packets [] old new
 Completes code.Want db octets old new = ⊤
 Completes other db octets old new = ⊥
+
+-- what a check wrote that nothing hindered
+abbrev pub CompletesCheck : Code → Database → Option (List ℕ) → Option (List ℕ) → Type 0
+CompletesCheck code.Ok db old new = Appends old new (summary db)
+CompletesCheck code.Want db old new = ⊤
+CompletesCheck other db old new = ⊥
 
 -- a count of faults that didn't rise, and could still
 pub record IsUnfailed (before now : ℕ) : Type 0 where

@@ -1,11 +1,14 @@
 // The command `check`: tables, and their summary.
-ghost use Rattle.std.specs.Prelude.{◌≡◌, ◌≢◌, IfSome, IfOk};
-ghost use Rattle.mibtm.specs.Causes.{HasTablesCause, HasOutCause};
-ghost use Rattle.mibtm.specs.Sources.{sound_in};
-ghost use Rattle.mibtm.specs.Checking.{Checks, IsCheckCode, IsSummaryCode};
-ghost use Rattle.mibtm.specs.Tool.{AnswersTables, IsBeforeRun};
+ghost use Rattle.std.specs.Prelude.{◌≡◌, ◌≢◌, IfErr, OnOk, Err};
+ghost use Rattle.std.specs.Io.KnownBytes.{Appends};
+ghost use Rattle.mib_model.specs.Summaries.{summary};
+ghost use Rattle.mibtm.specs.Causes.{HasStopCause};
+ghost use Rattle.mibtm.specs.Run.{StopsAt};
+ghost use Rattle.mibtm.specs.Objects.{shelf, sink};
+ghost use Rattle.mibtm.specs.Statement.{Checked};
 
 use crate::load::sound_book;
+use crate::print::Stop;
 use book_summary::summary_of;
 use mib_model::Code;
 use mib_tables::Book;
@@ -13,21 +16,22 @@ use std::alloc::Global;
 use tm_io::{Shelf, Sink, write_all};
 
 // Writes the summary of a book, and hands it on.
-fn print_summary<O: Sink>(alloc: Global, book: &Book, out: &mut O) -> Code
-    ensures checks { Checks result book.now (O.written out.old) (O.written out.new) }
-    ensures code { IsSummaryCode result }
-    ensures handed { result ≢ Code.OutFault → O.handed out.old ≡ O.written out.old → O.handed out.new ≡ O.written out.new }
-    ensures out { HasOutCause result (O.faults out.old) (O.faults out.new) }
+fn print_summary<O: Sink>(alloc: Global, book: &Book, out: &mut O) -> Result<(), Stop>
+    ensures all { OnOk result (Appends (O.written out.old) (O.written out.new) (summary book.now)) }
+    ensures part { IfErr result (λ stop. StopsAt stop (summary book.now) (O.written out.old) (O.written out.new)) }
+    ensures handed { result ≢ Err Stop.Out → O.handed out.old ≡ O.written out.old → O.handed out.new ≡ O.written out.new }
+    ensures ok { OnOk result (O.faults out.new ≡ O.faults out.old) }
+    ensures cause { IfErr result (λ stop. HasStopCause stop (O.faults out.old) (O.faults out.new)) }
 {
     let Ok(text) = summary_of(alloc, book) else {
-        return Code::Want;
+        return Err(Stop::Memory);
     };
     let Ok(()) = write_all(out, &text) else {
-        return Code::OutFault;
+        return Err(Stop::Out);
     };
     match out.flush() {
-        Ok(()) => Code::Ok,
-        Err(_) => Code::OutFault,
+        Ok(()) => Ok(()),
+        Err(_) => Err(Stop::Out),
     }
 }
 
@@ -38,16 +42,13 @@ pub(crate) fn check<T: Shelf, O: Sink>(
     tables: &mut T,
     out: &mut O,
 ) -> Code
-    ensures tables { IfSome (T.holds tables.old) (λ files. AnswersTables result (sound_in files folder.now)) }
-    ensures checks { IfSome (T.holds tables.old) (λ files. IfOk (sound_in files folder.now) (λ db. Checks result db (O.written out.old) (O.written out.new))) }
-    ensures code { IsCheckCode result }
-    ensures tables_cause { HasTablesCause result (T.faults tables.old) (T.faults tables.new) }
-    ensures handed { result ≢ Code.OutFault → O.handed out.old ≡ O.written out.old → O.handed out.new ≡ O.written out.new }
-    ensures out_cause { HasOutCause result (O.faults out.old) (O.faults out.new) }
-    ensures before_run { IsBeforeRun result → out.new ≡ out.old }
+    ensures { Checked result folder.now (shelf tables.old tables.new T.holds T.left T.faults T.missed) (sink out.old out.new O.written O.handed O.faults) }
 {
     match sound_book(alloc, folder, tables) {
-        Ok(book) => print_summary(alloc, &book, out),
-        Err(code) => code,
+        Ok(book) => match print_summary(alloc, &book, out) {
+            Ok(()) => Code::Ok,
+            Err(stop) => Code::from(stop),
+        },
+        Err(refusal) => Code::from(refusal),
     }
 }

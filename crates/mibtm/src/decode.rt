@@ -1,12 +1,15 @@
 // The command `decode`: tables, then a feed.
 ghost use Rattle.std.specs.Prelude.{◌≡◌, ◌≢◌, IfSome, IfOk, IfErr, OnOk, Ok};
 ghost use Rattle.mib_model.specs.Database.{database_of};
-ghost use Rattle.mibtm.specs.Causes.{HasTablesCause, HasFeedCause, HasOutCause, IsLoadStop, IsTestStop};
+ghost use Rattle.mibtm.specs.Causes.{HasFeedCause, HasOutCause};
 ghost use Rattle.mibtm.specs.Readings.{IsBuilt, Keeps};
-ghost use Rattle.mibtm.specs.Sources.{Refuses, built_in, if_built};
-ghost use Rattle.mibtm.specs.Tool.{AnswersTables, Decodes, IsBeforeFeed, IsBeforeRun, IsDecodeCode, IsFeedCode};
+ghost use Rattle.mibtm.specs.Refusals.{HasRefusalCause, Refuses};
+ghost use Rattle.mibtm.specs.Sources.{built_in, if_built};
+ghost use Rattle.mibtm.specs.Objects.{shelf, sink};
+ghost use Rattle.mibtm.specs.Statement.{Decoded};
+ghost use Rattle.mibtm.specs.Tool.{Decodes, IsBeforeRun, IsFeedCode};
 
-use crate::load::sound_book;
+use crate::load::{Refusal, sound_book};
 use crate::run::run;
 use crate::tables::read_tables;
 use crate::unbuilt::first_unbuilt;
@@ -39,29 +42,28 @@ fn decode_feed<F: Shelf, O: Sink>(
 }
 
 // The tables that packets are printed by, where all rows of a book are built.
-fn built_tables(alloc: Global, book: &Book) -> Result<Tables, Code>
+fn built_tables(alloc: Global, book: &Book) -> Result<Tables, Refusal>
     ensures told { IfOk result (λ kept. Keeps (if_built book.now) (database_of kept)) }
-    ensures refused { IfErr result (λ code. Refuses code (if_built book.now)) }
+    ensures refused { IfErr result (λ refusal. Refuses refusal (if_built book.now)) }
     ensures built { IfOk result (λ kept. IsBuilt (database_of kept)) }
-    ensures stop { IfErr result IsTestStop }
+    ensures cause { IfErr result (λ refusal. refusal ≢ Refusal.Failed) }
 {
     if let Some(fault) = first_unbuilt(book) {
-        return Err(Code::BadMib(fault));
+        return Err(Refusal::Mib(fault));
     }
     match read_tables(alloc, book) {
         Ok(tables) => Ok(tables),
-        Err(_) => Err(Code::Want),
+        Err(_) => Err(Refusal::Memory),
     }
 }
 
 // The tables of a folder that packets are printed by.
-fn folder_tables<T: Shelf>(alloc: Global, folder: &str, tables: &mut T) -> Result<Tables, Code>
+fn folder_tables<T: Shelf>(alloc: Global, folder: &str, tables: &mut T) -> Result<Tables, Refusal>
     ensures told { IfOk result (λ kept. IfSome (T.holds tables.old) (λ files. Keeps (built_in files folder.now) (database_of kept))) }
     ensures refused { IfErr result (λ code. IfSome (T.holds tables.old) (λ files. Refuses code (built_in files folder.now))) }
     ensures built { IfOk result (λ kept. IsBuilt (database_of kept)) }
     ensures ok { OnOk result (T.faults tables.new ≡ T.faults tables.old) }
-    ensures cause { IfErr result (λ code. HasTablesCause code (T.faults tables.old) (T.faults tables.new)) }
-    ensures stop { IfErr result IsLoadStop }
+    ensures cause { IfErr result (λ refusal. HasRefusalCause refusal (T.faults tables.old) (T.faults tables.new)) }
 {
     let book = sound_book(alloc, folder, tables)?;
     built_tables(alloc, &book)
@@ -76,18 +78,10 @@ pub(crate) fn decode<T: Shelf, F: Shelf, O: Sink>(
     feed: &mut F,
     out: &mut O,
 ) -> Code
-    ensures tables { IfSome (T.holds tables.old) (λ files. AnswersTables result (built_in files folder.now)) }
-    ensures decodes { IfSome (T.holds tables.old) (λ files. IfOk (built_in files folder.now) (λ db. IfSome (F.holds feed.old) (λ feeds. Decodes result db (feeds name.now) (record { missed_before = F.missed feed.old; missed_now = F.missed feed.new; faults_before = F.faults feed.old; faults_now = F.faults feed.new; left = F.left feed.new; old = O.written out.old; new = O.written out.new })))) }
-    ensures code { IsDecodeCode result }
-    ensures tables_cause { HasTablesCause result (T.faults tables.old) (T.faults tables.new) }
-    ensures feed_cause { HasFeedCause result (F.faults feed.old) (F.faults feed.new) }
-    ensures handed { result ≢ Code.OutFault → O.handed out.old ≡ O.written out.old → O.handed out.new ≡ O.written out.new }
-    ensures out_cause { HasOutCause result (O.faults out.old) (O.faults out.new) }
-    ensures before_feed { IsBeforeFeed result → feed.new ≡ feed.old }
-    ensures before_run { IsBeforeRun result → out.new ≡ out.old }
+    ensures { Decoded result folder.now name.now (shelf tables.old tables.new T.holds T.left T.faults T.missed) (shelf feed.old feed.new F.holds F.left F.faults F.missed) (sink out.old out.new O.written O.handed O.faults) }
 {
     match folder_tables(alloc, folder, tables) {
         Ok(kept) => decode_feed(alloc, &kept, name, feed, out),
-        Err(code) => code,
+        Err(refusal) => Code::from(refusal),
     }
 }

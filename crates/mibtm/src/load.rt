@@ -1,42 +1,61 @@
 // The sound tables of a folder.
-ghost use Rattle.std.specs.Prelude.{◌≡◌, IfOk, IfErr, OnOk, IfSome, Ok};
+ghost use Rattle.std.specs.Prelude.{◌≡◌, ◌≢◌, IfOk, IfErr, OnOk, IfSome, Ok};
 ghost use Rattle.session.specs.Sources.{database_in};
-ghost use Rattle.mibtm.specs.Causes.{HasTablesCause, IsLoadStop, IsTestStop};
-ghost use Rattle.mibtm.specs.Sources.{Refuses, if_sound, sound_in};
+ghost use Rattle.mibtm.specs.Refusals.{HasRefusalCause, Refuses, code_of_refusal};
+ghost use Rattle.mibtm.specs.Sources.{if_sound, sound_in};
 
 use mib_keys::{SoundFault, sound};
-use mib_model::Code;
+use mib_model::{Code, MibFault};
 use mib_tables::Book;
 use session::{LoadFault, load};
 use std::alloc::Global;
 use tm_io::Shelf;
 
+/// Why the tables of a folder are not to be had: they are refused, can't be read, or there is no memory for them.
+#[derive(Clone, Copy, Debug, PartialEq, Eq)]
+pub(crate) enum Refusal {
+    Mib(MibFault),
+    Failed,
+    Memory,
+}
+
+impl From<Refusal> for Code {
+    fn from(refusal: Refusal) -> Code
+        ensures { result ≡ code_of_refusal refusal }
+    {
+        match refusal {
+            Refusal::Mib(fault) => Code::BadMib(fault),
+            Refusal::Failed => Code::TablesFault,
+            Refusal::Memory => Code::Want,
+        }
+    }
+}
+
 // The tables of a folder, whether they are sound or not.
-fn load_book<T: Shelf>(alloc: Global, folder: &str, tables: &mut T) -> Result<Book, Code>
+fn load_book<T: Shelf>(alloc: Global, folder: &str, tables: &mut T) -> Result<Book, Refusal>
     ensures told { IfOk result (λ book. IfSome (T.holds tables.old) (λ files. database_in files folder.now ≡ Ok book)) }
     ensures refused { IfErr result (λ code. IfSome (T.holds tables.old) (λ files. Refuses code (database_in files folder.now))) }
     ensures ok { OnOk result (T.faults tables.new ≡ T.faults tables.old) }
-    ensures cause { IfErr result (λ code. HasTablesCause code (T.faults tables.old) (T.faults tables.new)) }
-    ensures stop { IfErr result IsLoadStop }
+    ensures cause { IfErr result (λ refusal. HasRefusalCause refusal (T.faults tables.old) (T.faults tables.new)) }
 {
     match load(alloc, folder, tables) {
         Ok(book) => Ok(book),
-        Err(LoadFault::Mib(fault)) => Err(Code::BadMib(fault)),
-        Err(LoadFault::Failed) => Err(Code::TablesFault),
-        Err(LoadFault::Memory) => Err(Code::Want),
+        Err(LoadFault::Mib(fault)) => Err(Refusal::Mib(fault)),
+        Err(LoadFault::Failed) => Err(Refusal::Failed),
+        Err(LoadFault::Memory) => Err(Refusal::Memory),
     }
 }
 
 // A book, where it is sound.
-fn accept(alloc: Global, book: Book) -> Result<Book, Code>
+fn accept(alloc: Global, book: Book) -> Result<Book, Refusal>
     ensures told { IfOk result (λ kept. if_sound book ≡ Ok kept) }
-    ensures refused { IfErr result (λ code. Refuses code (if_sound book)) }
-    ensures stop { IfErr result IsTestStop }
+    ensures refused { IfErr result (λ refusal. Refuses refusal (if_sound book)) }
+    ensures cause { IfErr result (λ refusal. refusal ≢ Refusal.Failed) }
 {
     match sound(alloc, &book) {
         Ok(()) => Ok(book),
-        Err(SoundFault::Mib(fault)) => Err(Code::BadMib(fault)),
-        Err(SoundFault::Memory) => Err(Code::Want),
+        Err(SoundFault::Mib(fault)) => Err(Refusal::Mib(fault)),
+        Err(SoundFault::Memory) => Err(Refusal::Memory),
     }
 }
 
@@ -46,12 +65,11 @@ pub(crate) fn sound_book<T: Shelf>(
     alloc: Global,
     folder: &str,
     tables: &mut T,
-) -> Result<Book, Code>
+) -> Result<Book, Refusal>
     ensures told { IfOk result (λ book. IfSome (T.holds tables.old) (λ files. sound_in files folder.now ≡ Ok book)) }
     ensures refused { IfErr result (λ code. IfSome (T.holds tables.old) (λ files. Refuses code (sound_in files folder.now))) }
     ensures ok { OnOk result (T.faults tables.new ≡ T.faults tables.old) }
-    ensures cause { IfErr result (λ code. HasTablesCause code (T.faults tables.old) (T.faults tables.new)) }
-    ensures stop { IfErr result IsLoadStop }
+    ensures cause { IfErr result (λ refusal. HasRefusalCause refusal (T.faults tables.old) (T.faults tables.new)) }
 {
     let book = load_book(alloc, folder, tables)?;
     accept(alloc, book)

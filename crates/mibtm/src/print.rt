@@ -3,7 +3,6 @@ ghost use Rattle.std.specs.Prelude.{◌≡◌, OnOk, IfErr};
 ghost use Rattle.std.specs.Io.KnownBytes.{Appends};
 ghost use Rattle.mibtm.specs.Causes.{HasStopCause, code_of_stop};
 ghost use Rattle.mibtm.specs.Run.{IsRunCode, StopsAt};
-ghost use Rattle.mibtm.specs.Checking.{IsSummaryCode};
 
 use mib_model::Code;
 use tm_io::{Sink, write_all};
@@ -15,14 +14,12 @@ pub(crate) enum Stop {
     Out,
 }
 
-impl Stop {
-    /// The code of a call that stops so.
-    pub(crate) fn code(self) -> Code
-        ensures code { result ≡ code_of_stop self }
+impl From<Stop> for Code {
+    fn from(stop: Stop) -> Code
+        ensures code { result ≡ code_of_stop stop }
         ensures run { IsRunCode result }
-        ensures summary { IsSummaryCode result }
     {
-        match self {
+        match stop {
             Stop::Memory => Code::Want,
             Stop::Out => Code::OutFault,
         }

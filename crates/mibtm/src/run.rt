@@ -96,14 +96,14 @@ fn print_packets<S: Source, O: Sink>(
             Next::Packet { octets, header } => {
                 let packet = &frame[..octets as usize];
                 if let Err(stop) = print_packet(text, tables, number, &header, packet, out) {
-                    return stop.code();
+                    return Code::from(stop);
                 }
             }
             Next::End => return Code::Ok,
             Next::Cut { octets } => {
                 return match print_cut(text, octets, out) {
                     Ok(()) => Code::Cut(octets),
-                    Err(stop) => stop.code(),
+                    Err(stop) => Code::from(stop),
                 };
             }
             Next::Failed => return Code::FeedFault,

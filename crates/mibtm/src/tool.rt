@@ -1,10 +1,11 @@
-ghost use Rattle.std.specs.Prelude.{◌≡◌, ◌≢◌, ℕ, List, Option, Some, Ok, map, string_bytes, IfSome, IfOk, MatchResult};
+ghost use Rattle.std.specs.Prelude.{◌≡◌, ℕ, List, Some, Ok, map, string_bytes, IfOk, IfErr};
 ghost use Rattle.mib_model.specs.declared.database.Database.{Database};
-ghost use Rattle.mibtm.specs.Causes.{HasTablesCause, HasFeedCause, HasOutCause};
 ghost use Rattle.mibtm.specs.Inputs.{IfCheck, IfDecode, command_in};
+ghost use Rattle.mibtm.specs.Objects.{ShelfView, SinkView, shelf, sink};
 ghost use Rattle.mibtm.specs.Sources.{built_in, sound_in};
-ghost use Rattle.mibtm.specs.Checking.{Checks, CompletesCheck, IsCheckCode};
-ghost use Rattle.mibtm.specs.Tool.{AnswersFor, AnswersTables, Completes, Decodes, IsBeforeFeed, IsBeforeRun, IsCodeOf, IsDecodeCode, IsUnfailed, IsUsage, Standing};
+ghost use Rattle.mibtm.specs.Statement.{Checked, Decoded};
+ghost use Rattle.mibtm.specs.Tool.{Completes, CompletesCheck, IsUnfailed};
+ghost use Rattle.session.specs.Sources.{Files};
 
 use crate::check::check;
 use crate::decode::decode;
@@ -43,29 +44,18 @@ pub fn tool<
     replies: &mut R,
     gate: &G,
 ) -> Status
-    // Wrong words, and only they, are answered as such, and then no object was called.
-    ensures words { MatchResult (command_in (map string_bytes words.now)) (λ command. IsCodeOf command result.code) (λ misuse. result.code ≡ Code.Usage misuse) }
-    ensures tables_untouched { IsUsage result.code → tables.new ≡ tables.old }
+    // Wrong words are answered before any object is called.
+    ensures misuse { IfErr (command_in (map string_bytes words.now)) (λ misuse. result.code ≡ Code.Usage misuse) }
+    ensures misuse_tables { IfErr (command_in (map string_bytes words.now)) (λ misuse. tables.new ≡ tables.old) }
+    ensures misuse_feed { IfErr (command_in (map string_bytes words.now)) (λ misuse. feed.new ≡ feed.old) }
+    ensures misuse_out { IfErr (command_in (map string_bytes words.now)) (λ misuse. out.new ≡ out.old) }
 
-    // The tables are refused just where they are faulty, and for their first fault.
-    ensures tables { IfOk (command_in (map string_bytes words.now)) (λ command. IfSome (T.holds tables.old) (AnswersFor command result.code)) }
-    ensures feed_untouched { IsBeforeFeed result.code → feed.new ≡ feed.old }
-    ensures out_untouched { IsBeforeRun result.code → out.new ≡ out.old }
-
-    // A check of sound tables: what was written. The feed is not called.
-    ensures checks { IfOk (command_in (map string_bytes words.now)) (λ command. IfCheck command (λ folder. IfSome (T.holds tables.old) (λ files. IfOk (sound_in files folder) (λ db. Checks result.code db (O.written out.old) (O.written out.new))))) }
+    // The statement of each command, status by status. A check doesn't call the feed.
+    ensures checks { IfOk (command_in (map string_bytes words.now)) (λ command. IfCheck command (λ folder. Checked result.code folder
+        (shelf tables.old tables.new T.holds T.left T.faults T.missed) (sink out.old out.new O.written O.handed O.faults))) }
     ensures check_feed { IfOk (command_in (map string_bytes words.now)) (λ command. IfCheck command (λ folder. feed.new ≡ feed.old)) }
-
-    // A decoding by accepted tables: what was read of the feed, and what was written.
-    ensures decodes { IfOk (command_in (map string_bytes words.now)) (λ command. IfDecode command (λ folder name. IfSome (T.holds tables.old) (λ files. IfOk (built_in files folder) (λ db. IfSome (F.holds feed.old) (λ feeds. Decodes result.code db (feeds name) (record { missed_before = F.missed feed.old; missed_now = F.missed feed.new; faults_before = F.faults feed.old; faults_now = F.faults feed.new; left = F.left feed.new; old = O.written out.old; new = O.written out.new })))))) }
-
-    // A fault is answered just where its count rose; one of the output goes before one of the feed.
-    ensures tables_cause { HasTablesCause result.code (T.faults tables.old) (T.faults tables.new) }
-    ensures feed_cause { HasFeedCause result.code (F.faults feed.old) (F.faults feed.new) }
-    ensures out_cause { HasOutCause result.code (O.faults out.old) (O.faults out.new) }
-
-    // Unless the output failed, all that was written is handed on.
-    ensures handed { result.code ≢ Code.OutFault → O.handed out.old ≡ O.written out.old → O.handed out.new ≡ O.written out.new }
+    ensures decodes { IfOk (command_in (map string_bytes words.now)) (λ command. IfDecode command (λ folder name. Decoded result.code folder name
+        (shelf tables.old tables.new T.holds T.left T.faults T.missed) (shelf feed.old feed.new F.holds F.left F.faults F.missed) (sink out.old out.new O.written O.handed O.faults))) }
 
     ensures desk { desk.new ≡ desk.old }
     ensures replies { replies.new ≡ replies.old }
@@ -82,18 +72,18 @@ pub fn tool<
 
 /// Where the tables are accepted, the feed is held and nothing fails, a call decodes the feed whole, unless memory
 /// runs out.
-pub fn decoding_is_complete()
-    ensures { (c : Code) (db : Database) (octets : List ℕ) (s : Standing) (tables tables_now out out_now : ℕ)
-        → IsDecodeCode c → AnswersTables c (Ok db) → Decodes c db (Some octets) s
-        → HasTablesCause c tables tables_now → HasFeedCause c s.faults_before s.faults_now → HasOutCause c out out_now
-        → IsUnfailed tables tables_now → IsUnfailed s.faults_before s.faults_now → IsUnfailed out out_now
-        → Completes c db octets s.old s.new }
+pub fn decoding_is_complete<T, F, O>()
+    ensures { (c : Code) (folder name octets : List ℕ) (files feeds : Files) (db : Database) (tables : ShelfView T) (feed : ShelfView F) (out : SinkView O)
+        → tables.holds tables.before ≡ Some files → built_in files folder ≡ Ok db → feed.holds feed.before ≡ Some feeds → feeds name ≡ Some octets
+        → Decoded c folder name tables feed out
+        → IsUnfailed (tables.faults tables.before) (tables.faults tables.now) → IsUnfailed (feed.faults feed.before) (feed.faults feed.now) → IsUnfailed (out.faults out.before) (out.faults out.now)
+        → Completes c db octets (out.written out.before) (out.written out.now) }
 {}
 
 /// Where the tables are sound and nothing fails, a check writes their summary whole, unless memory runs out.
-pub fn checking_is_complete()
-    ensures { (c : Code) (db : Database) (old new : Option (List ℕ)) (tables tables_now out out_now : ℕ)
-        → IsCheckCode c → AnswersTables c (Ok db) → Checks c db old new → HasTablesCause c tables tables_now → HasOutCause c out out_now
-        → IsUnfailed tables tables_now → IsUnfailed out out_now
-        → CompletesCheck c db old new }
+pub fn checking_is_complete<T, O>()
+    ensures { (c : Code) (folder : List ℕ) (files : Files) (db : Database) (tables : ShelfView T) (out : SinkView O)
+        → tables.holds tables.before ≡ Some files → sound_in files folder ≡ Ok db → Checked c folder tables out
+        → IsUnfailed (tables.faults tables.before) (tables.faults tables.now) → IsUnfailed (out.faults out.before) (out.faults out.now)
+        → CompletesCheck c db (out.written out.before) (out.written out.now) }
 {}

@@ -1,20 +1,23 @@
-use Rattle.std.proofs.KnownBytes.{Appends-nil}
+use Rattle.std.proofs.Common.{refl}
 use Rattle.mib_model.specs.Database.{database_of}
-use Rattle.mibtm.specs.Sources.{built_in}
-use Rattle.mibtm.proofs.KeptSteps.{kept_decodes}
-use Rattle.mibtm.proofs.ToolSteps.{kept_answers, unopened_decodes}
+use Rattle.mibtm.specs.Objects.{shelf, sink}
+use Rattle.mibtm.proofs.StatementSteps.{kept_decoded, refused_decoded}
 use Rattle.mibtm.proofs.decode.decode.Goals as goal
 
-pub returns-in-Err-clause-decodes : goal.returns-in-Err-clause-decodes
-returns-in-Err-clause-decodes g c =
-    unopened_decodes c.in-Err.code (g.T.Source.holds c.args.tables.now) c.args.folder.now (g.F.Source.holds c.args.feed.now) c.args.name.now _
-    (Appends-nil (g.O.Sink.written c.args.out.now)) c.in-Err.ensures.refused
+pub returns-in-Ok : goal.returns-in-Ok
+returns-in-Ok g c =
+    kept_decoded c.decode_feed.result c.args.folder.now c.args.name.now
+    (shelf c.args.tables.now c.folder_tables.new.tables g.T.Source.holds g.T.Source.left g.T.Source.faults g.T.Source.missed)
+    (shelf c.args.feed.now c.decode_feed.new.feed g.F.Source.holds g.F.Source.left g.F.Source.faults g.F.Source.missed)
+    (sink c.args.out.now c.decode_feed.new.out g.O.Sink.written g.O.Sink.handed g.O.Sink.faults)
+    (database_of c.in-Ok.kept) c.decode_feed.ensures.code c.in-Ok.ensures.ok c.in-Ok.ensures.told
+    c.decode_feed.ensures.decodes c.decode_feed.ensures.feed c.decode_feed.ensures.out c.decode_feed.ensures.handed c.decode_feed.ensures.before_run
 
-pub returns-in-Ok-clause-tables : goal.returns-in-Ok-clause-tables
-returns-in-Ok-clause-tables g c =
-    kept_answers c.decode_feed.result (g.T.Source.holds c.args.tables.now) (λ files. built_in files c.args.folder.now) (database_of c.in-Ok.kept) c.decode_feed.ensures.code c.in-Ok.ensures.told
-
-pub returns-in-Ok-clause-decodes : goal.returns-in-Ok-clause-decodes
-returns-in-Ok-clause-decodes g c =
-    kept_decodes c.decode_feed.result (g.T.Source.holds c.args.tables.now) (λ files. built_in files c.args.folder.now) (database_of c.in-Ok.kept) (g.F.Source.holds c.args.feed.now) c.args.name.now _
-    c.in-Ok.ensures.told c.decode_feed.ensures.decodes
+pub returns-in-Err : goal.returns-in-Err
+returns-in-Err g c =
+    rw (← c.from.ensures) at
+    (refused_decoded c.in-Err.refusal c.args.folder.now c.args.name.now
+    (shelf c.args.tables.now c.folder_tables.new.tables g.T.Source.holds g.T.Source.left g.T.Source.faults g.T.Source.missed)
+    (shelf c.args.feed.now c.args.feed.now g.F.Source.holds g.F.Source.left g.F.Source.faults g.F.Source.missed)
+    (sink c.args.out.now c.args.out.now g.O.Sink.written g.O.Sink.handed g.O.Sink.faults)
+    c.in-Err.ensures.cause c.in-Err.ensures.refused refl refl)

@@ -2,4 +2,4 @@ use Rattle.mibtm.proofs.Completeness.{completes_check}
 use Rattle.mibtm.proofs.tool.checking_is_complete.Goals as goal
 
 pub returns : goal.returns
-returns c = completes_check
+returns g c = completes_check
