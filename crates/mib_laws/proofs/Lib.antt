@@ -13,3 +13,4 @@ mod SoundStructures
 mod LimitFacts
 mod Ends
 pub mod SliceFacts
+pub mod MatchFacts

@@ -4,3 +4,4 @@ pub mod Walks
 pub mod Cuts
 pub mod Desks
 pub mod Places
+pub mod Matches

@@ -8,6 +8,7 @@ mod cut;
 mod desk;
 mod interpreter;
 mod layout;
+mod matching;
 mod register;
 mod walk;
 
@@ -15,5 +16,6 @@ pub use cut::each_feed_is_cut;
 pub use desk::{desk_goes_by_parts, lines_decide};
 pub use interpreter::{one_edition, plain_runs, runs_in_parts};
 pub use layout::slices_suffice;
+pub use matching::unknown_without_a_row;
 pub use register::{editions_only_grow, seat_shows_stamps, stamps_count_up, what_is_stamped_stays};
 pub use walk::{limit_serves, walks_end};

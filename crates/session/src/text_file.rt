@@ -8,7 +8,7 @@ use std::alloc::{AllocError, Global};
 use tm_io::{Shelf, Source};
 
 // The most octets of a text that are read: one more than a table may have.
-const TEXT_MOST: usize = 67_108_865;
+const READ_MOST: usize = 67_108_865;
 
 // The octets that are read at once.
 const CHUNK_SIZE: usize = 65_536;
@@ -34,8 +34,8 @@ fn read_into<S: Source>(
     ensures stop { IfErr result IsReadStop }
     ensures holds { S.holds source.new ≡ S.holds source.old }
 {
-    while text.len() < TEXT_MOST {
-        let size = chunk.len().min(TEXT_MOST - text.len());
+    while text.len() < READ_MOST {
+        let size = chunk.len().min(READ_MOST - text.len());
         let Ok(count) = source.read(&mut chunk[..size]) else {
             return Err(LoadFault::Failed);
         };
@@ -65,7 +65,7 @@ fn read_whole<S: Source>(alloc: Global, source: &mut S) -> Result<Vec<u8>, LoadF
     Ok(text)
 }
 
-/// The text of a file, up to `TEXT_MOST` octets; it is empty where no such file is held.
+/// The text of a file, up to `READ_MOST` octets; it is empty where no such file is held.
 pub fn read_file<T: Shelf>(alloc: Global, shelf: &mut T, name: &str) -> Result<Vec<u8>, LoadFault>
     ensures told { IfOk result (λ text. IfSome (T.holds shelf.old) (λ files. text.items ≡ part_read (octets_of files name.now))) }
     ensures ok { OnOk result (T.faults shelf.new ≡ T.faults shelf.old) }
