@@ -10,7 +10,7 @@ ghost use Rattle.mib_tables.specs.Puts.{put_made};
 ghost use Rattle.mib_tables.specs.Shelves.{values_in};
 
 use crate::kinds::{kind_of, kind_of_row, place_of};
-use crate::shared::{NoRow, Put, ROWS_MOST, put_row, share, share_again, take_row};
+use crate::shared::{HELD_MOST, NoRow, Put, put_row, share, share_again, take_row};
 use crate::table_row::share_kind;
 use mib_model::{KINDS, Key, Kind, Row, Tables};
 use std::alloc::{AllocError, Global};
@@ -39,7 +39,7 @@ impl Model for Book {
 impl Book {
     /// The rows of tables, each of which has at most 1,000,000,000.
     pub fn new(alloc: Global, tables: Tables) -> Result<Book, AllocError>
-        requires { (kind : Kind) → length (rows_of (database_of tables) kind) ≤ ROWS_MOST }
+        requires { (kind : Kind) → length (rows_of (database_of tables) kind) ≤ HELD_MOST }
         ensures { IfOk result (λ book. book ≡ database_of tables) }
     {
         let mut lists = Vec::with_capacity(alloc, KINDS.len())?;
@@ -66,7 +66,7 @@ impl Book {
         ensures rows { OnOk result (self.new ≡ with_rows self.old kind rows.now) }
         ensures kept { OnErr result (self.new ≡ self.old) }
     {
-        if rows.len() > ROWS_MOST {
+        if rows.len() > HELD_MOST {
             return Err(AllocError);
         }
         let list = share(self.alloc, rows)?;
@@ -113,7 +113,7 @@ impl Book {
     pub fn rows(&self, kind: Kind) -> &[Arc<Row>]
         ensures rows { values_in result.now ≡ rows_of self.now kind }
         ensures kind { AreOf kind (values_in result.now) }
-        ensures few { length result.now ≤ ROWS_MOST }
+        ensures few { length result.now ≤ HELD_MOST }
     {
         self.lists[place_of(kind)].as_slice()
     }

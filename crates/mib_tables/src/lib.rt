@@ -14,4 +14,4 @@ mod tests;
 
 pub use book::Book;
 pub use laws::rows_read_are_of_their_table;
-pub use shared::{NoRow, Put, ROWS_MOST};
+pub use shared::{HELD_MOST, NoRow, Put};

@@ -13,8 +13,8 @@ use mib_model::{Key, Row};
 use std::alloc::{AllocError, Global};
 use std::sync::Arc;
 
-/// The greatest number of rows of a table.
-pub const ROWS_MOST: usize = 1_000_000_000;
+/// The greatest number of rows that a table in memory holds; a text has fewer.
+pub const HELD_MOST: usize = 1_000_000_000;
 
 /// What `put` did.
 #[derive(Clone, Copy, Debug, PartialEq, Eq)]
@@ -82,12 +82,12 @@ pub fn share_again<T: Drop>(alloc: Global, rows: &[Arc<T>]) -> Result<Vec<Arc<T>
 
 /// Puts a row in the place of the first with its key, or behind all others. A full list takes no more.
 pub fn put_row(alloc: Global, rows: &mut Vec<Arc<Row>>, row: Row) -> Result<Put, AllocError>
-    requires { length rows.old.items ≤ ROWS_MOST }
+    requires { length rows.old.items ≤ HELD_MOST }
     ensures rows { OnOk result (values_in rows.new.items ≡ put_in row (values_in rows.old.items)) }
     ensures made { IfOk result (λ made. made ≡ put_made (is_held (key_in row) (values_in rows.old.items))) }
     ensures kept { OnErr result (values_in rows.new.items ≡ values_in rows.old.items) }
     ensures own { AreOf (kind_in row) (values_in rows.old.items) → AreOf (kind_in row) (values_in rows.new.items) }
-    ensures few { length rows.new.items ≤ ROWS_MOST }
+    ensures few { length rows.new.items ≤ HELD_MOST }
 {
     let key = row.key();
     let shared = Arc::new(alloc, row)?;
@@ -97,7 +97,7 @@ pub fn put_row(alloc: Global, rows: &mut Vec<Arc<Row>>, row: Row) -> Result<Put,
             Ok(Put::Replaced)
         }
         None => {
-            if rows.len() == ROWS_MOST {
+            if rows.len() == HELD_MOST {
                 return Err(AllocError);
             }
             rows.push(shared)?;

@@ -160,7 +160,7 @@ fn a_copy_keeps_its_rows_when_the_book_changes(rt: HostRuntime) -> Result<(), Fa
 }
 
 fn tables(rt: &HostRuntime) -> Result<Tables, Fail>
-    ensures { IfOk result (λ tables. (kind : Kind) → length (rows_of (database_of tables) kind) ≤ ROWS_MOST) }
+    ensures { IfOk result (λ tables. (kind : Kind) → length (rows_of (database_of tables) kind) ≤ HELD_MOST) }
 {
     let alloc = rt.alloc();
     Ok(Tables {
