@@ -16,7 +16,7 @@ use Rattle.mib_model.specs.declared.register.Scheduled.{Scheduled}
 use Rattle.mib_model.specs.Register.{opening, answer_to, after, with_tables, with_activation, edition_for, has_edition, count_of_editions, is_disorder, last_pending, pending, most_pending, tables_of}
 use Rattle.mib_model.specs.RegisterHistories.{RegisterHistory}
 use Rattle.mib_laws.proofs.Choices.{choice}
-use Rattle.edition_register.specs.Bounded.{last_alone, bounded, bounded_after, edition_of, IsKept, BoundedServes, FewActivations, KeepsOneInUse}
+use Rattle.edition_register.specs.Bounded.{last_alone, bounded, bounded_after, begun, edition_of, kept_after, IsKept, BoundedServes, FewActivations, KeepsOneInUse, MovesKept}
 
 -- LISTS
 module _ {X : Type 0} where
@@ -474,13 +474,93 @@ rises-pending n low (q ∷ qs) rises all = (leb-true n q.from all.0, rises.1)
 bounded-edition : (s : Register) (kept : IsKept s) → Rises s.next (pending s) → edition_for s s.next ≡ edition_of s.next kept.used (pending s)
 bounded-edition s kept rises = ap (edition_in s.next) kept.schedule ∙ edition-first s.next kept.used (pending s) kept.before rises
 
-pub keeps-one : KeepsOneInUse
-keeps-one first history =
+-- at the end of a history the pending activations rise from the next packet on
+waiting-rises : (first : Database) (history : RegisterHistory) → let s = state_after bounded_after (opening first) history in Rises s.next (pending s)
+waiting-rises first history =
     let s : Register = state_after after (opening first) history in
     let rises : In (opening first) = (omega arith, tt) in
     let here : In s = in-after (opening first) history rises in
-    let some : Past s = past-after (opening first) history (omega arith) in
     let waiting : Rises s.next (pend s.next s.schedule) = rises-pending s.next 0 (pend s.next s.schedule) (rises-filter (λ q. nat_le s.next q.from) 0 s.schedule here) (filter-tests (λ q. nat_le s.next q.from) s.schedule) in
-    let kept : IsKept (bounded s) = bounded-kept s some in
-    subst (λ (t : Register). (k : IsKept t) × (edition_for t t.next ≡ edition_of t.next k.used (pending t))) (sym (same-state (opening first) history rises))
-    (kept, bounded-edition (bounded s) kept (subst (Rises s.next) (sym (pend-trim s.next s.schedule)) waiting))
+    subst (λ (t : Register). Rises t.next (pending t)) (sym (same-state (opening first) history rises)) (subst (Rises s.next) (sym (pend-trim s.next s.schedule)) waiting)
+
+pub keeps-one : KeepsOneInUse
+keeps-one first history =
+    let rises : In (opening first) = (omega arith, tt) in
+    let kept = subst IsKept (sym (same-state (opening first) history rises)) (bounded-kept (state_after after (opening first) history) (past-after (opening first) history (omega arith))) in
+    (kept, bounded-edition (state_after bounded_after (opening first) history) kept (waiting-rises first history))
+
+-- MOVES
+rises-past : (n : ℕ) (pairs : List Scheduled) → Rises n pairs → past n pairs ≡ []
+rises-past n pairs rises = filter-none (λ q. not (nat_le n q.from)) pairs (all-map (λ (q : Scheduled). nat_le n q.from ≡ true) (λ (q : Scheduled). not (nat_le n q.from) ≡ false) (λ q h. ap not h) pairs (rises-above n n pairs (omega arith) rises))
+
+rises-pend : (n : ℕ) (pairs : List Scheduled) → Rises n pairs → pend n pairs ≡ pairs
+rises-pend n pairs rises = filter-all (λ q. nat_le n q.from) pairs (rises-above n n pairs (omega arith) rises)
+
+-- what is past, and then activations that rise from the packet on
+trim-kept : (n : ℕ) (xs pairs : List Scheduled) → Below n xs → Rises n pairs → trim n (xs ++ pairs) ≡ last_alone xs ++ pairs
+trim-kept n xs pairs below rises =
+    trim-parts n n xs pairs (omega arith) below
+    ∙ ap (λ (l : List Scheduled). last_alone (xs ++ l) ++ pend n pairs) (rises-past n pairs rises)
+    ∙ ap (λ (l : List Scheduled). last_alone l ++ pend n pairs) (append-nil xs)
+    ∙ ap (λ (l : List Scheduled). last_alone xs ++ l) (rises-pend n pairs rises)
+
+stamp-moves : (n : ℕ) (used : Scheduled) (pairs : List Scheduled) → used.from < n → Rises n pairs → trim (n + 1) (used ∷ pairs) ≡ (begun n used pairs).0 ∷ (begun n used pairs).1
+stamp-moves n used [] before rises = trim-kept (n + 1) (used ∷ []) [] ((omega arith), tt) tt
+stamp-moves n used (q ∷ qs) before rises = by (nat_eq q.from n) refl
+  where
+    by : (b : Bool) → nat_eq q.from n ≡ b → trim (n + 1) (used ∷ q ∷ qs) ≡ (cond {A = Scheduled × List Scheduled} b (q, qs) (used, q ∷ qs)).0 ∷ (cond {A = Scheduled × List Scheduled} b (q, qs) (used, q ∷ qs)).1
+    by true is = let same = eqb-true q.from n is in trim-kept (n + 1) (used ∷ q ∷ []) qs ((omega arith), ((omega arith), tt)) (rises-weaken (n + 1) (suc q.from) qs (omega arith) rises.1)
+    by false is = let other = eqb-false q.from n is in let above = rises.0 in trim-kept (n + 1) (used ∷ []) (q ∷ qs) ((omega arith), tt) ((omega arith), rises.1)
+
+kept-stays : (s : Register) (kept : IsKept s) → Rises s.next (pending s) → trim s.next s.schedule ≡ kept.used ∷ pending s
+kept-stays s kept rises = ap (trim s.next) kept.schedule ∙ trim-kept s.next (kept.used ∷ []) (pending s) (kept.before, tt) rises
+
+tables-moves : (s : Register) (kept : IsKept s) (tables : Database) (a : Answer) → Rises s.next (pending s) → (bounded (with_tables s tables a)).schedule ≡ kept.used ∷ pending s
+tables-moves s kept tables (Added e) rises = kept-stays s kept rises
+tables-moves s kept tables other rises = kept-stays s kept rises
+
+past-kept : (s : Register) (kept : IsKept s) → Rises s.next (pending s) → past s.next s.schedule ≡ kept.used ∷ []
+past-kept s kept rises =
+    ap (past s.next) kept.schedule
+    ∙ filter-append (λ q. not (nat_le s.next q.from)) (kept.used ∷ []) (pending s)
+    ∙ ap (λ (l : List Scheduled). l ++ past s.next (pending s)) (below-past s.next s.next (kept.used ∷ []) (omega arith) (kept.before, tt))
+    ∙ ap (λ (l : List Scheduled). kept.used ∷ l) (rises-past s.next (pending s) rises)
+
+use-moves : (s : Register) (kept : IsKept s) (e : ℕ) → Rises s.next (pending s)
+    → (bounded_after s (Use e)).schedule ≡ (kept_after s.next kept.used (pending s) (Use e) (answer_to s (Use e))).0 ∷ (kept_after s.next kept.used (pending s) (Use e) (answer_to s (Use e))).1
+unfolding after answer_to
+use-moves s kept e rises =
+    let n = s.next in let x : Scheduled = record { from = n; edition = e } in
+    choice (λ a. (bounded (with_activation s (past n s.schedule) e a)).schedule ≡ (kept_after n kept.used (pending s) (Use e) a).0 ∷ (kept_after n kept.used (pending s) (Use e) a).1)
+    (has_edition s e) (Used n) (NoEdition (count_of_editions s))
+    (λ _. ap (λ (l : List Scheduled). trim n (l ++ x ∷ [])) (past-kept s kept rises) ∙ trim-kept n (kept.used ∷ []) (x ∷ []) (kept.before, tt) ((omega arith), tt))
+    (λ _. kept-stays s kept rises)
+
+use_from-moves : (s : Register) (kept : IsKept s) (e k : ℕ) → Rises s.next (pending s)
+    → (bounded_after s (UseFrom e k)).schedule ≡ (kept_after s.next kept.used (pending s) (UseFrom e k) (answer_to s (UseFrom e k))).0 ∷ (kept_after s.next kept.used (pending s) (UseFrom e k) (answer_to s (UseFrom e k))).1
+unfolding after answer_to
+use_from-moves s kept e k rises =
+    let n = s.next in let x : Scheduled = record { from = k; edition = e } in
+    let P : Answer → Type 0 = λ a. (bounded (with_activation s s.schedule e a)).schedule ≡ (kept_after n kept.used (pending s) (UseFrom e k) a).0 ∷ (kept_after n kept.used (pending s) (UseFrom e k) a).1 in
+    choice P (not (has_edition s e)) (NoEdition (count_of_editions s)) _ (λ h. kept-stays s kept rises) (λ h.
+    choice P (nat_lt k s.next) (Late s.next) _ (λ i. kept-stays s kept rises) (λ i.
+    choice P (is_disorder k (last_pending s)) (Disorder (unwrap_or (last_pending s) 0)) _ (λ j. kept-stays s kept rises) (λ j.
+    choice P (nat_le most_pending (length (pending s))) FullPending (Used k) (λ l. kept-stays s kept rises)
+    (λ l.
+    let late = ltb-false k s.next i in
+    ap (λ (y : List Scheduled). trim n (y ++ x ∷ [])) kept.schedule
+    ∙ trim-kept n (kept.used ∷ []) (pending s ++ x ∷ []) (kept.before, tt) (rises-one n (pending s) x rises (omega arith) (below-all k n (pending s) rises j))))))
+
+moves : (s : Register) (kept : IsKept s) (e : Entry) → Rises s.next (pending s)
+    → (bounded_after s e).schedule ≡ (kept_after s.next kept.used (pending s) e (answer_to s e)).0 ∷ (kept_after s.next kept.used (pending s) e (answer_to s e)).1
+unfolding after
+moves s kept Stamp rises = ap (trim (s.next + 1)) kept.schedule ∙ stamp-moves s.next kept.used (pending s) kept.before rises
+moves s kept (Add tables plans) rises = tables-moves s kept tables (answer_to s (Add tables plans)) rises
+moves s kept (AddOn base tables plans) rises = tables-moves s kept tables (answer_to s (AddOn base tables plans)) rises
+moves s kept (Use e) rises = use-moves s kept e rises
+moves s kept (UseFrom e k) rises = use_from-moves s kept e k rises
+moves s kept Newest rises = kept-stays s kept rises
+moves s kept (Look e) rises = kept-stays s kept rises
+
+pub moves-kept : MovesKept
+moves-kept first history e kept = moves (state_after bounded_after (opening first) history) kept e (waiting-rises first history)

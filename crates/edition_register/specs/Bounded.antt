@@ -2,7 +2,10 @@
 use Rattle.std.specs.Prelude.{◌≡◌, ℕ, ◌<◌, ◌==◌, if◌then◌else◌, ◌≤◌, ◌+◌, List, [], ◌∷◌, ◌++◌, length, filter, not, ◌↔◌}
 use Rattle.histories.specs.History.{IsLegal, state_after}
 use Rattle.mib_model.specs.declared.database.Database.{Database}
+use Rattle.mib_model.specs.declared.register.Answer.{Answer}
+use Rattle.mib_model.specs.declared.register.Answer.TheVariants.{Used}
 use Rattle.mib_model.specs.declared.register.Entry.{Entry}
+use Rattle.mib_model.specs.declared.register.Entry.TheVariants.{Stamp, Use, UseFrom}
 use Rattle.mib_model.specs.declared.register.Register.{Register}
 use Rattle.mib_model.specs.declared.register.Scheduled.{Scheduled}
 use Rattle.mib_model.specs.Register.{opening, answer_to, after, edition_for, is_pending, most_pending, pending}
@@ -50,3 +53,22 @@ KeepsOneInUse =
     (first : Database) (history : RegisterHistory) →
     let s = state_after bounded_after (opening first) history in
     (kept : IsKept s) × (edition_for s s.next ≡ edition_of s.next kept.used (pending s))
+
+-- the first pending activation comes in use where it begins with the packet
+abbrev pub begun : ℕ → Scheduled → List Scheduled → Scheduled × List Scheduled
+begun packet used [] = (used, [])
+begun packet used (first ∷ more) = if first.from == packet then (first, more) else (used, first ∷ more)
+
+-- the activation in use and those that are pending after an entry and its answer
+abbrev pub kept_after : ℕ → Scheduled → List Scheduled → Entry → Answer → Scheduled × List Scheduled
+kept_after next used waiting Stamp answer = begun next used waiting
+kept_after next used waiting (Use e) (Used k) = (used, record { from = k; edition = e } ∷ [])
+kept_after next used waiting (UseFrom e from) (Used k) = (used, waiting ++ record { from = k; edition = e } ∷ [])
+kept_after next used waiting entry answer = (used, waiting)
+
+-- an entry makes of the activations in a bounded state what `kept_after` tells
+abbrev pub MovesKept : Type 0
+MovesKept =
+    (first : Database) (history : RegisterHistory) (e : Entry) →
+    let s = state_after bounded_after (opening first) history in
+    (kept : IsKept s) → let moved = kept_after s.next kept.used (pending s) e (answer_to s e) in (bounded_after s e).schedule ≡ moved.0 ∷ moved.1

@@ -1,4 +1,4 @@
-ghost use Rattle.edition_register.specs.Bounded.{BoundedServes, FewActivations, KeepsOneInUse};
+ghost use Rattle.edition_register.specs.Bounded.{BoundedServes, FewActivations, KeepsOneInUse, MovesKept};
 ghost use Rattle.edition_register.specs.Laws.{DeskShowsEditions, IntakeCounts, StampGoesOn, TablesStay};
 
 /// The number of the next packet is one more than the intake has moves.
@@ -34,4 +34,9 @@ pub fn few_activations()
 /// Such a machine has one activation in use and behind it those that are pending, which tell the next packet's edition.
 pub fn keeps_one_in_use()
     ensures { KeepsOneInUse }
+{}
+
+/// What each entry does to the activation in use and to those that are pending.
+pub fn moves_kept()
+    ensures { MovesKept }
 {}

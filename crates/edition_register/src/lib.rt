@@ -9,5 +9,5 @@ mod laws;
 
 pub use laws::{
     bounded_serves, desk_shows_editions, few_activations, intake_counts, keeps_one_in_use,
-    stamp_goes_on, tables_stay,
+    moves_kept, stamp_goes_on, tables_stay,
 };
