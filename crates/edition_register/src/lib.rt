@@ -2,7 +2,8 @@
 //!
 //! Each law is the contract of a function with an empty body, and its proof a lemma that the crates above may cite. They
 //! speak of the definitions' own register, without a thread: what the intake's moves tell of the next packet and its
-//! edition, and what the desk's moves tell of the editions. The crate rests on `mib_model` and `mib_laws`.
+//! edition, what the desk's moves tell of the editions, and that a machine of bounded size, which forgets past activations,
+//! has the same histories. The crate rests on `mib_model` and `mib_laws`.
 #![tactic(auto)]
 
 mod laws;
