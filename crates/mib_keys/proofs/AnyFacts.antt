@@ -1,5 +1,5 @@
 -- A count that isn't 0, and the rows of a structure by its number.
-use Rattle.std.proofs.Common.{◌≡◌, ℕ, suc, ℤ, pos, negsuc, nat_abs, Bool, true, false, not, cond, ◌||◌, ◌&&◌, ⊥, List, [], ◌∷◌, length, filter, refl, subst, sym, ap, ◌∙◌, nat_eq, int_lt, arith}
+use Rattle.std.proofs.Common.{◌≡◌, ℕ, suc, ℤ, pos, negsuc, nat_abs, Bool, true, false, not, cond, ◌||◌, ◌&&◌, List, [], ◌∷◌, length, filter, refl, subst, sym, ap, ◌∙◌, nat_eq, int_lt, arith}
 use Rattle.std.proofs.lemmas.Bool.{ne_eqb, eqb-true, eq-eqb}
 use Rattle.std.specs.Bool.{one_answer}
 use Rattle.std.specs.Cmp.{signed_Decides}

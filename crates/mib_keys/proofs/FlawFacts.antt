@@ -1,6 +1,7 @@
 -- The first flaw of a table is the one that is looked for row by row, and that of all tables is the one of the first.
-use Rattle.std.proofs.Common.{◌≡◌, ℕ, ◌+◌, ◌-◌, min, Bool, true, false, cond, ◌&&◌, ◌||◌, List, [], ◌∷◌, ◌++◌, map, take, filter_map, Option, Some, None, option_map, refl, sym, ap, ◌∙◌, nat_eq, arith}
+use Rattle.std.proofs.Common.{◌≡◌, ℕ, ◌+◌, ◌-◌, min, Bool, true, false, cond, ◌&&◌, ◌||◌, List, [], ◌∷◌, ◌++◌, map, take, drop, get_or, length, ◌<◌, filter_map, Option, Some, None, option_map, Result, Ok, Err, IfOk, refl, sym, ap, ◌∙◌, nat_eq, arith}
 use Rattle.std.proofs.Math.Path.{fun_ext}
+use Rattle.std.proofs.lemmas.List.{drop_more}
 use Rattle.std.specs.Cmp.{nat_eq_equiv}
 use Rattle.std.specs.List.{position, flat_map, cons_option, enumerate_from}
 use Rattle.std.specs.Option.{option_or}
@@ -58,7 +59,7 @@ twice-fault t n None = refl
 twice-fault t n (Some i) = refl
 
 -- the first of two kinds of items
-position-or : {X : Type 0} (p q : X → Bool) (xs : List X) → position (λ x. p x || q x) xs ≡ least (position p xs) (position q xs)
+pub position-or : {X : Type 0} (p q : X → Bool) (xs : List X) → position (λ x. p x || q x) xs ≡ least (position p xs) (position q xs)
 position-or p q [] = refl
 position-or p q (x ∷ xs) =
     position-cons (λ y. p y || q y) x xs ∙ (ap (λ o. cond (p x || q x) (Some 0) (option_map (λ i. i + 1) o)) (position-or p q xs) ∙
@@ -98,6 +99,11 @@ alike-agree {R} t p q rest all same = ap (λ (alike : R → R → Bool). first_o
 pub keys-agree : {R : Type 0} (t : Kind) (as_row : R → Row) (rest : List (Rule R)) (all : List R) → first_of (table_flaws t (twice_by (has_its_key as_row) ∷ rest) all) ≡ first_of (table_flaws t (twice as_row ∷ rest) all)
 keys-agree {R} t as_row rest all = alike-agree t (has_its_key as_row) _ rest all (λ (x y : R). sym (same-by_eq (key_in (as_row x)) (key_in (as_row y))))
 
+-- an answer that is as another
+pub ok-agree : {E : Type 0} (r : Result (Option MibFault) E) (a b : Option MibFault) → a ≡ b → IfOk r (λ flaw. flaw ≡ a) → IfOk r (λ flaw. flaw ≡ b)
+ok-agree (Ok x) a b same is = is ∙ same
+ok-agree (Err e) a b same is = tt
+
 -- packets of one number or of one kind
 five : (a b c d e : Bool) → (a && (b && (c && (d && e)))) ≡ (a && b && c && d && e)
 five true true true d e = refl
@@ -118,3 +124,13 @@ over f (k ∷ ks) = first-append (f k) (flat_map f ks) ∙ ap (option_or (first_
 pub over-tables : (db : Database) → first_flaw db ≡ first_over (λ k. first_of (flaws_of db k)) kinds
 unfolding flaws
 over-tables db = over (flaws_of db) kinds
+
+module _ (f : Kind → Option MibFault) (ks : List Kind) (i : ℕ) (d : Kind) (within : i < length ks) (first : Option MibFault) (left : first ≡ first_over f (drop i ks)) where
+  from-here : first ≡ option_or (f (get_or ks i d)) (first_over f (drop (i + 1) ks))
+  from-here = left ∙ ap (first_over f) (drop_more ks i d within)
+
+  pub over-found : (flaw : MibFault) → Some flaw ≡ f (get_or ks i d) → Some flaw ≡ first
+  over-found flaw is = sym (from-here ∙ ap (λ o. option_or o (first_over f (drop (i + 1) ks))) (sym is))
+
+  pub over-passed : None ≡ f (get_or ks i d) → first ≡ first_over f (drop (i + 1) ks)
+  over-passed is = from-here ∙ ap (λ o. option_or o (first_over f (drop (i + 1) ks))) (sym is)

@@ -1,5 +1,5 @@
 mod AnyFacts
-mod PlaceFacts
+pub mod PlaceFacts
 mod LookupFacts
 mod KeyFacts
 mod PointFacts

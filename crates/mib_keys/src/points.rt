@@ -2,13 +2,14 @@
 // [SCOS-2000 Database Import ICD, cap and txp.]
 ghost use Rattle.std.specs.Prelude.{◌≡◌, ◌≤◌, ℕ, List, ◌-◌, ◌&&◌, ◌||◌, not, drop, take, is_none, length, position, Option, Some, None, IfOk};
 ghost use Rattle.std.specs.HashMap.{get};
+ghost use Rattle.std.specs.List.{find};
 ghost use Rattle.std.specs.Str.{bytes_eq};
 ghost use Rattle.std.specs.Option.{option_copied};
 ghost use Rattle.mib_model.specs.RowFlaws.{txp_rules, cap_rules, is_bad_range, is_bad_point};
 ghost use Rattle.mib_model.specs.WholeNumbers.{decimal_whole, whole_number};
 ghost use Rattle.mib_keys.specs.Firsts.{flaw_by};
 ghost use Rattle.mib_keys.specs.Indexes.{first_place};
-ghost use Rattle.mib_keys.specs.Points.{point_in, point_at, point_eq, repeats, is_repeated_point};
+ghost use Rattle.mib_keys.specs.Points.{point_in, point_of, point_at, point_eq, repeats, is_repeated_point};
 ghost use Rattle.mib_keys.specs.Indexes.{cut};
 
 use crate::flaw::At;
@@ -63,12 +64,24 @@ fn point_at(numbr: Name, x: Option<i128>) -> Option<PointKey>
     }
 }
 
-// The curve and the number of a row, where it has both.
-fn point_in(curves: &HashMap<Name, u32>, cafs: &[CafRow], row: &CapRow) -> Option<PointKey>
+// The first curve of a name.
+#[tactic(auto, using(crate::proofs::LookupFacts::lookups))]
+fn curve_of<'a>(
+    curves: &HashMap<Name, u32>,
+    cafs: &'a [CafRow],
+    numbr: Name,
+) -> Option<&'a CafRow>
     requires { (q : List ℕ) → get bytes_eq curves.now q ≡ position (λ caf. bytes_eq caf.numbr q) cafs.now }
-    ensures { result ≡ point_in cafs.now row.now }
+    ensures { option_copied result ≡ find (λ caf. bytes_eq caf.numbr numbr) cafs.now }
 {
-    match row_at(cafs, curves.get(&row.numbr).copied()) {
+    row_at(cafs, curves.get(&numbr).copied())
+}
+
+// The curve and the number of a row, where it has both.
+fn point_of(curve: Option<&CafRow>, row: &CapRow) -> Option<PointKey>
+    ensures { result ≡ point_of (option_copied curve.entry) row.now }
+{
+    match curve {
         Some(curve) => point_at(row.numbr, whole_number(curve.radix, row.xvals.bytes())),
         None => None,
     }
@@ -87,7 +100,7 @@ pub fn point_places(
     let caps = book.cap();
     let mut points = HashMap::with_capacity(alloc, caps.len())?;
     for (place, row) in caps.iter().enumerate() {
-        note_key(&mut points, point_in(curves, cafs, row), place as u32)?;
+        note_key(&mut points, point_of(curve_of(curves, cafs, row.numbr), row), place as u32)?;
     }
     Ok(points)
 }

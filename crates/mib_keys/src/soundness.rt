@@ -7,7 +7,7 @@ ghost use Rattle.mib_model.specs.Points.{first_of};
 ghost use Rattle.mib_model.specs.Soundness.{first_flaw, flaws_of};
 ghost use Rattle.mib_keys.specs.Alike.{AreKeyPlaces, key_eq};
 ghost use Rattle.mib_keys.specs.Answers.{Gives};
-ghost use Rattle.mib_keys.specs.Firsts.{flaw_in};
+ghost use Rattle.mib_keys.specs.Firsts.{flaw_in, first_in};
 
 use crate::fault::SoundFault;
 use crate::index::key_places;
@@ -41,6 +41,24 @@ fn row_flaw<R: Rules>(
     }
 }
 
+// The first flaw of rows, row by row.
+fn rows_flaw<R: Rules>(
+    lookups: &Lookups<'_>,
+    places: &HashMap<Key, u32>,
+    rows: &[R],
+) -> Option<MibFault>
+    requires noted { R.noted (get key_eq places.now) lookups.now }
+    requires few { length rows.now ≤ 1000000000 }
+    ensures { result ≡ first_in (flaw_in R.kind R.alike (R.rest lookups.now) (R.listed lookups.now)) 1 rows.now }
+{
+    for (place, row) in rows.iter().enumerate() {
+        if let Some(flaw) = row_flaw(lookups, places, place as u32 + 1, row) {
+            return Some(flaw);
+        }
+    }
+    None
+}
+
 // The first flaw of the rows of a table.
 fn table_flaw<R: Rules>(
     lookups: &Lookups<'_>,
@@ -52,12 +70,7 @@ fn table_flaw<R: Rules>(
     requires few { length rows.now ≤ 1000000000 }
     ensures { result ≡ first_of (table_flaws R.kind (twice_by R.alike ∷ R.rest lookups.now) (R.listed lookups.now)) }
 {
-    for (place, row) in rows.iter().enumerate() {
-        if let Some(flaw) = row_flaw(lookups, places, place as u32 + 1, row) {
-            return Some(flaw);
-        }
-    }
-    None
+    rows_flaw(lookups, places, rows)
 }
 
 // The first flaw of a table that is found by its keys.
@@ -104,17 +117,24 @@ fn kind_flaw(
     }
 }
 
+// The first flaw of all tables.
+fn tables_flaw(alloc: Global, lookups: &Lookups<'_>) -> Result<Option<MibFault>, AllocError>
+    ensures { IfOk result (λ flaw. flaw ≡ first_flaw lookups.now) }
+{
+    for kind in KINDS {
+        if let Some(flaw) = kind_flaw(alloc, lookups, kind)? {
+            return Ok(Some(flaw));
+        }
+    }
+    Ok(None)
+}
+
 // The first flaw of a book, with all that is made for it.
 fn first_flaw(alloc: Global, book: &Book) -> Result<Option<MibFault>, AllocError>
     ensures { IfOk result (λ flaw. flaw ≡ first_flaw book.now) }
 {
     let lookups = Lookups::new(alloc, book)?;
-    for kind in KINDS {
-        if let Some(flaw) = kind_flaw(alloc, &lookups, kind)? {
-            return Ok(Some(flaw));
-        }
-    }
-    Ok(None)
+    tables_flaw(alloc, &lookups)
 }
 
 /// Whether a book is sound: `Ok` exactly where no flaw stands, and else the first flaw, by table, row and code, unless

@@ -6,7 +6,7 @@ ghost use Rattle.mib_model.specs.RowTexts.{kind_in};
 ghost use Rattle.mib_tables.specs.Kinds.{kind_of_key};
 ghost use Rattle.mib_tables.specs.Puts.{put_made};
 
-use crate::table::{NoRow, Put, ROWS_MOST, Table};
+use crate::table::{HELD_MOST, NoRow, Put, Table};
 use mib_model::{
     CafRow, CapRow, CurRow, Key, Kind, LgfRow, McfRow, OcfRow, OcpRow, PcfRow, PicRow, PidRow,
     PlfRow, Row, Tables, TpcfRow, TxfRow, TxpRow, VpdRow,
@@ -222,7 +222,7 @@ impl Book {
     /// The parameters.
     pub fn pcf(&self) -> &[PcfRow]
         ensures rows { result.now ≡ self.now.pcf }
-        ensures few { length result.now ≤ ROWS_MOST }
+        ensures few { length result.now ≤ HELD_MOST }
     {
         self.pcf.rows()
     }
@@ -230,7 +230,7 @@ impl Book {
     /// The packets.
     pub fn pid(&self) -> &[PidRow]
         ensures rows { result.now ≡ self.now.pid }
-        ensures few { length result.now ≤ ROWS_MOST }
+        ensures few { length result.now ≤ HELD_MOST }
     {
         self.pid.rows()
     }
@@ -238,7 +238,7 @@ impl Book {
     /// The criteria by which packets are told apart.
     pub fn pic(&self) -> &[PicRow]
         ensures rows { result.now ≡ self.now.pic }
-        ensures few { length result.now ≤ ROWS_MOST }
+        ensures few { length result.now ≤ HELD_MOST }
     {
         self.pic.rows()
     }
@@ -246,7 +246,7 @@ impl Book {
     /// The names of packets.
     pub fn tpcf(&self) -> &[TpcfRow]
         ensures rows { result.now ≡ self.now.tpcf }
-        ensures few { length result.now ≤ ROWS_MOST }
+        ensures few { length result.now ≤ HELD_MOST }
     {
         self.tpcf.rows()
     }
@@ -254,7 +254,7 @@ impl Book {
     /// The places of parameters in packets of fixed layout.
     pub fn plf(&self) -> &[PlfRow]
         ensures rows { result.now ≡ self.now.plf }
-        ensures few { length result.now ≤ ROWS_MOST }
+        ensures few { length result.now ≤ HELD_MOST }
     {
         self.plf.rows()
     }
@@ -262,7 +262,7 @@ impl Book {
     /// The rows of structures.
     pub fn vpd(&self) -> &[VpdRow]
         ensures rows { result.now ≡ self.now.vpd }
-        ensures few { length result.now ≤ ROWS_MOST }
+        ensures few { length result.now ≤ HELD_MOST }
     {
         self.vpd.rows()
     }
@@ -270,7 +270,7 @@ impl Book {
     /// The selections of curves.
     pub fn cur(&self) -> &[CurRow]
         ensures rows { result.now ≡ self.now.cur }
-        ensures few { length result.now ≤ ROWS_MOST }
+        ensures few { length result.now ≤ HELD_MOST }
     {
         self.cur.rows()
     }
@@ -278,7 +278,7 @@ impl Book {
     /// The curves by points.
     pub fn caf(&self) -> &[CafRow]
         ensures rows { result.now ≡ self.now.caf }
-        ensures few { length result.now ≤ ROWS_MOST }
+        ensures few { length result.now ≤ HELD_MOST }
     {
         self.caf.rows()
     }
@@ -286,7 +286,7 @@ impl Book {
     /// The points of curves.
     pub fn cap(&self) -> &[CapRow]
         ensures rows { result.now ≡ self.now.cap }
-        ensures few { length result.now ≤ ROWS_MOST }
+        ensures few { length result.now ≤ HELD_MOST }
     {
         self.cap.rows()
     }
@@ -294,7 +294,7 @@ impl Book {
     /// The curves by texts.
     pub fn txf(&self) -> &[TxfRow]
         ensures rows { result.now ≡ self.now.txf }
-        ensures few { length result.now ≤ ROWS_MOST }
+        ensures few { length result.now ≤ HELD_MOST }
     {
         self.txf.rows()
     }
@@ -302,7 +302,7 @@ impl Book {
     /// The texts of curves.
     pub fn txp(&self) -> &[TxpRow]
         ensures rows { result.now ≡ self.now.txp }
-        ensures few { length result.now ≤ ROWS_MOST }
+        ensures few { length result.now ≤ HELD_MOST }
     {
         self.txp.rows()
     }
@@ -310,7 +310,7 @@ impl Book {
     /// The polynomials.
     pub fn mcf(&self) -> &[McfRow]
         ensures rows { result.now ≡ self.now.mcf }
-        ensures few { length result.now ≤ ROWS_MOST }
+        ensures few { length result.now ≤ HELD_MOST }
     {
         self.mcf.rows()
     }
@@ -318,7 +318,7 @@ impl Book {
     /// The logarithmic curves.
     pub fn lgf(&self) -> &[LgfRow]
         ensures rows { result.now ≡ self.now.lgf }
-        ensures few { length result.now ≤ ROWS_MOST }
+        ensures few { length result.now ≤ HELD_MOST }
     {
         self.lgf.rows()
     }
@@ -326,7 +326,7 @@ impl Book {
     /// The checks of parameters.
     pub fn ocf(&self) -> &[OcfRow]
         ensures rows { result.now ≡ self.now.ocf }
-        ensures few { length result.now ≤ ROWS_MOST }
+        ensures few { length result.now ≤ HELD_MOST }
     {
         self.ocf.rows()
     }
@@ -334,7 +334,7 @@ impl Book {
     /// The bounds of checks.
     pub fn ocp(&self) -> &[OcpRow]
         ensures rows { result.now ≡ self.now.ocp }
-        ensures few { length result.now ≤ ROWS_MOST }
+        ensures few { length result.now ≤ HELD_MOST }
     {
         self.ocp.rows()
     }

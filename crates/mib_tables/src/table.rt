@@ -9,8 +9,8 @@ use mib_model::{Key, Row, TableRow};
 use std::alloc::{AllocError, Global};
 use std::marker::Model;
 
-/// The greatest number of rows of a table.
-pub const ROWS_MOST: usize = 1_000_000_000;
+/// The greatest number of rows that a table in memory holds; a text has fewer.
+pub const HELD_MOST: usize = 1_000_000_000;
 
 /// What `put` did.
 #[derive(Clone, Copy, Debug, PartialEq, Eq)]
@@ -100,7 +100,7 @@ impl<R: TableRow> Table<R> {
     pub fn new(rows: Vec<R>) -> Result<Self, AllocError>
         ensures { IfOk result (λ table. table ≡ rows.items) }
     {
-        if rows.len() > ROWS_MOST {
+        if rows.len() > HELD_MOST {
             return Err(AllocError);
         }
         Ok(Table { rows })
@@ -109,7 +109,7 @@ impl<R: TableRow> Table<R> {
     /// Its rows, in their order.
     pub fn rows(&self) -> &[R]
         ensures rows { result.now ≡ self.now }
-        ensures few { length result.now ≤ ROWS_MOST }
+        ensures few { length result.now ≤ HELD_MOST }
     {
         self.rows.as_slice()
     }
@@ -145,7 +145,7 @@ impl<R: TableRow> Table<R> {
                 Ok(Put::Replaced)
             }
             None => {
-                if self.rows.len() == ROWS_MOST {
+                if self.rows.len() == HELD_MOST {
                     return Err(AllocError);
                 }
                 self.rows.push(row)?;

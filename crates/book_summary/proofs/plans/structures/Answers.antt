@@ -1,6 +1,6 @@
 use Rattle.std.proofs.Common.{rules, tests}
-use Rattle.std.proofs.lemmas.Iterator.{YieldsList-from_slice}
-use Rattle.std.proofs.lemmas.Iterator.Adapters.{YieldsList-from_map, fact_from_collect}
+use Rattle.std.proofs.lemmas.Iterator.{YieldsList-from_slice, YieldsList-from_map}
+use Rattle.std.proofs.lemmas.Iterator.Adapters.{fact_from_collect}
 use Rattle.std.specs.BTreeSet.{IsFromIterResult}
 use Rattle.std.specs.Ordering.{nat_cmp}
 use Rattle.mib_model.specs.declared.rows.VpdRow.{VpdRow}

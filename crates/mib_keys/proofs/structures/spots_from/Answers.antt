@@ -1,6 +1,5 @@
 use Rattle.std.proofs.Common.{rules, tests}
-use Rattle.std.proofs.lemmas.Iterator.{items_from_collect, YieldsList-from_slice}
-use Rattle.std.proofs.lemmas.Iterator.Adapters.{YieldsList-from_map}
+use Rattle.std.proofs.lemmas.Iterator.{items_from_collect, YieldsList-from_slice, YieldsList-from_map}
 use Rattle.mib_keys.specs.Structures.{spot_of}
 use Rattle.mib_keys.proofs.structures.spots_from.Goals as goal
 

@@ -1,6 +1,6 @@
 use Rattle.std.proofs.Common.{◌≡◌, ◌+◌, drop}
 use Rattle.mib_keys.specs.Firsts.{flaw_in, first_in}
-use Rattle.mib_keys.proofs.soundness.table_flaw.Given as goal
+use Rattle.mib_keys.proofs.soundness.rows_flaw.Given as goal
 
 abbrev pub invariant-loop-place : goal.invariant-loop-place
 invariant-loop-place g l =

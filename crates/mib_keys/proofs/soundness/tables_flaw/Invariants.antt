@@ -2,7 +2,7 @@ use Rattle.std.proofs.Common.{◌≡◌, drop}
 use Rattle.mib_model.specs.Points.{first_of}
 use Rattle.mib_model.specs.Soundness.{first_flaw, flaws_of}
 use Rattle.mib_keys.specs.Firsts.{first_over}
-use Rattle.mib_keys.proofs.soundness.first_flaw.Given as goal
+use Rattle.mib_keys.proofs.soundness.tables_flaw.Given as goal
 
 abbrev pub invariant-loop-kind : goal.invariant-loop-kind
-invariant-loop-kind l = first_flaw l.fn.book.now ≡ first_over (λ k. first_of (flaws_of l.fn.book.now k)) (drop l.kind-index l.kind-items)
+invariant-loop-kind l = first_flaw l.lookups ≡ first_over (λ k. first_of (flaws_of l.lookups k)) (drop l.kind-index l.kind-items)
