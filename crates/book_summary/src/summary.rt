@@ -23,7 +23,7 @@ fn add_table(out: &mut Vec<u8>, book: &Book, kind: Kind) -> Result<(), AllocErro
 {
     out.extend_from_slice(kind.name().as_bytes())?;
     out.extend_from_slice(b" ")?;
-    add_number(out, u64::from(book.count(kind)))?;
+    add_number(out, book.count(kind) as u64)?;
     out.extend_from_slice(b"\n")
 }
 

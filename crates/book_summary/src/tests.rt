@@ -7,7 +7,7 @@ use std::test::Fail;
 
 // The summary of a book that has these rows.
 fn summary(alloc: Global, rows: &[Row]) -> Result<Vec<u8>, AllocError> {
-    let mut book = Book::empty(alloc)?;
+    let mut book = Book::empty(alloc);
     for row in rows {
         book.put(*row)?;
     }

@@ -1,12 +1,17 @@
 -- A count that isn't 0, and the rows of a structure by its number.
-use Rattle.std.proofs.Common.{◌≡◌, ℕ, suc, ℤ, pos, negsuc, nat_abs, Bool, true, false, not, cond, ◌||◌, List, [], ◌∷◌, length, filter, refl, sym, ap, ◌∙◌, nat_eq, int_lt, arith}
+use Rattle.std.proofs.Common.{◌≡◌, ℕ, suc, ℤ, pos, negsuc, nat_abs, Bool, true, false, not, cond, ◌||◌, ◌&&◌, List, [], ◌∷◌, length, filter, refl, subst, sym, ap, ◌∙◌, nat_eq, int_lt, arith}
 use Rattle.std.proofs.lemmas.Bool.{ne_eqb, eqb-true, eq-eqb}
 use Rattle.std.specs.Bool.{one_answer}
 use Rattle.std.specs.Cmp.{signed_Decides}
 use Rattle.std.specs.List.{list_any}
 use Rattle.std.specs.Ordering.{int_eq}
 use Rattle.mib_model.specs.declared.rows.VpdRow.{VpdRow}
-use Rattle.mib_keys.proofs.KeyFacts.{false-true}
+
+pub false-true : {A : Type 0} → false ≡ true → A
+false-true h = absurd (subst (λ b. cond b ⊥ (Unit {0})) h tt)
+
+pub both-same : (a b c d : Bool) → a ≡ c → b ≡ d → (a && b) ≡ (c && d)
+both-same a b c d h k = ap (λ e. e && b) h ∙ ap (λ e. c && e) k
 
 pub counted-any : {X : Type 0} (p : X → Bool) (xs : List X) → not (nat_eq (length (filter p xs)) 0) ≡ list_any p xs
 counted-any p [] = refl

@@ -3,30 +3,28 @@ use Rattle.std.proofs.Common.{◌≡◌, ℕ, suc, ◌+◌, pos, Bool, true, fal
 use Rattle.std.proofs.lemmas.List.{length-map, take-map}
 use Rattle.std.proofs.lemmas.List.Elements.{filter_agree}
 use Rattle.std.specs.Cmp.{nat_eq_equiv}
-use Rattle.std.specs.List.{position, list_any, enumerate_from, filter_map, cons_option}
+use Rattle.std.specs.List.{position, list_any, enumerate_from}
 use Rattle.std.specs.Ordering.{int_eq}
 use Rattle.mib_model.specs.declared.database.Database.{Database}
-use Rattle.mib_model.specs.declared.key.Key.TheVariants as key
-use Rattle.mib_model.specs.declared.rows.Row.TheVariants as row
 use Rattle.mib_model.specs.declared.rows.VpdRow.{VpdRow}
-use Rattle.mib_model.specs.Drafts.{rows_of}
 use Rattle.mib_model.specs.GroupFlaws.{place_of, passes_end, passes_group}
-use Rattle.mib_model.specs.Keys.{has_key, same_key}
 use Rattle.mib_model.specs.Orders.{insert_by, sorted_by}
 use Rattle.mib_model.specs.Structures.{structure}
 use Rattle.mib_keys.specs.declared.structures.Spot.{Spot}
-use Rattle.mib_keys.specs.Firsts.{alike_in, least}
 use Rattle.mib_keys.specs.Indexes.{cut}
-use Rattle.mib_keys.specs.Structures.{spot_of, spots_from, by_pos, is_in, RisesByPos, passes, passes_spots}
-use Rattle.mib_keys.proofs.AnyFacts.{same-number, any-agree}
-use Rattle.mib_keys.proofs.KeyFacts.{both-same, false-true}
-use Rattle.mib_keys.proofs.LookupFacts.{found-any, position-map, count-map}
+use Rattle.mib_keys.specs.Structures.{is_same_place, spot_of, by_pos, is_in, RisesByPos, passes, passes_spots}
+use Rattle.mib_keys.proofs.AnyFacts.{same-number, any-agree, both-same, false-true}
+use Rattle.mib_keys.proofs.LookupFacts.{found-any}
 use Rattle.mib_keys.proofs.OrderFacts.{sorted-rises}
 use Rattle.mib_keys.proofs.PointFacts.{position-take}
 
-pub filter_map-map : {X Y Z : Type 0} (h : Y → Option Z) (f : X → Y) (xs : List X) → filter_map h (map f xs) ≡ filter_map (λ x. h (f x)) xs
-filter_map-map h f [] = refl
-filter_map-map h f (x ∷ xs) = ap (cons_option (h (f x))) (filter_map-map h f xs)
+put-way : {X Y : Type 0} (b : Bool) (x : X) (y : Y) (xs : List X) (ys : List Y) → length ys ≡ length xs → length (cond b (y ∷ ys) ys) ≡ length (cond b (x ∷ xs) xs)
+put-way true x y xs ys h = ap suc h
+put-way false x y xs ys h = h
+
+count-map : {X Y : Type 0} (f : X → Y) (p : Y → Bool) (xs : List X) → length (filter p (map f xs)) ≡ length (filter (λ x. p (f x)) xs)
+count-map f p [] = refl
+count-map f p (x ∷ xs) = put-way (p (f x)) x (f x) (filter (λ y. p (f y)) xs) (filter p (map f xs)) (count-map f p xs)
 
 -- what is noted of a structure is the structure
 module _ where
@@ -43,10 +41,6 @@ module _ where
   sorted-spots [] = refl
   sorted-spots (r ∷ rs) = ap (insert_by by_pos (spot_of r)) (sorted-spots rs) ∙ insert-spots r (sorted_by (λ x y. nat_le x.pos y.pos) rs)
 
-  all-spots : (rows : List VpdRow) → spots_from (map row.Vpd rows) ≡ map spot_of rows
-  all-spots [] = refl
-  all-spots (r ∷ rs) = ap (λ (zs : List Spot). spot_of r ∷ zs) (all-spots rs)
-
   own-spots : (q : ℕ) (rows : List VpdRow) → filter (is_in q) (map spot_of rows) ≡ map spot_of (filter (λ (r : VpdRow). nat_eq r.tpsd q) rows)
   own-spots q [] = refl
   own-spots q (r ∷ rs) = go (nat_eq r.tpsd q) (filter (λ (o : VpdRow). nat_eq o.tpsd q) rs) (own-spots q rs) where
@@ -54,14 +48,14 @@ module _ where
     go true mine h = ap (λ (zs : List Spot). spot_of r ∷ zs) h
     go false mine h = h
 
-pub spots-structure : (db : Database) (q : ℕ) → sorted_by by_pos (filter (is_in q) (spots_from (map row.Vpd db.vpd))) ≡ map spot_of (structure db (pos q))
+pub spots-structure : (db : Database) (q : ℕ) → sorted_by by_pos (filter (is_in q) (map spot_of db.vpd)) ≡ map spot_of (structure db (pos q))
 unfolding structure
 spots-structure db q =
-    ap (λ spots. sorted_by by_pos (filter (is_in q) spots)) (all-spots db.vpd) ∙ (ap (sorted_by by_pos) (own-spots q db.vpd) ∙ (sorted-spots (filter (λ (r : VpdRow). nat_eq r.tpsd q) db.vpd) ∙
-    ap (λ rows. map spot_of (sorted_by (λ x y. nat_le x.pos y.pos) rows)) (filter_agree (λ (r : VpdRow). nat_eq r.tpsd q) (λ (r : VpdRow). int_eq (pos r.tpsd) (pos q)) (λ (r : VpdRow). same-number r.tpsd q) db.vpd)))
+    ap (sorted_by by_pos) (own-spots q db.vpd) ∙ (sorted-spots (filter (λ (r : VpdRow). nat_eq r.tpsd q) db.vpd) ∙
+    ap (λ rows. map spot_of (sorted_by (λ x y. nat_le x.pos y.pos) rows)) (filter_agree (λ (r : VpdRow). nat_eq r.tpsd q) (λ (r : VpdRow). int_eq (pos r.tpsd) (pos q)) (λ (r : VpdRow). same-number r.tpsd q) db.vpd))
 
 pub structure-rises : (db : Database) (q : ℕ) → RisesByPos (map spot_of (structure db (pos q)))
-structure-rises db q = subst RisesByPos (spots-structure db q) (sorted-rises (λ (spot : Spot). spot.pos) (filter (is_in q) (spots_from (map row.Vpd db.vpd))))
+structure-rises db q = subst RisesByPos (spots-structure db q) (sorted-rises (λ (spot : Spot). spot.pos) (filter (is_in q) (map spot_of db.vpd)))
 
 -- how many rows pass a test is the same in order
 module _ (test : VpdRow → Bool) where
@@ -131,16 +125,7 @@ module _ (db : Database) (r : VpdRow) (n : ℕ) where
       (ap length (sym (filter-two mine less db.vpd)) ∙ sym (count-sorted less (filter mine db.vpd))) in
       omega (arith, none, same)
 
-  least-none : (o : Option ℕ) → least o None ≡ o
-  least-none None = refl
-  least-none (Some i) = refl
-
-  none-alike : cut n (alike_in db (row.Vpd r)) ≡ None → list_any (λ (o : VpdRow). nat_eq o.tpsd r.tpsd && nat_eq o.pos r.pos) (take n db.vpd) ≡ false
-  unfolding rows_of same_key
-  none-alike fresh =
-      let like : VpdRow → Bool = λ o. nat_eq o.tpsd r.tpsd && nat_eq o.pos r.pos in
-      let place = least-none (position (has_key (key.Vpd r.tpsd r.pos)) (map row.Vpd db.vpd)) ∙ position-map row.Vpd (has_key (key.Vpd r.tpsd r.pos)) db.vpd in
-      sym (found-any like (take n db.vpd)) ∙ ap is_some (position-take like n db.vpd ∙ (ap (cut n) (sym place) ∙ fresh))
-
-  pub group-ends : cut n (alike_in db (row.Vpd r)) ≡ None → passes_spots (map spot_of (structure db (pos r.tpsd))) r ≡ passes_end (structure db (pos r.tpsd)) (place_of db (take n db.vpd) r) r.grpsize
-  group-ends fresh = passes-spots (structure db (pos r.tpsd)) r ∙ ap (λ k. passes_end (structure db (pos r.tpsd)) k r.grpsize) (sym (own-place (none-alike fresh)))
+  pub group-ends : cut n (position (is_same_place r) db.vpd) ≡ None → passes_spots (map spot_of (structure db (pos r.tpsd))) r ≡ passes_end (structure db (pos r.tpsd)) (place_of db (take n db.vpd) r) r.grpsize
+  group-ends fresh =
+      let none = sym (found-any (is_same_place r) (take n db.vpd)) ∙ ap is_some (position-take (is_same_place r) n db.vpd ∙ fresh) in
+      passes-spots (structure db (pos r.tpsd)) r ∙ ap (λ k. passes_end (structure db (pos r.tpsd)) k r.grpsize) (sym (own-place none))

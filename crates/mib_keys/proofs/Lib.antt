@@ -1,11 +1,9 @@
+mod AnyFacts
 pub mod PlaceFacts
-pub mod KeyFacts
-pub mod TableFacts
-pub mod LookupFacts
-pub mod CountFacts
-pub mod AnyFacts
-pub mod PointFacts
-pub mod OrderFacts
-pub mod SweepFacts
-pub mod GroupFacts
-pub mod FlawFacts
+mod LookupFacts
+mod KeyFacts
+mod PointFacts
+mod OrderFacts
+mod GroupFacts
+mod SweepFacts
+mod FlawFacts

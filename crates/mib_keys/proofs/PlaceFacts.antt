@@ -1,7 +1,7 @@
 -- The first place of a row among rows that grow.
 use Rattle.std.proofs.Common.{◌≡◌, ℕ, suc, ◌+◌, ◌<◌, ◌≤◌, Bool, true, false, not, cond, List, [], ◌∷◌, ◌++◌, map, length, get_or, take, filter, Option, Some, None, option_map, refl, sym, ap, ◌∙◌, subst, nat_lt, arith}
 use Rattle.std.proofs.lemmas.Bool.{ltb-true, ltb-false, lt-ltb, le-ltb}
-use Rattle.std.proofs.lemmas.List.{map_more, length-map, length-take-le}
+use Rattle.std.proofs.lemmas.List.{take_more, length-take-le}
 use Rattle.std.specs.List.{position, prefix_len}
 use Rattle.std.specs.Option.{option_or}
 use Rattle.mib_keys.specs.Indexes.{some_if}
@@ -36,10 +36,6 @@ position-push p (x ∷ xs) y = position-cons p x (xs ++ y ∷ []) ∙ (ap (λ o.
   go false None true = let e : length xs + 1 ≡ suc (length xs) = omega arith in ap Some e
   go false None false = refl
 
-pub first-assoc : {A : Type 0} (a b c : Option A) → option_or (option_or a b) c ≡ option_or a (option_or b c)
-first-assoc None b c = refl
-first-assoc (Some x) b c = refl
-
 -- a count is at most the number of items
 few-way : {X : Type 0} (b : Bool) (x : X) (kept xs : List X) → length kept ≤ length xs → length (cond b (x ∷ kept) kept) ≤ suc (length xs)
 few-way true x kept xs h = omega arith
@@ -61,24 +57,19 @@ count-push p (x ∷ xs) y = go (p x) (p y) (count-push p xs y) where
   go false true h = h
   go false false h = h
 
--- items read one by one through a function
-module _ {A X : Type 0} (f : A → X) (rows : List A) (i : ℕ) (row : A) where
-  taken-more : i < length rows → row ≡ get_or rows i row → map f (take (i + 1) rows) ≡ map f (take i rows) ++ f row ∷ []
-  taken-more below is = map_more f rows i row below ∙ ap (λ (x : A). map f (take i rows) ++ f x ∷ []) (sym is)
+-- items read one by one
+module _ {A : Type 0} (rows : List A) (i : ℕ) (row : A) where
+  taken-more : i < length rows → row ≡ get_or rows i row → take (i + 1) rows ≡ take i rows ++ row ∷ []
+  taken-more below is = take_more rows i row below ∙ ap (λ (x : A). take i rows ++ x ∷ []) (sym is)
 
-  taken-long : i < length rows → length (map f (take i rows)) ≡ i
-  taken-long below = length-map (take i rows) f ∙ length-take-le i rows (omega (arith, below))
+  taken-long : i < length rows → length (take i rows) ≡ i
+  taken-long below = length-take-le i rows (omega (arith, below))
 
-  pub position-more : (p : X → Bool) → i < length rows → row ≡ get_or rows i row → position p (map f (take (i + 1) rows)) ≡ option_or (position p (map f (take i rows))) (some_if (p (f row)) i)
-  position-more p below is = ap (position p) (taken-more below is) ∙ (position-push p (map f (take i rows)) (f row) ∙ ap (λ n. option_or (position p (map f (take i rows))) (some_if (p (f row)) n)) (taken-long below))
+  pub position-more : (p : A → Bool) → i < length rows → row ≡ get_or rows i row → position p (take (i + 1) rows) ≡ option_or (position p (take i rows)) (some_if (p row) i)
+  position-more p below is = ap (position p) (taken-more below is) ∙ (position-push p (take i rows) row ∙ ap (λ n. option_or (position p (take i rows)) (some_if (p row) n)) (taken-long below))
 
-  pub count-more : (p : X → Bool) → i < length rows → row ≡ get_or rows i row → length (filter p (map f (take (i + 1) rows))) ≡ cond (p (f row)) (length (filter p (map f (take i rows))) + 1) (length (filter p (map f (take i rows))))
-  count-more p below is = ap (λ xs. length (filter p xs)) (taken-more below is) ∙ count-push p (map f (take i rows)) (f row)
+  pub count-more : (p : A → Bool) → i < length rows → row ≡ get_or rows i row → length (filter p (take (i + 1) rows)) ≡ cond (p row) (length (filter p (take i rows)) + 1) (length (filter p (take i rows)))
+  count-more p below is = ap (λ xs. length (filter p xs)) (taken-more below is) ∙ count-push p (take i rows) row
 
-  pub count-below : (p : X → Bool) → i < length rows → length (filter p (map f (take i rows))) ≤ i
-  count-below p below = subst (λ n. length (filter p (map f (take i rows))) ≤ n) (taken-long below) (filter-few p (map f (take i rows)))
-
--- one more place noted behind those that are there
-pub noted-more : (new so_far old before after : Option ℕ) (here holds : Bool) (i : ℕ) → new ≡ option_or so_far (some_if here i) → so_far ≡ option_or old before → here ≡ holds → after ≡ option_or before (some_if holds i) → new ≡ option_or old after
-noted-more new so_far old before after here holds i step behind same more =
-    step ∙ (ap (λ o. option_or o (some_if here i)) behind ∙ (first-assoc old before (some_if here i) ∙ (ap (λ b. option_or old (option_or before (some_if b i))) same ∙ ap (option_or old) (sym more))))
+  pub count-below : (p : A → Bool) → i < length rows → length (filter p (take i rows)) ≤ i
+  count-below p below = subst (λ n. length (filter p (take i rows)) ≤ n) (taken-long below) (filter-few p (take i rows))

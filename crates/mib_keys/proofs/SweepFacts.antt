@@ -8,7 +8,7 @@ use Rattle.std.specs.List.{list_any, enumerate_from}
 use Rattle.std.specs.Ordering.{nat_cmp}
 use Rattle.mib_keys.specs.declared.structures.Spot.{Spot}
 use Rattle.mib_keys.specs.Structures.{passes, passes_some, ends_at, is_end_before, IsNearest, IsSwept}
-use Rattle.mib_keys.proofs.KeyFacts.{number-eq}
+use Rattle.std.specs.Cmp.{unsigned_ties}
 
 -- one more row among those before
 any-more : {X : Type 0} (p : ℕ × X → Bool) (start : ℕ) (xs : List X) (x : X) → list_any p (enumerate_from start (xs ++ x ∷ [])) ≡ (list_any p (enumerate_from start xs) || p (start + length xs, x))
@@ -84,7 +84,7 @@ more-swept spots nearest ends more found spot swept near added = record {
 
   noted : (end : ℕ) → contains nat_cmp more end ≡ list_any (ends_at end) (enumerate_from 0 (spots ++ spot ∷ []))
   noted end =
-      added.0 end ∙ (ap (λ b. cond b true (contains nat_cmp ends end)) (number-eq (length spots + spot.grpsize) end) ∙
+      added.0 end ∙ (ap (λ b. cond b true (contains nat_cmp ends end)) (sym (unsigned_ties (length spots + spot.grpsize) end)) ∙
       (flip (nat_eq (length spots + spot.grpsize) end) (contains nat_cmp ends end) ∙ (ap (λ b. b || nat_eq (length spots + spot.grpsize) end) (swept.noted end) ∙
       sym (any-more (ends_at end) 0 spots spot ∙ (let e : 0 + length spots ≡ length spots = omega arith in ap (λ i. list_any (ends_at end) (enumerate_from 0 spots) || nat_eq (i + spot.grpsize) end) e))))) where
         flip : (a b : Bool) → cond a true b ≡ (b || a)

@@ -1,34 +1,29 @@
--- What the maps say of a database. [This profile.]
-use Rattle.std.specs.Prelude.{◌≡◌, ℕ, List, unwrap_or}
-use Rattle.std.specs.BTreeMap.{get}
-use Rattle.std.specs.Cmp.Lexicographic.{slice_cmp}
-use Rattle.std.specs.Ordering.{nat_cmp, ordering_then}
-use Rattle.std.specs.declared.cmp.Ordering.{Ordering}
-use Rattle.mib_model.specs.contracts.key.KeyOrd.TheImpl as ord
-use Rattle.mib_model.specs.declared.database.Database.{Database}
-use Rattle.mib_model.specs.declared.key.Key.{Key}
-use Rattle.mib_model.specs.declared.kind.Kind.TheVariants as kind
-use Rattle.mib_model.specs.Drafts.{rows_of}
-use Rattle.mib_keys.specs.declared.maps.Maps.{Maps}
-use Rattle.mib_keys.specs.declared.maps.PacketKey.{PacketKey}
-use Rattle.mib_keys.specs.Columns.{packet_in, parameter_in, structure_in, curve_in}
-use Rattle.mib_keys.specs.Indexes.{AreKeyPlaces, first_place, count_with}
-
--- the orders of keys, of names and of kinds of packets
-abbrev pub key_cmp : Key → Key → Ordering
-key_cmp = ord.ghosts.cmp
-
-abbrev pub name_cmp : List ℕ → List ℕ → Ordering
-name_cmp = slice_cmp nat_cmp
-
-abbrev pub packet_cmp : PacketKey → PacketKey → Ordering
-packet_cmp x y =
-    ordering_then (nat_cmp x.apid y.apid) (ordering_then (nat_cmp x.service y.service) (ordering_then (nat_cmp x.subtype y.subtype) (ordering_then (nat_cmp x.pi1_val y.pi1_val) (nat_cmp x.pi2_val y.pi2_val))))
+-- What the lookups say of a database. [This profile.]
+use Rattle.std.specs.Prelude.{◌≡◌, ℕ, nat_eq, List, length, map, pos, position, unwrap_or}
+use Rattle.std.specs.HashMap.{get}
+use Rattle.std.specs.List.{filter}
+use Rattle.std.specs.Str.{bytes_eq}
+use Rattle.mib_model.specs.Structures.{structure}
+use Rattle.mib_keys.specs.declared.keys.PacketKey.{PacketKey}
+use Rattle.mib_keys.specs.declared.keys.PointKey.{PointKey}
+use Rattle.mib_keys.specs.declared.lookups.Lookups.TheInside.{Inside}
+use Rattle.mib_keys.specs.Indexes.{first_place}
+use Rattle.mib_keys.specs.Packets.{packet_eq, packet_of}
+use Rattle.mib_keys.specs.Points.{point_eq, point_in}
+use Rattle.mib_keys.specs.Structures.{spot_of, spots_at}
 
 -- each map has, at each key, the first place or the number of the rows that have it
-pub record Known (maps : Maps) (db : Database) : Type 0 where
-  pub places : AreKeyPlaces (get key_cmp maps.places) db
-  pub packets : (q : PacketKey) → get packet_cmp maps.packets q ≡ first_place packet_cmp packet_in (rows_of db kind.Pid) q
-  pub selections : (q : List ℕ) → unwrap_or (get name_cmp maps.selections q) 0 ≡ count_with name_cmp parameter_in (rows_of db kind.Cur) q
-  pub structures : (q : ℕ) → unwrap_or (get nat_cmp maps.structures q) 0 ≡ count_with nat_cmp structure_in (rows_of db kind.Vpd) q
-  pub points : (q : List ℕ) → unwrap_or (get name_cmp maps.points q) 0 ≡ count_with name_cmp curve_in (rows_of db kind.Cap) q
+pub record Known (l : Inside) : Type 0 where
+  pub parameters : (q : List ℕ) → get bytes_eq l.parameters q ≡ position (λ row. bytes_eq row.name q) l.book.now.pcf
+  pub packets : (q : ℕ) → get nat_eq l.packets q ≡ position (λ row. nat_eq row.spid q) l.book.now.pid
+  pub packet_kinds : (q : PacketKey) → get packet_eq l.packet_kinds q ≡ position (λ row. packet_eq (packet_of row) q) l.book.now.pid
+  pub curves : (q : List ℕ) → get bytes_eq l.curves q ≡ position (λ row. bytes_eq row.numbr q) l.book.now.caf
+  pub texts : (q : List ℕ) → get bytes_eq l.texts q ≡ position (λ row. bytes_eq row.numbr q) l.book.now.txf
+  pub polynomials : (q : List ℕ) → get bytes_eq l.polynomials q ≡ position (λ row. bytes_eq row.ident q) l.book.now.mcf
+  pub logarithms : (q : List ℕ) → get bytes_eq l.logarithms q ≡ position (λ row. bytes_eq row.ident q) l.book.now.lgf
+  pub checks : (q : List ℕ) → get bytes_eq l.checks q ≡ position (λ row. bytes_eq row.name q) l.book.now.ocf
+  pub selections : (q : List ℕ) → unwrap_or (get bytes_eq l.selections q) 0 ≡ length (filter (λ row. bytes_eq row.pname q) l.book.now.cur)
+  pub structure_rows : (q : ℕ) → unwrap_or (get nat_eq l.structure_rows q) 0 ≡ length (filter (λ row. nat_eq row.tpsd q) l.book.now.vpd)
+  pub points : (q : List ℕ) → unwrap_or (get bytes_eq l.points q) 0 ≡ length (filter (λ row. bytes_eq row.numbr q) l.book.now.cap)
+  pub point_places : (q : PointKey) → get point_eq l.point_places q ≡ first_place point_eq (point_in l.book.now.caf) l.book.now.cap q
+  pub structures : (q : ℕ) → spots_at l.structures q ≡ map spot_of (structure l.book.now (pos q))

@@ -1,8 +1,8 @@
 pub mod Indexes
-pub mod Columns
-pub mod Known
 pub mod Firsts
+pub mod Packets
+pub mod Alike
 pub mod Points
-pub mod Answers
 pub mod Structures
-pub mod Ready
+pub mod Known
+pub mod Answers

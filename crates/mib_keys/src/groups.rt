@@ -1,20 +1,18 @@
 // The rules for the rows of structures. [SCOS-2000 Database Import ICD, vpd.]
-ghost use Rattle.std.specs.Prelude.{◌≡◌, ◌-◌, ◌==◌, ◌&&◌, ◌||◌, not, drop, take, None};
+ghost use Rattle.std.specs.Prelude.{◌≡◌, ◌-◌, ◌==◌, ◌&&◌, ◌||◌, not, drop, take, position, None};
 ghost use Rattle.std.specs.Option.{option_copied};
 ghost use Rattle.mib_model.specs.GroupFlaws.{is_bad_group, vpd_rules, is_unmeasured, counts, has_group, does_too_much, repeats_nothing, needs_number};
 ghost use Rattle.mib_model.specs.Kept.{has_number};
-ghost use Rattle.mib_keys.specs.Firsts.{flaw_by, alike_in};
+ghost use Rattle.mib_keys.specs.Firsts.{flaw_by};
 ghost use Rattle.mib_keys.specs.Indexes.{cut};
-ghost use Rattle.mib_keys.specs.Known.{Known};
-ghost use Rattle.mib_keys.specs.Structures.{spots_in, passes_spots, RisesByPos, AreStructures};
+ghost use Rattle.mib_keys.specs.Structures.{is_same_place, spots_in, passes_spots, RisesByPos};
 
 use crate::flaw::At;
-use crate::lookups::Tables;
+use crate::lookups::Lookups;
 use crate::rules::is_measured;
 use crate::structures::Structure;
 use crate::types::encoding;
-use mib_model::{Kind, MibCode, MibFault, PcfRow, Row, Sort, VpdRow};
-use std::collections::BTreeMap;
+use mib_model::{Kind, MibCode, MibFault, PcfRow, Sort, VpdRow};
 
 fn either(a: bool, b: bool) -> bool
     ensures { result ≡ (a || b) }
@@ -105,18 +103,15 @@ fn passes_spots(structure: Option<&Structure>, row: &VpdRow) -> bool
 
 // Whether the group, the choice or the reference of a row is out of form.
 fn is_bad_group(
-    tables: &Tables<'_>,
-    structures: &BTreeMap<u32, Structure>,
+    lookups: &Lookups<'_>,
     number: u32,
     row: &VpdRow,
 ) -> bool
-    requires known { Known tables.now.maps.now tables.now.book.now }
-    requires structures { AreStructures structures.now tables.now.book.now }
-    requires fresh { cut (number - 1) (alike_in tables.now.book.now (Row.Vpd row.now)) ≡ None }
-    ensures { result ≡ is_bad_group tables.now.book.now (take (number - 1) tables.now.book.now.vpd) row.now }
+    requires { cut (number - 1) (position (is_same_place row.now) lookups.now.vpd) ≡ None }
+    ensures { result ≡ is_bad_group lookups.now (take (number - 1) lookups.now.vpd) row.now }
 {
-    let passes = passes_spots(structures.get(&row.tpsd), row);
-    let no_number = lacks_number(row, tables.parameter(row.name));
+    let passes = passes_spots(lookups.structure(row.tpsd), row);
+    let no_number = lacks_number(row, lookups.parameter(row.name));
     let shape = either(does_too_much(row), repeats_nothing(row));
     either(either(shape, passes), no_number)
 }
@@ -129,23 +124,20 @@ fn lacks_number(row: &VpdRow, parameter: Option<&PcfRow>) -> bool
 
 /// VPD: the parameter of a row, and its group, choice or reference.
 pub fn vpd_flaw(
-    tables: &Tables<'_>,
-    structures: &BTreeMap<u32, Structure>,
+    lookups: &Lookups<'_>,
     number: u32,
     row: &VpdRow,
 ) -> Option<MibFault>
-    requires known { Known tables.now.maps.now tables.now.book.now }
-    requires structures { AreStructures structures.now tables.now.book.now }
-    requires fresh { cut (number - 1) (alike_in tables.now.book.now (Row.Vpd row.now)) ≡ None }
-    ensures { result ≡ flaw_by Kind.Vpd number (drop 1 (vpd_rules tables.now.book.now)) (take (number - 1) tables.now.book.now.vpd) row.now }
+    requires { cut (number - 1) (position (is_same_place row.now) lookups.now.vpd) ≡ None }
+    ensures { result ≡ flaw_by Kind.Vpd number (drop 1 (vpd_rules lookups.now)) (take (number - 1) lookups.now.vpd) row.now }
 {
     let at = At {
         table: Kind::Vpd,
         number,
     };
-    let unmeasured = is_unmeasured(tables.parameter(row.name));
-    let bad = is_bad_group(tables, structures, number, row);
-    at.missing(&[(3, tables.has_parameter(row.name))])
+    let unmeasured = is_unmeasured(lookups.parameter(row.name));
+    let bad = is_bad_group(lookups, number, row);
+    at.missing(&[(3, lookups.has_parameter(row.name))])
         .or(at.flaw_if(MibCode::BadType, unmeasured))
         .or(at.flaw_if(MibCode::Group, bad))
 }

@@ -1,34 +1,24 @@
-// Maps from keys to the first rows that have them.
-ghost use Rattle.std.specs.Prelude.{◌≡◌, ◌+◌, ◌<◌, ◌≤◌, length, Option, Some, OnOk, IfOk, if◌then◌else◌, unwrap_or};
-ghost use Rattle.std.specs.BTreeMap.{get};
-ghost use Rattle.mib_model.specs.declared.rows.Row.{Row};
+// Maps from keys to the first rows that have them, and to how many rows have them.
+ghost use Rattle.std.specs.Prelude.{◌≡◌, ◌+◌, ◌<◌, ◌≤◌, length, Option, Some, OnOk, IfOk, if◌then◌else◌, position, unwrap_or};
+ghost use Rattle.std.specs.HashMap.{get};
 ghost use Rattle.std.specs.Option.{option_or};
-ghost use Rattle.mib_tables.specs.Shelves.{values_in};
+ghost use Rattle.mib_keys.specs.Alike.{AreKeyPlaces, key_eq};
 ghost use Rattle.mib_keys.specs.Indexes.{has_by, first_place, some_if, count_with};
 
-use mib_model::Row;
+use crate::keys::By;
+use mib_model::{Key, TableRow};
 use std::alloc::{AllocError, Global};
-use std::collections::BTreeMap;
-use std::sync::Arc;
-
-/// A key by which rows are looked up; some rows may have none.
-pub trait By {
-    type Key: Ord + Copy + Drop;
-
-    ghost key: { Self → Row → Option Self.Key };
-
-    /// The key of a row.
-    fn key(&self, row: &Row) -> Option<Self::Key>
-        ensures { result ≡ key self.now row.now };
-}
+use std::collections::HashMap;
+use std::hash::Hash;
+use std::marker::PhantomData;
 
 /// Notes the place of a key that isn't noted yet.
-pub fn note_key<K: Ord + Copy + Drop>(
-    places: &mut BTreeMap<K, u32>,
+pub fn note_key<K: Eq + Hash + Copy + Drop>(
+    places: &mut HashMap<K, u32>,
     key: Option<K>,
     place: u32,
 ) -> Result<(), AllocError>
-    ensures { OnOk result ((q : K) → get K.cmp places.new q ≡ option_or (get K.cmp places.old q) (some_if (has_by K.cmp q key) place)) }
+    ensures { OnOk result ((q : K) → get K.eq places.new q ≡ option_or (get K.eq places.old q) (some_if (has_by K.eq q key) place)) }
 {
     let Some(key) = key else {
         return Ok(());
@@ -39,28 +29,29 @@ pub fn note_key<K: Ord + Copy + Drop>(
     Ok(())
 }
 
-/// Notes the first row of each key behind what is noted.
-pub fn note<B: By>(
+/// The first place of each key of rows.
+pub fn places<B: By>(
+    alloc: Global,
     by: &B,
-    rows: &[Arc<Row>],
-    places: &mut BTreeMap<B::Key, u32>,
-) -> Result<(), AllocError>
+    rows: &[B::Row],
+) -> Result<HashMap<B::Key, u32>, AllocError>
     requires { length rows.now ≤ 1000000000 }
-    ensures { OnOk result ((q : B.Key) → get B.Key.cmp places.new q ≡ option_or (get B.Key.cmp places.old q) (first_place B.Key.cmp (B.key by.now) (values_in rows.now) q)) }
+    ensures { IfOk result (λ places. (q : B.Key) → get B.Key.eq places q ≡ first_place B.Key.eq (B.key by.now) rows.now q) }
 {
+    let mut places = HashMap::with_capacity(alloc, rows.len())?;
     for (place, row) in rows.iter().enumerate() {
-        note_key(places, by.key(row), place as u32)?;
+        note_key(&mut places, by.key(row), place as u32)?;
     }
-    Ok(())
+    Ok(places)
 }
 
 // Counts a key once more.
-fn count_key<K: Ord + Copy + Drop>(
-    counts: &mut BTreeMap<K, u32>,
+fn count_key<K: Eq + Hash + Copy + Drop>(
+    counts: &mut HashMap<K, u32>,
     key: Option<K>,
 ) -> Result<(), AllocError>
-    requires { (q : K) → unwrap_or (get K.cmp counts.old q) 0 < 1000000000 }
-    ensures { OnOk result ((q : K) → unwrap_or (get K.cmp counts.new q) 0 ≡ (if has_by K.cmp q key then unwrap_or (get K.cmp counts.old q) 0 + 1 else unwrap_or (get K.cmp counts.old q) 0)) }
+    requires { (q : K) → unwrap_or (get K.eq counts.old q) 0 < 1000000000 }
+    ensures { OnOk result ((q : K) → unwrap_or (get K.eq counts.new q) 0 ≡ (if has_by K.eq q key then unwrap_or (get K.eq counts.old q) 0 + 1 else unwrap_or (get K.eq counts.old q) 0)) }
 {
     let Some(key) = key else {
         return Ok(());
@@ -74,14 +65,42 @@ fn count_key<K: Ord + Copy + Drop>(
 pub fn count<B: By>(
     alloc: Global,
     by: &B,
-    rows: &[Arc<Row>],
-) -> Result<BTreeMap<B::Key, u32>, AllocError>
+    rows: &[B::Row],
+) -> Result<HashMap<B::Key, u32>, AllocError>
     requires { length rows.now ≤ 1000000000 }
-    ensures { IfOk result (λ counts. (q : B.Key) → unwrap_or (get B.Key.cmp counts q) 0 ≡ count_with B.Key.cmp (B.key by.now) (values_in rows.now) q) }
+    ensures { IfOk result (λ counts. (q : B.Key) → unwrap_or (get B.Key.eq counts q) 0 ≡ count_with B.Key.eq (B.key by.now) rows.now q) }
 {
-    let mut counts = BTreeMap::new(alloc);
+    let mut counts = HashMap::new(alloc);
     for row in rows {
         count_key(&mut counts, by.key(row))?;
     }
     Ok(counts)
+}
+
+// Rows of one table by their keys.
+struct ByKey<R: TableRow> {
+    of: PhantomData<R>,
+}
+
+impl<R: TableRow> By for ByKey<R> {
+    ghost use Rattle.std.specs.Prelude.{Some};
+    ghost use Rattle.mib_model.specs.Keys.{key_in};
+
+    type Row = R;
+
+    type Key = Key;
+
+    ghost key = { λ _ row. Some (key_in (R.as_row row)) };
+
+    fn key(&self, row: &R) -> Option<Key> {
+        Some(row.to_row().key())
+    }
+}
+
+/// The first place of each key of the rows of a table.
+pub fn key_places<R: TableRow>(alloc: Global, rows: &[R]) -> Result<HashMap<Key, u32>, AllocError>
+    requires { length rows.now ≤ 1000000000 }
+    ensures { IfOk result (λ places. AreKeyPlaces R.as_row (get key_eq places) rows.now) }
+{
+    places(alloc, &ByKey { of: PhantomData }, rows)
 }

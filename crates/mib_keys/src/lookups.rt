@@ -1,213 +1,272 @@
 // Rows of a book, found by its maps.
-ghost use Rattle.std.specs.Prelude.{◌≡◌, ◌==◌, length, Option, position, is_some, map, unwrap_or};
-ghost use Rattle.std.specs.BTreeMap.{get};
-ghost use Rattle.std.specs.Option.{option_copied};
-ghost use Rattle.std.specs.List.{find, filter};
+ghost use Rattle.std.specs.Prelude.{◌≡◌, ◌≤◌, ◌==◌, length, Option, position, is_some, map, pos, IfOk};
+ghost use Rattle.std.specs.Option.{option_copied, option_and_then};
+ghost use Rattle.std.specs.HashMap.{get};
+ghost use Rattle.std.specs.List.{find, filter, slice_get};
 ghost use Rattle.std.specs.Str.{bytes_eq};
-ghost use Rattle.mib_model.specs.Drafts.{rows_of, is_held};
-ghost use Rattle.mib_model.specs.DatabaseTexts.{as_pcf, as_caf, as_txf};
-ghost use Rattle.mib_model.specs.Keys.{has_key};
 ghost use Rattle.mib_model.specs.Parameters.{parameter};
 ghost use Rattle.mib_model.specs.References.{has_parameter, has_packet, has_points, has_texts, has_polynomial, has_logarithm, has_check};
 ghost use Rattle.mib_model.specs.RowFlaws.{points_in};
-ghost use Rattle.mib_tables.specs.Kinds.{kind_of_key};
-ghost use Rattle.mib_keys.specs.Columns.{packet_of};
-ghost use Rattle.mib_keys.specs.Known.{Known};
-ghost use Rattle.mib_keys.specs.Firsts.{is_packet};
+ghost use Rattle.mib_keys.specs.Packets.{packet_eq, packet_of};
+ghost use Rattle.mib_keys.specs.Structures.{spot_of, spots_in};
+ghost use Rattle.mib_model.specs.Structures.{structure};
+ghost use Rattle.mib_keys.specs.Indexes.{first_place};
+ghost use Rattle.mib_keys.specs.Points.{point_eq, point_in};
 
-use crate::maps::{Maps, PacketKey};
-use mib_model::{CafRow, Key, Kind, Name, PcfRow, PidRow, Row, TxfRow};
+use crate::index::{count, places};
+use crate::keys::{
+    ByCheck, ByCurve, ByLogarithm, ByPacket, ByParameter, ByPointCurve, ByPolynomial, BySelector,
+    BySpid, ByStructure, ByTexts, PacketKey, PointKey,
+};
+use crate::points::point_places;
+use crate::structures::{Structure, structures};
+use mib_model::{CafRow, Name, PcfRow, TxfRow};
 use mib_tables::Book;
+use std::alloc::{AllocError, Global};
+use std::collections::HashMap;
+use std::marker::Model;
 
-/// A book beside its maps.
-#[derive(Clone, Copy)]
-pub struct Tables<'a> {
-    pub book: &'a Book,
-    pub maps: &'a Maps,
+/// What the rows of a book are looked up by. Contracts see the database.
+#[derive(Drop)]
+pub struct Lookups<'a> {
+    book: &'a Book,
+    parameters: HashMap<Name, u32>,
+    packets: HashMap<u32, u32>,
+    packet_kinds: HashMap<PacketKey, u32>,
+    curves: HashMap<Name, u32>,
+    texts: HashMap<Name, u32>,
+    polynomials: HashMap<Name, u32>,
+    logarithms: HashMap<Name, u32>,
+    checks: HashMap<Name, u32>,
+    selections: HashMap<Name, u32>,
+    structure_rows: HashMap<u32, u32>,
+    points: HashMap<Name, u32>,
+    point_places: HashMap<PointKey, u32>,
+    structures: HashMap<u32, Structure>,
 }
 
-fn pcf_row(row: &Row) -> Option<&PcfRow>
-    ensures { option_copied result ≡ as_pcf row.now }
+impl<'a> Model for Lookups<'a> {
+    ghost use Rattle.mib_model.specs.declared.database.Database.{Database};
+
+    ghost Value = { Database };
+
+    ghost use Rattle.mib_keys.specs.Known.{Known};
+
+    ghost view = { λ lookups. lookups.book.now };
+
+    ghost invariant = { Known };
+}
+
+// The row at a place that may have been found.
+pub fn row_at<R>(rows: &[R], place: Option<u32>) -> Option<&R>
+    ensures { option_copied result ≡ option_and_then (λ i. slice_get rows.now i) place }
 {
-    match row {
-        Row::Pcf(row) => Some(row),
-        _ => None,
+    match place {
+        Some(place) => rows.get(place as usize),
+        None => None,
     }
 }
 
-fn caf_row(row: &Row) -> Option<&CafRow>
-    ensures { option_copied result ≡ as_caf row.now }
-{
-    match row {
-        Row::Caf(row) => Some(row),
-        _ => None,
-    }
-}
-
-fn txf_row(row: &Row) -> Option<&TxfRow>
-    ensures { option_copied result ≡ as_txf row.now }
-{
-    match row {
-        Row::Txf(row) => Some(row),
-        _ => None,
-    }
-}
-
-impl<'a> Tables<'a> {
-    /// The first place, from 0, of a row with this key.
-    pub fn place(&self, key: Key) -> Option<u32>
-        requires { Known self.now.maps.now self.now.book.now }
-        ensures { result ≡ position (has_key key) (rows_of self.now.book.now (kind_of_key key)) }
+impl<'a> Lookups<'a> {
+    /// The maps of a book's tables.
+    pub fn new(alloc: Global, book: &'a Book) -> Result<Lookups<'a>, AllocError>
+        ensures { IfOk result (λ lookups. lookups ≡ book.now) }
     {
-        self.maps.places.get(&key).copied()
+        let curves = places(alloc, &ByCurve, book.caf())?;
+        let point_places = point_places(alloc, book, &curves)?;
+        Ok(Lookups {
+            book,
+            parameters: places(alloc, &ByParameter, book.pcf())?,
+            packets: places(alloc, &BySpid, book.pid())?,
+            packet_kinds: places(alloc, &ByPacket, book.pid())?,
+            curves,
+            texts: places(alloc, &ByTexts, book.txf())?,
+            polynomials: places(alloc, &ByPolynomial, book.mcf())?,
+            logarithms: places(alloc, &ByLogarithm, book.lgf())?,
+            checks: places(alloc, &ByCheck, book.ocf())?,
+            selections: count(alloc, &BySelector, book.cur())?,
+            structure_rows: count(alloc, &ByStructure, book.vpd())?,
+            points: count(alloc, &ByPointCurve, book.cap())?,
+            point_places,
+            structures: structures(alloc, book.vpd())?,
+        })
     }
 
-    /// Whether a row has this key.
-    #[tactic(auto, using(crate::proofs::LookupFacts::lookups))]
-    pub fn has(&self, key: Key) -> bool
-        requires { Known self.now.maps.now self.now.book.now }
-        ensures { result ≡ is_held key (rows_of self.now.book.now (kind_of_key key)) }
+    /// The book.
+    pub fn book(&self) -> &'a Book
+        ensures { result.now ≡ self.now }
     {
-        self.place(key).is_some()
+        self.book
     }
 
-    /// The first place of a packet of this kind.
-    pub fn packet_place(&self, row: &PidRow) -> Option<u32>
-        requires { Known self.now.maps.now self.now.book.now }
-        ensures { result ≡ position (is_packet (packet_of row.now)) self.now.book.now.pid }
+    /// The first place, from 0, of such a row.
+    pub fn parameter_place(&self, name: Name) -> Option<u32>
+        ensures { result ≡ position (λ row. bytes_eq row.name name) self.now.pcf }
     {
-        let key = PacketKey {
-            apid: row.apid,
-            service: row.service,
-            subtype: row.subtype,
-            pi1_val: row.pi1_val,
-            pi2_val: row.pi2_val,
-        };
-        self.maps.packets.get(&key).copied()
+        self.parameters.get(&name).copied()
     }
 
-    // The first row of a table with this key.
-    fn row(&self, table: Kind, key: Key) -> Option<&'a Row>
-        requires known { Known self.now.maps.now self.now.book.now }
-        requires own { table ≡ kind_of_key key }
-        ensures { option_copied result ≡ find (has_key key) (rows_of self.now.book.now (kind_of_key key)) }
+    /// The first place, from 0, of such a row.
+    pub fn spid_place(&self, spid: u32) -> Option<u32>
+        ensures { result ≡ position (λ row. row.spid == spid) self.now.pid }
     {
-        match self.place(key) {
-            Some(place) => self.book.row(table, place),
-            None => None,
-        }
+        self.packets.get(&spid).copied()
+    }
+
+    /// The first place, from 0, of such a row.
+    pub fn packet_place(&self, key: PacketKey) -> Option<u32>
+        ensures { result ≡ position (λ row. packet_eq (packet_of row) key) self.now.pid }
+    {
+        self.packet_kinds.get(&key).copied()
+    }
+
+    /// The first place, from 0, of such a row.
+    pub fn curve_place(&self, numbr: Name) -> Option<u32>
+        ensures { result ≡ position (λ row. bytes_eq row.numbr numbr) self.now.caf }
+    {
+        self.curves.get(&numbr).copied()
+    }
+
+    /// The first place, from 0, of such a row.
+    pub fn texts_place(&self, numbr: Name) -> Option<u32>
+        ensures { result ≡ position (λ row. bytes_eq row.numbr numbr) self.now.txf }
+    {
+        self.texts.get(&numbr).copied()
+    }
+
+    /// The first place, from 0, of such a row.
+    pub fn polynomial_place(&self, ident: Name) -> Option<u32>
+        ensures { result ≡ position (λ row. bytes_eq row.ident ident) self.now.mcf }
+    {
+        self.polynomials.get(&ident).copied()
+    }
+
+    /// The first place, from 0, of such a row.
+    pub fn logarithm_place(&self, ident: Name) -> Option<u32>
+        ensures { result ≡ position (λ row. bytes_eq row.ident ident) self.now.lgf }
+    {
+        self.logarithms.get(&ident).copied()
+    }
+
+    /// The first place, from 0, of such a row.
+    pub fn check_place(&self, name: Name) -> Option<u32>
+        ensures { result ≡ position (λ row. bytes_eq row.name name) self.now.ocf }
+    {
+        self.checks.get(&name).copied()
     }
 
     /// The first parameter of a name.
+    #[tactic(auto, using(crate::proofs::LookupFacts::lookups))]
     pub fn parameter(&self, name: Name) -> Option<&'a PcfRow>
-        requires { Known self.now.maps.now self.now.book.now }
-        ensures { option_copied result ≡ parameter self.now.book.now.pcf name }
+        ensures { option_copied result ≡ parameter self.now.pcf name }
     {
-        match self.row(Kind::Pcf, Key::Pcf { name }) {
-            Some(row) => pcf_row(row),
-            None => None,
-        }
+        row_at(self.book().pcf(), self.parameter_place(name))
     }
 
     /// The first curve by points of a name.
+    #[tactic(auto, using(crate::proofs::LookupFacts::lookups))]
     pub fn curve(&self, numbr: Name) -> Option<&'a CafRow>
-        requires { Known self.now.maps.now self.now.book.now }
-        ensures { option_copied result ≡ find (λ caf. bytes_eq caf.numbr numbr) self.now.book.now.caf }
+        ensures { option_copied result ≡ find (λ caf. bytes_eq caf.numbr numbr) self.now.caf }
     {
-        match self.row(Kind::Caf, Key::Caf { numbr }) {
-            Some(row) => caf_row(row),
-            None => None,
-        }
+        row_at(self.book().caf(), self.curve_place(numbr))
     }
 
     /// The first curve by texts of a name.
+    #[tactic(auto, using(crate::proofs::LookupFacts::lookups))]
     pub fn texts(&self, numbr: Name) -> Option<&'a TxfRow>
-        requires { Known self.now.maps.now self.now.book.now }
-        ensures { option_copied result ≡ find (λ txf. bytes_eq txf.numbr numbr) self.now.book.now.txf }
+        ensures { option_copied result ≡ find (λ txf. bytes_eq txf.numbr numbr) self.now.txf }
     {
-        match self.row(Kind::Txf, Key::Txf { numbr }) {
-            Some(row) => txf_row(row),
-            None => None,
-        }
+        row_at(self.book().txf(), self.texts_place(numbr))
     }
 
-    /// Whether `pcf` has a row of this key.
+    /// Whether `pcf` has such a row.
+    #[tactic(auto, using(crate::proofs::LookupFacts::lookups))]
     pub fn has_parameter(&self, name: Name) -> bool
-        requires { Known self.now.maps.now self.now.book.now }
-        ensures { result ≡ has_parameter self.now.book.now name }
+        ensures { result ≡ has_parameter self.now name }
     {
-        self.has(Key::Pcf { name })
+        self.parameter_place(name).is_some()
     }
 
-    /// Whether `pid` has a row of this key.
+    /// Whether `pid` has such a row.
+    #[tactic(auto, using(crate::proofs::LookupFacts::lookups))]
     pub fn has_packet(&self, spid: u32) -> bool
-        requires { Known self.now.maps.now self.now.book.now }
-        ensures { result ≡ has_packet self.now.book.now spid }
+        ensures { result ≡ has_packet self.now spid }
     {
-        self.has(Key::Pid { spid })
+        self.spid_place(spid).is_some()
     }
 
-    /// Whether `caf` has a row of this key.
+    /// Whether `caf` has such a row.
+    #[tactic(auto, using(crate::proofs::LookupFacts::lookups))]
     pub fn has_points(&self, numbr: Name) -> bool
-        requires { Known self.now.maps.now self.now.book.now }
-        ensures { result ≡ has_points self.now.book.now numbr }
+        ensures { result ≡ has_points self.now numbr }
     {
-        self.has(Key::Caf { numbr })
+        self.curve_place(numbr).is_some()
     }
 
-    /// Whether `txf` has a row of this key.
+    /// Whether `txf` has such a row.
+    #[tactic(auto, using(crate::proofs::LookupFacts::lookups))]
     pub fn has_texts(&self, numbr: Name) -> bool
-        requires { Known self.now.maps.now self.now.book.now }
-        ensures { result ≡ has_texts self.now.book.now numbr }
+        ensures { result ≡ has_texts self.now numbr }
     {
-        self.has(Key::Txf { numbr })
+        self.texts_place(numbr).is_some()
     }
 
-    /// Whether `mcf` has a row of this key.
+    /// Whether `mcf` has such a row.
+    #[tactic(auto, using(crate::proofs::LookupFacts::lookups))]
     pub fn has_polynomial(&self, ident: Name) -> bool
-        requires { Known self.now.maps.now self.now.book.now }
-        ensures { result ≡ has_polynomial self.now.book.now ident }
+        ensures { result ≡ has_polynomial self.now ident }
     {
-        self.has(Key::Mcf { ident })
+        self.polynomial_place(ident).is_some()
     }
 
-    /// Whether `lgf` has a row of this key.
+    /// Whether `lgf` has such a row.
+    #[tactic(auto, using(crate::proofs::LookupFacts::lookups))]
     pub fn has_logarithm(&self, ident: Name) -> bool
-        requires { Known self.now.maps.now self.now.book.now }
-        ensures { result ≡ has_logarithm self.now.book.now ident }
+        ensures { result ≡ has_logarithm self.now ident }
     {
-        self.has(Key::Lgf { ident })
+        self.logarithm_place(ident).is_some()
     }
 
-    /// Whether `ocf` has a row of this key.
+    /// Whether `ocf` has such a row.
+    #[tactic(auto, using(crate::proofs::LookupFacts::lookups))]
     pub fn has_check(&self, name: Name) -> bool
-        requires { Known self.now.maps.now self.now.book.now }
-        ensures { result ≡ has_check self.now.book.now name }
+        ensures { result ≡ has_check self.now name }
     {
-        self.has(Key::Ocf { name })
+        self.check_place(name).is_some()
     }
 
     /// How many rows a structure has.
     pub fn structure_rows(&self, tpsd: u32) -> u32
-        requires { Known self.now.maps.now self.now.book.now }
-        ensures { result ≡ length (filter (λ row. row.tpsd == tpsd) self.now.book.now.vpd) }
+        ensures { result ≡ length (filter (λ row. row.tpsd == tpsd) self.now.vpd) }
     {
-        self.maps.structures.get(&tpsd).copied().unwrap_or(0)
+        self.structure_rows.get(&tpsd).copied().unwrap_or(0)
     }
 
     /// How many points a curve has.
     pub fn points(&self, numbr: Name) -> u32
-        requires { Known self.now.maps.now self.now.book.now }
-        ensures { result ≡ length (points_in self.now.book.now numbr) }
+        ensures { result ≡ length (points_in self.now numbr) }
     {
-        self.maps.points.get(&numbr).copied().unwrap_or(0)
+        self.points.get(&numbr).copied().unwrap_or(0)
     }
 
     /// How many curves are selected for a parameter.
     pub fn selections(&self, pname: Name) -> u32
-        requires { Known self.now.maps.now self.now.book.now }
-        ensures { result ≡ length (filter (λ cur. bytes_eq cur.pname pname) self.now.book.now.cur) }
+        ensures { result ≡ length (filter (λ cur. bytes_eq cur.pname pname) self.now.cur) }
     {
-        self.maps.selections.get(&pname).copied().unwrap_or(0)
+        self.selections.get(&pname).copied().unwrap_or(0)
+    }
+
+    /// The first place of a point.
+    pub fn point_place(&self, key: PointKey) -> Option<u32>
+        ensures { result ≡ first_place point_eq (point_in self.now.caf) self.now.cap key }
+    {
+        self.point_places.get(&key).copied()
+    }
+
+    /// The rows of a structure by POS, if it has some.
+    pub fn structure(&self, tpsd: u32) -> Option<&Structure>
+        ensures { spots_in (option_copied result) ≡ map spot_of (structure self.now (pos tpsd)) }
+    {
+        self.structures.get(&tpsd)
     }
 }

@@ -1,26 +1,26 @@
 // The rules for points and texts of curves, whose bounds are whole numbers.
 // [SCOS-2000 Database Import ICD, cap and txp.]
-ghost use Rattle.std.specs.Prelude.{◌≡◌, ◌≤◌, ◌-◌, ◌&&◌, ◌||◌, not, drop, take, is_none, length, Option, Some, None, IfOk};
-ghost use Rattle.std.specs.BTreeMap.{get};
+ghost use Rattle.std.specs.Prelude.{◌≡◌, ◌≤◌, ℕ, List, ◌-◌, ◌&&◌, ◌||◌, not, drop, take, is_none, length, position, Option, Some, None, IfOk};
+ghost use Rattle.std.specs.HashMap.{get};
+ghost use Rattle.std.specs.List.{find};
+ghost use Rattle.std.specs.Str.{bytes_eq};
 ghost use Rattle.std.specs.Option.{option_copied};
 ghost use Rattle.mib_model.specs.RowFlaws.{txp_rules, cap_rules, is_bad_range, is_bad_point};
 ghost use Rattle.mib_model.specs.WholeNumbers.{decimal_whole, whole_number};
-ghost use Rattle.mib_tables.specs.Shelves.{values_in};
 ghost use Rattle.mib_keys.specs.Firsts.{flaw_by};
-ghost use Rattle.mib_keys.specs.Known.{Known};
 ghost use Rattle.mib_keys.specs.Indexes.{first_place};
-ghost use Rattle.mib_keys.specs.Points.{point_in, point_at, ArePoints, point_cmp, repeats, is_repeated_point};
+ghost use Rattle.mib_keys.specs.Points.{point_in, point_of, point_at, point_eq, repeats, is_repeated_point};
 ghost use Rattle.mib_keys.specs.Indexes.{cut};
 
 use crate::flaw::At;
 use crate::index::note_key;
-use crate::lookups::Tables;
-use crate::maps::PointKey;
+use crate::keys::PointKey;
+use crate::lookups::{Lookups, row_at};
 use dec_num::{decimal_whole, whole_number};
-use mib_model::{CafRow, CapRow, Kind, MibCode, MibFault, Name, Row, TxfRow, TxpRow};
+use mib_model::{CafRow, CapRow, Kind, MibCode, MibFault, Name, TxfRow, TxpRow};
+use mib_tables::Book;
 use std::alloc::{AllocError, Global};
-use std::collections::BTreeMap;
-use std::sync::Arc;
+use std::collections::HashMap;
 
 fn is_bad_range(texts: Option<&TxfRow>, row: &TxpRow) -> bool
     ensures { result ≡ is_bad_range (option_copied texts.entry) row.now }
@@ -36,16 +36,15 @@ fn is_bad_range(texts: Option<&TxfRow>, row: &TxpRow) -> bool
 }
 
 /// TXP: bounds that are whole numbers.
-pub fn txp_flaw(tables: &Tables<'_>, number: u32, row: &TxpRow) -> Option<MibFault>
-    requires { Known tables.now.maps.now tables.now.book.now }
-    ensures { result ≡ flaw_by Kind.Txp number (drop 1 (txp_rules tables.now.book.now)) (take (number - 1) tables.now.book.now.txp) row.now }
+pub fn txp_flaw(lookups: &Lookups<'_>, number: u32, row: &TxpRow) -> Option<MibFault>
+    ensures { result ≡ flaw_by Kind.Txp number (drop 1 (txp_rules lookups.now)) (take (number - 1) lookups.now.txp) row.now }
 {
     let at = At {
         table: Kind::Txp,
         number,
     };
-    let bad = is_bad_range(tables.texts(row.numbr), row);
-    at.missing(&[(1, tables.has_texts(row.numbr))])
+    let bad = is_bad_range(lookups.texts(row.numbr), row);
+    at.missing(&[(1, lookups.has_texts(row.numbr))])
         .or(at.flaw_if(MibCode::Points, bad))
 }
 
@@ -65,33 +64,43 @@ fn point_at(numbr: Name, x: Option<i128>) -> Option<PointKey>
     }
 }
 
-// The curve and the number of a row, where it has both.
-fn point_in(tables: &Tables<'_>, row: &Row) -> Option<PointKey>
-    requires { Known tables.now.maps.now tables.now.book.now }
-    ensures { result ≡ point_in tables.now.book.now row.now }
+// The first curve of a name.
+#[tactic(auto, using(crate::proofs::LookupFacts::lookups))]
+fn curve_of<'a>(
+    curves: &HashMap<Name, u32>,
+    cafs: &'a [CafRow],
+    numbr: Name,
+) -> Option<&'a CafRow>
+    requires { (q : List ℕ) → get bytes_eq curves.now q ≡ position (λ caf. bytes_eq caf.numbr q) cafs.now }
+    ensures { option_copied result ≡ find (λ caf. bytes_eq caf.numbr numbr) cafs.now }
 {
-    match row {
-        Row::Cap(row) => match tables.curve(row.numbr) {
-            Some(curve) => point_at(row.numbr, whole_number(curve.radix, row.xvals.bytes())),
-            None => None,
-        },
-        _ => None,
+    row_at(cafs, curves.get(&numbr).copied())
+}
+
+// The curve and the number of a row, where it has both.
+fn point_of(curve: Option<&CafRow>, row: &CapRow) -> Option<PointKey>
+    ensures { result ≡ point_of (option_copied curve.entry) row.now }
+{
+    match curve {
+        Some(curve) => point_at(row.numbr, whole_number(curve.radix, row.xvals.bytes())),
+        None => None,
     }
 }
 
 /// The first place of each point.
-pub fn points(
+pub fn point_places(
     alloc: Global,
-    tables: &Tables<'_>,
-    rows: &[Arc<Row>],
-) -> Result<BTreeMap<PointKey, u32>, AllocError>
-    requires known { Known tables.now.maps.now tables.now.book.now }
-    requires few { length rows.now ≤ 1000000000 }
-    ensures { IfOk result (λ points. (q : PointKey) → get point_cmp points q ≡ first_place point_cmp (point_in tables.now.book.now) (values_in rows.now) q) }
+    book: &Book,
+    curves: &HashMap<Name, u32>,
+) -> Result<HashMap<PointKey, u32>, AllocError>
+    requires { (q : List ℕ) → get bytes_eq curves.now q ≡ position (λ caf. bytes_eq caf.numbr q) book.now.caf }
+    ensures { IfOk result (λ points. (q : PointKey) → get point_eq points q ≡ first_place point_eq (point_in book.now.caf) book.now.cap q) }
 {
-    let mut points = BTreeMap::new(alloc);
-    for (place, row) in rows.iter().enumerate() {
-        note_key(&mut points, point_in(tables, row), place as u32)?;
+    let cafs = book.caf();
+    let caps = book.cap();
+    let mut points = HashMap::with_capacity(alloc, caps.len())?;
+    for (place, row) in caps.iter().enumerate() {
+        note_key(&mut points, point_of(curve_of(curves, cafs, row.numbr), row), place as u32)?;
     }
     Ok(points)
 }
@@ -113,30 +122,30 @@ pub fn before(place: Option<u32>, number: u32) -> Option<u32>
 }
 
 // The number isn't whole, or an earlier point has it.
-fn repeats(points: &BTreeMap<PointKey, u32>, number: u32, numbr: Name, x: Option<i128>) -> bool
-    ensures { result ≡ repeats (get point_cmp points.now) number numbr x }
+fn repeats(lookups: &Lookups<'_>, number: u32, numbr: Name, x: Option<i128>) -> bool
+    ensures { result ≡ repeats (first_place point_eq (point_in lookups.now.caf) lookups.now.cap) number numbr x }
 {
     match x {
         Some(x) => {
             let key = point_key(numbr, x);
-            before(points.get(&key).copied(), number).is_some()
+            before(lookups.point_place(key), number).is_some()
         }
         None => true,
     }
 }
 
 fn is_bad_point(
-    points: &BTreeMap<PointKey, u32>,
+    lookups: &Lookups<'_>,
     number: u32,
     curve: Option<&CafRow>,
     row: &CapRow,
 ) -> bool
-    ensures { result ≡ is_repeated_point (get point_cmp points.now) number (option_copied curve.entry) row.now }
+    ensures { result ≡ is_repeated_point (first_place point_eq (point_in lookups.now.caf) lookups.now.cap) number (option_copied curve.entry) row.now }
 {
     match curve {
         Some(curve) => {
             let x = whole_number(curve.radix, row.xvals.bytes());
-            curve.rawfmt != b'R' && repeats(points, number, row.numbr, x)
+            curve.rawfmt != b'R' && repeats(lookups, number, row.numbr, x)
         }
         None => false,
     }
@@ -144,20 +153,17 @@ fn is_bad_point(
 
 /// CAP: the curve of a point, and each point at a whole number of its own.
 pub fn cap_flaw(
-    tables: &Tables<'_>,
-    points: &BTreeMap<PointKey, u32>,
+    lookups: &Lookups<'_>,
     number: u32,
     row: &CapRow,
 ) -> Option<MibFault>
-    requires known { Known tables.now.maps.now tables.now.book.now }
-    requires points { ArePoints points.now tables.now.book.now }
-    ensures { result ≡ flaw_by Kind.Cap number (drop 1 (cap_rules tables.now.book.now)) (take (number - 1) tables.now.book.now.cap) row.now }
+    ensures { result ≡ flaw_by Kind.Cap number (drop 1 (cap_rules lookups.now)) (take (number - 1) lookups.now.cap) row.now }
 {
     let at = At {
         table: Kind::Cap,
         number,
     };
-    let bad = is_bad_point(points, number, tables.curve(row.numbr), row);
-    at.missing(&[(1, tables.has_points(row.numbr))])
+    let bad = is_bad_point(lookups, number, lookups.curve(row.numbr), row);
+    at.missing(&[(1, lookups.has_points(row.numbr))])
         .or(at.flaw_if(MibCode::Points, bad))
 }

@@ -1,5 +1,5 @@
 // The rules of soundness, table by table, but for rows that stand twice: the first flaw of a row.
-// [SCOS-2000 Database Import ICD, integrity of the tables.]
+// [SCOS-2000 Database Import ICD, integrity of the lookups.]
 ghost use Rattle.std.specs.Prelude.{◌≡◌, ◌-◌, ◌==◌, ◌&&◌, ◌||◌, int_lt, pos, drop, take, is_some, is_none, Option, Some, None};
 ghost use Rattle.std.specs.Option.{option_copied};
 ghost use Rattle.mib_model.specs.Parameters.{parameter, is_measured, parameter_encoding};
@@ -7,10 +7,9 @@ ghost use Rattle.mib_model.specs.References.{has_parameter, has_structure, has_c
 ghost use Rattle.mib_model.specs.RowFlaws.{pcf_rules, pid_rules, plf_rules, cur_rules, caf_rules, ocf_rules, ocp_rules, has_selections, is_narrow, is_measured_deduced, has_curve_of};
 ghost use Rattle.mib_model.specs.Structures.{is_deduced};
 ghost use Rattle.mib_keys.specs.Firsts.{flaw_by};
-ghost use Rattle.mib_keys.specs.Known.{Known};
 
 use crate::flaw::At;
-use crate::lookups::Tables;
+use crate::lookups::Lookups;
 use crate::types::encoding;
 use mib_model::{
     CafRow, CurRow, Kind, MibCode, MibFault, Name, OcfRow, OcpRow, PcfRow, PidRow, PlfRow,
@@ -31,37 +30,34 @@ pub fn is_deduced(row: &PcfRow) -> bool
 }
 
 // A curve of a category.
-fn has_curve(tables: &Tables<'_>, categ: u8, name: Name) -> bool
-    requires { Known tables.now.maps.now tables.now.book.now }
-    ensures { result ≡ has_curve tables.now.book.now categ name }
+fn has_curve(lookups: &Lookups<'_>, categ: u8, name: Name) -> bool
+    ensures { result ≡ has_curve lookups.now categ name }
 {
     match categ {
-        b'S' => tables.has_texts(name),
+        b'S' => lookups.has_texts(name),
         b'T' => true,
         _ => {
-            tables.has_points(name) || tables.has_polynomial(name) || tables.has_logarithm(name)
+            lookups.has_points(name) || lookups.has_polynomial(name) || lookups.has_logarithm(name)
         }
     }
 }
 
 // A parameter that may be left out.
-fn has_given_parameter(tables: &Tables<'_>, name: Option<Name>) -> bool
-    requires { Known tables.now.maps.now tables.now.book.now }
-    ensures { result ≡ if_given name (has_parameter tables.now.book.now) }
+fn has_given_parameter(lookups: &Lookups<'_>, name: Option<Name>) -> bool
+    ensures { result ≡ if_given name (has_parameter lookups.now) }
 {
     match name {
-        Some(name) => tables.has_parameter(name),
+        Some(name) => lookups.has_parameter(name),
         None => true,
     }
 }
 
 // A curve that may be left out.
-fn has_given_curve(tables: &Tables<'_>, categ: u8, name: Option<Name>) -> bool
-    requires { Known tables.now.maps.now tables.now.book.now }
-    ensures { result ≡ if_given name (has_curve tables.now.book.now categ) }
+fn has_given_curve(lookups: &Lookups<'_>, categ: u8, name: Option<Name>) -> bool
+    ensures { result ≡ if_given name (has_curve lookups.now categ) }
 {
     match name {
-        Some(name) => has_curve(tables, categ, name),
+        Some(name) => has_curve(lookups, categ, name),
         None => true,
     }
 }
@@ -76,11 +72,10 @@ fn is_narrow(row: &PcfRow) -> bool
     }
 }
 
-fn has_selections(tables: &Tables<'_>, name: Name) -> bool
-    requires { Known tables.now.maps.now tables.now.book.now }
-    ensures { result ≡ has_selections tables.now.book.now name }
+fn has_selections(lookups: &Lookups<'_>, name: Name) -> bool
+    ensures { result ≡ has_selections lookups.now name }
 {
-    tables.selections(name) != 0
+    lookups.selections(name) != 0
 }
 
 fn has_unknown_type(row: &PcfRow) -> bool
@@ -90,42 +85,39 @@ fn has_unknown_type(row: &PcfRow) -> bool
 }
 
 /// PCF: references of measured parameters, their types and widths, and a curve beside selections.
-pub fn pcf_flaw(tables: &Tables<'_>, number: u32, row: &PcfRow) -> Option<MibFault>
-    requires { Known tables.now.maps.now tables.now.book.now }
-    ensures { result ≡ flaw_by Kind.Pcf number (drop 1 (pcf_rules tables.now.book.now)) (take (number - 1) tables.now.book.now.pcf) row.now }
+pub fn pcf_flaw(lookups: &Lookups<'_>, number: u32, row: &PcfRow) -> Option<MibFault>
+    ensures { result ≡ flaw_by Kind.Pcf number (drop 1 (pcf_rules lookups.now)) (take (number - 1) lookups.now.pcf) row.now }
 {
     let at = At {
         table: Kind::Pcf,
         number,
     };
-    let valid = !is_measured(row) || has_given_parameter(tables, row.valid);
-    let curve = !is_measured(row) || has_given_curve(tables, row.categ, row.curtx);
+    let valid = !is_measured(row) || has_given_parameter(lookups, row.valid);
+    let curve = !is_measured(row) || has_given_curve(lookups, row.categ, row.curtx);
     let bad_type = is_measured(row) && has_unknown_type(row);
     let narrow = is_measured(row) && !is_deduced(row) && is_narrow(row);
-    let both = is_measured(row) && row.curtx.is_some() && has_selections(tables, row.name);
+    let both = is_measured(row) && row.curtx.is_some() && has_selections(lookups, row.name);
     at.missing(&[(8, valid), (12, curve)])
         .or(at.flaw_if(MibCode::BadType, bad_type))
         .or(at.flaw_if(MibCode::Width, narrow))
         .or(at.flaw_if(MibCode::Both, both))
 }
 
-fn has_given_structure(tables: &Tables<'_>, tpsd: i32) -> bool
-    requires { Known tables.now.maps.now tables.now.book.now }
-    ensures { result ≡ (int_lt tpsd (pos 1) || has_structure tables.now.book.now tpsd) }
+fn has_given_structure(lookups: &Lookups<'_>, tpsd: i32) -> bool
+    ensures { result ≡ (int_lt tpsd (pos 1) || has_structure lookups.now tpsd) }
 {
-    tpsd < 1 || tables.structure_rows(tpsd.unsigned_abs()) != 0
+    tpsd < 1 || lookups.structure_rows(tpsd.unsigned_abs()) != 0
 }
 
 /// PID: the structure of a packet.
-pub fn pid_flaw(tables: &Tables<'_>, number: u32, row: &PidRow) -> Option<MibFault>
-    requires { Known tables.now.maps.now tables.now.book.now }
-    ensures { result ≡ flaw_by Kind.Pid number (drop 1 (pid_rules tables.now.book.now)) (take (number - 1) tables.now.book.now.pid) row.now }
+pub fn pid_flaw(lookups: &Lookups<'_>, number: u32, row: &PidRow) -> Option<MibFault>
+    ensures { result ≡ flaw_by Kind.Pid number (drop 1 (pid_rules lookups.now)) (take (number - 1) lookups.now.pid) row.now }
 {
     let at = At {
         table: Kind::Pid,
         number,
     };
-    at.missing(&[(9, has_given_structure(tables, row.tpsd))])
+    at.missing(&[(9, has_given_structure(lookups, row.tpsd))])
 }
 
 fn is_measured_deduced(row: Option<&PcfRow>) -> bool
@@ -138,84 +130,78 @@ fn is_measured_deduced(row: Option<&PcfRow>) -> bool
 }
 
 /// PLF: a parameter and a packet, and no deduced parameter.
-pub fn plf_flaw(tables: &Tables<'_>, number: u32, row: &PlfRow) -> Option<MibFault>
-    requires { Known tables.now.maps.now tables.now.book.now }
-    ensures { result ≡ flaw_by Kind.Plf number (drop 1 (plf_rules tables.now.book.now)) (take (number - 1) tables.now.book.now.plf) row.now }
+pub fn plf_flaw(lookups: &Lookups<'_>, number: u32, row: &PlfRow) -> Option<MibFault>
+    ensures { result ≡ flaw_by Kind.Plf number (drop 1 (plf_rules lookups.now)) (take (number - 1) lookups.now.plf) row.now }
 {
     let at = At {
         table: Kind::Plf,
         number,
     };
-    let deduced = is_measured_deduced(tables.parameter(row.name));
+    let deduced = is_measured_deduced(lookups.parameter(row.name));
     at.missing(&[
-        (1, tables.has_parameter(row.name)),
-        (2, tables.has_packet(row.spid)),
+        (1, lookups.has_parameter(row.name)),
+        (2, lookups.has_packet(row.spid)),
     ])
     .or(at.flaw_if(MibCode::BadType, deduced))
 }
 
 // A curve of the category of a parameter.
-fn has_curve_of(tables: &Tables<'_>, row: Option<&PcfRow>, name: Name) -> bool
-    requires { Known tables.now.maps.now tables.now.book.now }
-    ensures { result ≡ has_curve_of tables.now.book.now (option_copied row.entry) name }
+fn has_curve_of(lookups: &Lookups<'_>, row: Option<&PcfRow>, name: Name) -> bool
+    ensures { result ≡ has_curve_of lookups.now (option_copied row.entry) name }
 {
     match row {
-        Some(row) => has_curve(tables, row.categ, name),
+        Some(row) => has_curve(lookups, row.categ, name),
         None => true,
     }
 }
 
 /// CUR: the parameters and the curve of a selection.
-pub fn cur_flaw(tables: &Tables<'_>, number: u32, row: &CurRow) -> Option<MibFault>
-    requires { Known tables.now.maps.now tables.now.book.now }
-    ensures { result ≡ flaw_by Kind.Cur number (drop 1 (cur_rules tables.now.book.now)) (take (number - 1) tables.now.book.now.cur) row.now }
+pub fn cur_flaw(lookups: &Lookups<'_>, number: u32, row: &CurRow) -> Option<MibFault>
+    ensures { result ≡ flaw_by Kind.Cur number (drop 1 (cur_rules lookups.now)) (take (number - 1) lookups.now.cur) row.now }
 {
     let at = At {
         table: Kind::Cur,
         number,
     };
-    let curve = has_curve_of(tables, tables.parameter(row.pname), row.curve);
+    let curve = has_curve_of(lookups, lookups.parameter(row.pname), row.curve);
     at.missing(&[
-        (1, tables.has_parameter(row.pname)),
-        (3, tables.has_parameter(row.rlchk)),
+        (1, lookups.has_parameter(row.pname)),
+        (3, lookups.has_parameter(row.rlchk)),
         (5, curve),
     ])
 }
 
 /// CAF: two points at least, where the raw values are whole numbers.
-pub fn caf_flaw(tables: &Tables<'_>, number: u32, row: &CafRow) -> Option<MibFault>
-    requires { Known tables.now.maps.now tables.now.book.now }
-    ensures { result ≡ flaw_by Kind.Caf number (drop 1 (caf_rules tables.now.book.now)) (take (number - 1) tables.now.book.now.caf) row.now }
+pub fn caf_flaw(lookups: &Lookups<'_>, number: u32, row: &CafRow) -> Option<MibFault>
+    ensures { result ≡ flaw_by Kind.Caf number (drop 1 (caf_rules lookups.now)) (take (number - 1) lookups.now.caf) row.now }
 {
     let at = At {
         table: Kind::Caf,
         number,
     };
-    let few = row.rawfmt != b'R' && tables.points(row.numbr) < 2;
+    let few = row.rawfmt != b'R' && lookups.points(row.numbr) < 2;
     at.flaw_if(MibCode::Points, few)
 }
 
 /// OCF: the parameter of a check.
-pub fn ocf_flaw(tables: &Tables<'_>, number: u32, row: &OcfRow) -> Option<MibFault>
-    requires { Known tables.now.maps.now tables.now.book.now }
-    ensures { result ≡ flaw_by Kind.Ocf number (drop 1 (ocf_rules tables.now.book.now)) (take (number - 1) tables.now.book.now.ocf) row.now }
+pub fn ocf_flaw(lookups: &Lookups<'_>, number: u32, row: &OcfRow) -> Option<MibFault>
+    ensures { result ≡ flaw_by Kind.Ocf number (drop 1 (ocf_rules lookups.now)) (take (number - 1) lookups.now.ocf) row.now }
 {
     let at = At {
         table: Kind::Ocf,
         number,
     };
-    at.missing(&[(1, tables.has_parameter(row.name))])
+    at.missing(&[(1, lookups.has_parameter(row.name))])
 }
 
 /// OCP: the check of a limit, and the parameter of its condition.
-pub fn ocp_flaw(tables: &Tables<'_>, number: u32, row: &OcpRow) -> Option<MibFault>
-    requires { Known tables.now.maps.now tables.now.book.now }
-    ensures { result ≡ flaw_by Kind.Ocp number (drop 1 (ocp_rules tables.now.book.now)) (take (number - 1) tables.now.book.now.ocp) row.now }
+pub fn ocp_flaw(lookups: &Lookups<'_>, number: u32, row: &OcpRow) -> Option<MibFault>
+    ensures { result ≡ flaw_by Kind.Ocp number (drop 1 (ocp_rules lookups.now)) (take (number - 1) lookups.now.ocp) row.now }
 {
     let at = At {
         table: Kind::Ocp,
         number,
     };
-    let condition = has_given_parameter(tables, row.rlchk);
-    at.missing(&[(1, tables.has_check(row.name)), (6, condition)])
+    let condition = has_given_parameter(lookups, row.rlchk);
+    at.missing(&[(1, lookups.has_check(row.name)), (6, condition)])
 }

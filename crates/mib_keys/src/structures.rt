@@ -1,14 +1,12 @@
 // The rows of structures by POS, with the ends of their groups. [SCOS-2000 Database Import ICD, vpd.]
-ghost use Rattle.std.specs.Prelude.{◌≡◌, ◌≤◌, ◌++◌, ◌∷◌, [], ℕ, filter, length, nat_lt, OnOk, IfOk, if◌then◌else◌};
+ghost use Rattle.std.specs.Prelude.{◌≡◌, ◌≤◌, ◌++◌, ◌∷◌, [], ℕ, filter, length, map, nat_lt, OnOk, IfOk, if◌then◌else◌};
 ghost use Rattle.mib_model.specs.Orders.{sorted_by};
-ghost use Rattle.mib_tables.specs.Shelves.{values_in};
-ghost use Rattle.mib_keys.specs.Structures.{spot_in, spots_from, spots_at, by_pos, is_in, is_end_before, passes_spots, RisesByPos, IsByPos, IsNearest};
+ghost use Rattle.mib_keys.specs.Structures.{spot_of, spots_at, by_pos, is_in, is_end_before, passes_spots, RisesByPos, IsByPos, IsNearest};
 
-use mib_model::{Row, VpdRow};
+use mib_model::VpdRow;
 use std::alloc::{AllocError, Global};
-use std::collections::{BTreeMap, BTreeSet};
+use std::collections::{BTreeSet, HashMap};
 use std::marker::Model;
-use std::sync::Arc;
 
 /// What the groups of a structure are told by: the TPSD, the POS and the GRPSIZE of a row.
 #[derive(Clone, Copy)]
@@ -109,29 +107,26 @@ impl Structure {
     }
 }
 
-fn spot_in(row: &Row) -> Option<Spot>
-    ensures { result ≡ spot_in row.now }
+fn spot_of(row: &VpdRow) -> Spot
+    ensures { result ≡ spot_of row.now }
 {
-    match row {
-        Row::Vpd(row) => Some(Spot {
-            tpsd: row.tpsd,
-            pos: row.pos,
-            grpsize: row.grpsize,
-        }),
-        _ => None,
+    Spot {
+        tpsd: row.tpsd,
+        pos: row.pos,
+        grpsize: row.grpsize,
     }
 }
 
 // The rows of structures in the order of the file.
-fn spots_from(alloc: Global, rows: &[Arc<Row>]) -> Result<Vec<Spot>, AllocError>
-    ensures { IfOk result (λ spots. spots.items ≡ spots_from (values_in rows.now)) }
+fn spots_from(alloc: Global, rows: &[VpdRow]) -> Result<Vec<Spot>, AllocError>
+    ensures { IfOk result (λ spots. spots.items ≡ map spot_of rows.now) }
 {
-    rows.iter().filter_map(|row| spot_in(row)).collect(alloc)
+    rows.iter().map(spot_of).collect(alloc)
 }
 
 // The rows of structures by POS, those of one POS in the order of the file.
-fn sorted_spots(alloc: Global, rows: &[Arc<Row>]) -> Result<Vec<Spot>, AllocError>
-    ensures { IfOk result (λ spots. IsByPos (spots_from (values_in rows.now)) spots.items) }
+fn sorted_spots(alloc: Global, rows: &[VpdRow]) -> Result<Vec<Spot>, AllocError>
+    ensures { IfOk result (λ spots. IsByPos (map spot_of rows.now) spots.items) }
 {
     let mut spots = spots_from(alloc, rows)?;
     spots.sort_by_key(|spot| spot.pos)?;
@@ -141,7 +136,7 @@ fn sorted_spots(alloc: Global, rows: &[Arc<Row>]) -> Result<Vec<Spot>, AllocErro
 // Puts a row behind those of its structure.
 fn put_spot(
     alloc: Global,
-    structures: &mut BTreeMap<u32, Structure>,
+    structures: &mut HashMap<u32, Structure>,
     spot: Spot,
 ) -> Result<(), AllocError>
     ensures { OnOk result ((q : ℕ) → spots_at structures.new q ≡ (if is_in q spot then spots_at structures.old q ++ spot ∷ [] else spots_at structures.old q)) }
@@ -155,11 +150,11 @@ fn put_spot(
 }
 
 /// The rows of each structure by POS, those of one POS in the order of the file.
-pub fn structures(alloc: Global, rows: &[Arc<Row>]) -> Result<BTreeMap<u32, Structure>, AllocError>
-    ensures { IfOk result (λ structures. (q : ℕ) → spots_at structures q ≡ sorted_by by_pos (filter (is_in q) (spots_from (values_in rows.now)))) }
+pub fn structures(alloc: Global, rows: &[VpdRow]) -> Result<HashMap<u32, Structure>, AllocError>
+    ensures { IfOk result (λ structures. (q : ℕ) → spots_at structures q ≡ sorted_by by_pos (filter (is_in q) (map spot_of rows.now))) }
 {
     let spots = sorted_spots(alloc, rows)?;
-    let mut structures = BTreeMap::new(alloc);
+    let mut structures = HashMap::new(alloc);
     for spot in &spots {
         put_spot(alloc, &mut structures, *spot)?;
     }

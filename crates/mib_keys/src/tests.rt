@@ -10,7 +10,7 @@ use std::test::Fail;
 
 // The first flaw of a book that has these rows.
 fn first_flaw(alloc: Global, rows: &[Row]) -> Result<Option<MibFault>, AllocError> {
-    let mut book = Book::empty(alloc)?;
+    let mut book = Book::empty(alloc);
     for row in rows {
         book.put(*row)?;
     }

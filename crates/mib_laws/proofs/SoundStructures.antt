@@ -1,5 +1,5 @@
 -- The structures of a sound database are nested.
-use Rattle.std.proofs.Common.{◌≡◌, ◌≢◌, ℕ, zero, suc, ◌+◌, ◌-◌, ◌<◌, ◌≤◌, ℤ, pos, negsuc, Bool, true, false, cond, ◌&&◌, ◌||◌, List, [], ◌∷◌, ◌++◌, length, take, filter, filter_map, Option, Some, None, option_map, refl, sym, ap, subst, ◌∙◌, nat_eq, nat_lt, nat_le, nat_abs, add-zero, append_assoc, length-append, arith}
+use Rattle.std.proofs.Common.{◌≡◌, ◌≢◌, ℕ, zero, suc, ◌+◌, ◌-◌, ◌<◌, ◌≤◌, ℤ, pos, negsuc, Bool, true, false, cond, ◌&&◌, ◌||◌, List, [], ◌∷◌, ◌++◌, length, take, drop, filter, filter_map, Option, Some, None, option_map, refl, sym, ap, subst, ◌∙◌, nat_eq, nat_lt, nat_le, nat_abs, add-zero, append_assoc, length-append, arith}
 use Rattle.std.proofs.Math.Seq.{take-append_seam}
 use Rattle.std.proofs.lemmas.Bool.{eqb-true, eqb-false, eq-eqb, ne_eqb, ltb-false, le-leb}
 use Rattle.std.proofs.lemmas.Option.{none-some}
@@ -18,8 +18,8 @@ use Rattle.mib_model.specs.Flaws.{Rule, fault_of, row_flaws, table_flaws, twice,
 use Rattle.mib_model.specs.GroupFlaws.{vpd_rules, place_of, passes_end, passes_group, is_bad_group, does_too_much, repeats_nothing}
 use Rattle.mib_model.specs.Keys.{key_in, same_key}
 use Rattle.mib_model.specs.Orders.{sorted_by}
-use Rattle.mib_model.specs.RowFlaws.{cur_rules, caf_rules, cap_rules, txp_rules, ocf_rules, ocp_rules}
-use Rattle.mib_model.specs.Soundness.{IsSound, flaws}
+use Rattle.mib_model.specs.Kinds.{kinds}
+use Rattle.mib_model.specs.Soundness.{IsSound, flaws, flaws_of}
 use Rattle.mib_model.specs.Structures.{structure}
 use Rattle.mib_laws.proofs.Options.{option_map-none, or-false, position-none}
 use Rattle.mib_laws.proofs.Nesting.{Fits, Nested, Good, good-rows}
@@ -294,16 +294,12 @@ module _ (db : Database) (all : List VpdRow) where
 vpd-sound : (db : Database) → IsSound db → table_flaws kind.Vpd (vpd_rules db) db.vpd ≡ []
 unfolding flaws
 vpd-sound db sound =
-    let ocp = append-none _ (table_flaws kind.Ocp (ocp_rules db) db.ocp) sound in
-    let ocf = append-none _ (table_flaws kind.Ocf (ocf_rules db) db.ocf) ocp.0 in
-    let lgf = append-none _ (table_flaws kind.Lgf (twice row.Lgf ∷ []) db.lgf) ocf.0 in
-    let mcf = append-none _ (table_flaws kind.Mcf (twice row.Mcf ∷ []) db.mcf) lgf.0 in
-    let txp = append-none _ (table_flaws kind.Txp (txp_rules db) db.txp) mcf.0 in
-    let txf = append-none _ (table_flaws kind.Txf (twice row.Txf ∷ []) db.txf) txp.0 in
-    let cap = append-none _ (table_flaws kind.Cap (cap_rules db) db.cap) txf.0 in
-    let caf = append-none _ (table_flaws kind.Caf (caf_rules db) db.caf) cap.0 in
-    let cur = append-none _ (table_flaws kind.Cur (cur_rules db) db.cur) caf.0 in
-    (append-none _ (table_flaws kind.Vpd (vpd_rules db) db.vpd) cur.0).1
+    let pcf = append-none (flaws_of db kind.Pcf) (flat_map (flaws_of db) (drop 1 kinds)) sound in
+    let pid = append-none (flaws_of db kind.Pid) (flat_map (flaws_of db) (drop 2 kinds)) pcf.1 in
+    let pic = append-none (flaws_of db kind.Pic) (flat_map (flaws_of db) (drop 3 kinds)) pid.1 in
+    let tpcf = append-none (flaws_of db kind.Tpcf) (flat_map (flaws_of db) (drop 4 kinds)) pic.1 in
+    let plf = append-none (flaws_of db kind.Plf) (flat_map (flaws_of db) (drop 5 kinds)) tpcf.1 in
+    (append-none (flaws_of db kind.Vpd) (flat_map (flaws_of db) (drop 6 kinds)) plf.1).0
 
 -- what each row has, apart from the rows before it
 module _ (db : Database) where

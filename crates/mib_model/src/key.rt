@@ -5,7 +5,7 @@ use crate::name::{Name, Text};
 use crate::rows::Row;
 
 /// The key of a row: the key columns of its table, in their order.
-#[derive(Clone, Copy, PartialEq, Eq, PartialOrd, Ord)]
+#[derive(Clone, Copy, PartialEq, Eq, Hash)]
 pub enum Key {
     Pcf {
         name: Name,

@@ -25,6 +25,7 @@ mod reply;
 mod rows;
 mod shape;
 mod steps;
+mod table_row;
 mod tables;
 
 pub use check::{Change, Class};
@@ -48,4 +49,5 @@ pub use rows::{
 };
 pub use shape::{Endian, Order, Shape, Sort};
 pub use steps::Steps;
+pub use table_row::TableRow;
 pub use tables::Tables;

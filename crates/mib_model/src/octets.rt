@@ -6,7 +6,7 @@ use std::marker::Model;
 #[derive(Clone, Copy)]
 pub struct Octets<const N: usize> {
     room: [u8; N],
-    used: usize,
+    used: u8,
 }
 
 impl<const N: usize> Model for Octets<N> {
@@ -27,14 +27,15 @@ impl<const N: usize> Model for Octets<N> {
 impl<const N: usize> Octets<N> {
     /// A copy of these octets.
     pub fn from_slice(octets: &[u8]) -> Self
-        requires { length octets.now ≤ N }
+        requires fits { length octets.now ≤ N }
+        requires short { length octets.now ≤ 255 }
         ensures { result ≡ octets.now }
     {
         let mut room = [0; N];
         room[..octets.len()].copy_from_slice(octets);
         Octets {
             room,
-            used: octets.len(),
+            used: octets.len() as u8,
         }
     }
 
@@ -43,6 +44,6 @@ impl<const N: usize> Octets<N> {
         ensures bytes { result.now ≡ self.now }
         ensures fits { length result.now ≤ N }
     {
-        &self.room[..self.used]
+        &self.room[..usize::from(self.used)]
     }
 }

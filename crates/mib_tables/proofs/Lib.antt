@@ -1,7 +1,1 @@
-pub mod KindFacts
-pub mod ShelfFacts
-pub mod PlaceFacts
-pub mod SharedFacts
-pub mod ListedFacts
-pub mod ReadFacts
-pub mod FillFacts
+pub mod TableFacts

@@ -1,27 +1,38 @@
-ghost use Rattle.std.specs.Prelude.{◌≡◌, ◌≤◌, length, is_ok, IfOk, OnOk, OnErr, slice_get};
-ghost use Rattle.std.specs.Option.{option_copied};
+ghost use Rattle.std.specs.Prelude.{◌≡◌, ◌≤◌, length, is_ok, IfOk, OnOk, OnErr};
 ghost use Rattle.mib_model.specs.Database.{database_of, no_rows};
 ghost use Rattle.mib_model.specs.Drafts.{is_held, put_in, rows_of, with_rows, without_key};
-ghost use Rattle.mib_model.specs.declared.kind.Kind.{Kind};
 ghost use Rattle.mib_model.specs.Keys.{key_in};
 ghost use Rattle.mib_model.specs.RowTexts.{kind_in};
-ghost use Rattle.mib_tables.specs.Kinds.{AreOf, kind_of_key};
+ghost use Rattle.mib_tables.specs.Kinds.{kind_of_key};
 ghost use Rattle.mib_tables.specs.Puts.{put_made};
-ghost use Rattle.mib_tables.specs.Shelves.{values_in};
 
-use crate::kinds::{kind_of, kind_of_row, place_of};
-use crate::shared::{HELD_MOST, NoRow, Put, put_row, share, share_again, take_row};
-use crate::table_row::share_kind;
-use mib_model::{KINDS, Key, Kind, Row, Tables};
+use crate::table::{HELD_MOST, NoRow, Put, Table};
+use mib_model::{
+    CafRow, CapRow, CurRow, Key, Kind, LgfRow, McfRow, OcfRow, OcpRow, PcfRow, PicRow, PidRow,
+    PlfRow, Row, Tables, TpcfRow, TxfRow, TxpRow, VpdRow,
+};
 use std::alloc::{AllocError, Global};
 use std::marker::Model;
-use std::sync::Arc;
 
-/// The 15 tables that operators edit. Contracts see the database that they are. Rows are shared with copies.
+/// The 15 tables that operators edit. Contracts see the database that they are.
 #[derive(Drop)]
 pub struct Book {
     alloc: Global,
-    lists: Vec<Vec<Arc<Row>>>,
+    pcf: Table<PcfRow>,
+    pid: Table<PidRow>,
+    pic: Table<PicRow>,
+    tpcf: Table<TpcfRow>,
+    plf: Table<PlfRow>,
+    vpd: Table<VpdRow>,
+    cur: Table<CurRow>,
+    caf: Table<CafRow>,
+    cap: Table<CapRow>,
+    txf: Table<TxfRow>,
+    txp: Table<TxpRow>,
+    mcf: Table<McfRow>,
+    lgf: Table<LgfRow>,
+    ocf: Table<OcfRow>,
+    ocp: Table<OcpRow>,
 }
 
 impl Model for Book {
@@ -29,112 +40,302 @@ impl Model for Book {
 
     ghost Value = { Database };
 
-    ghost use Rattle.mib_tables.specs.Shelves.{lists_in, database_in, AreTables};
-
-    ghost view = { λ book. database_in (lists_in book.lists.items) };
-
-    ghost invariant = { λ book. AreTables (lists_in book.lists.items) };
+    ghost view = { λ book. record { pcf = book.pcf; pid = book.pid; pic = book.pic; tpcf = book.tpcf; plf = book.plf; vpd = book.vpd; cur = book.cur; caf = book.caf; cap = book.cap; txf = book.txf; txp = book.txp; mcf = book.mcf; lgf = book.lgf; ocf = book.ocf; ocp = book.ocp } };
 }
 
 impl Book {
-    /// The rows of tables, each of which has at most 1,000,000,000.
+    /// The rows of tables; more than 1,000,000,000 in one of them are want of memory.
     pub fn new(alloc: Global, tables: Tables) -> Result<Book, AllocError>
-        requires { (kind : Kind) → length (rows_of (database_of tables) kind) ≤ HELD_MOST }
         ensures { IfOk result (λ book. book ≡ database_of tables) }
     {
-        let mut lists = Vec::with_capacity(alloc, KINDS.len())?;
-        for kind in KINDS {
-            lists.push(share_kind(alloc, &tables, kind)?)?;
-        }
-        Ok(Book { alloc, lists })
+        Ok(Book {
+            alloc,
+            pcf: Table::new(tables.pcf)?,
+            pid: Table::new(tables.pid)?,
+            pic: Table::new(tables.pic)?,
+            tpcf: Table::new(tables.tpcf)?,
+            plf: Table::new(tables.plf)?,
+            vpd: Table::new(tables.vpd)?,
+            cur: Table::new(tables.cur)?,
+            caf: Table::new(tables.caf)?,
+            cap: Table::new(tables.cap)?,
+            txf: Table::new(tables.txf)?,
+            txp: Table::new(tables.txp)?,
+            mcf: Table::new(tables.mcf)?,
+            lgf: Table::new(tables.lgf)?,
+            ocf: Table::new(tables.ocf)?,
+            ocp: Table::new(tables.ocp)?,
+        })
     }
 
     /// A book with no rows.
-    pub fn empty(alloc: Global) -> Result<Book, AllocError>
-        ensures { IfOk result (λ book. book ≡ no_rows) }
+    pub fn empty(alloc: Global) -> Book
+        ensures { result ≡ no_rows }
     {
-        let mut lists = Vec::with_capacity(alloc, KINDS.len())?;
-        for _ in KINDS {
-            lists.push(Vec::new(alloc))?;
+        Book {
+            alloc,
+            pcf: Table::empty(alloc),
+            pid: Table::empty(alloc),
+            pic: Table::empty(alloc),
+            tpcf: Table::empty(alloc),
+            plf: Table::empty(alloc),
+            vpd: Table::empty(alloc),
+            cur: Table::empty(alloc),
+            caf: Table::empty(alloc),
+            cap: Table::empty(alloc),
+            txf: Table::empty(alloc),
+            txp: Table::empty(alloc),
+            mcf: Table::empty(alloc),
+            lgf: Table::empty(alloc),
+            ocf: Table::empty(alloc),
+            ocp: Table::empty(alloc),
         }
-        Ok(Book { alloc, lists })
     }
 
     /// Gives a table these rows in place of its own; more than 1,000,000,000 are want of memory.
     pub fn fill(&mut self, kind: Kind, rows: &[Row]) -> Result<(), AllocError>
-        requires { AreOf kind rows.now }
         ensures rows { OnOk result (self.new ≡ with_rows self.old kind rows.now) }
         ensures kept { OnErr result (self.new ≡ self.old) }
     {
-        if rows.len() > HELD_MOST {
-            return Err(AllocError);
+        let alloc = self.alloc;
+        match kind {
+            Kind::Pcf => self.pcf.fill(alloc, rows),
+            Kind::Pid => self.pid.fill(alloc, rows),
+            Kind::Pic => self.pic.fill(alloc, rows),
+            Kind::Tpcf => self.tpcf.fill(alloc, rows),
+            Kind::Plf => self.plf.fill(alloc, rows),
+            Kind::Vpd => self.vpd.fill(alloc, rows),
+            Kind::Cur => self.cur.fill(alloc, rows),
+            Kind::Caf => self.caf.fill(alloc, rows),
+            Kind::Cap => self.cap.fill(alloc, rows),
+            Kind::Txf => self.txf.fill(alloc, rows),
+            Kind::Txp => self.txp.fill(alloc, rows),
+            Kind::Mcf => self.mcf.fill(alloc, rows),
+            Kind::Lgf => self.lgf.fill(alloc, rows),
+            Kind::Ocf => self.ocf.fill(alloc, rows),
+            Kind::Ocp => self.ocp.fill(alloc, rows),
         }
-        let list = share(self.alloc, rows)?;
-        self.lists[place_of(kind)] = list;
-        Ok(())
     }
 
     /// Puts a row in the place of the first row of its table that has its key, or behind all others. A table of
     /// 1,000,000,000 rows takes no more: want of memory.
+    #[tactic(auto, unfolding(mib_model::specs::Drafts::rows_of))]
     pub fn put(&mut self, row: Row) -> Result<Put, AllocError>
         ensures rows { let table = kind_in row in OnOk result (self.new ≡ with_rows self.old table (put_in row (rows_of self.old table))) }
         ensures made { IfOk result (λ made. made ≡ put_made (is_held (key_in row) (rows_of self.old (kind_in row)))) }
         ensures kept { OnErr result (self.new ≡ self.old) }
     {
-        let list = &mut self.lists[place_of(kind_of_row(&row))];
-        put_row(self.alloc, list, row)
+        match row {
+            Row::Pcf(row) => self.pcf.put(row),
+            Row::Pid(row) => self.pid.put(row),
+            Row::Pic(row) => self.pic.put(row),
+            Row::Tpcf(row) => self.tpcf.put(row),
+            Row::Plf(row) => self.plf.put(row),
+            Row::Vpd(row) => self.vpd.put(row),
+            Row::Cur(row) => self.cur.put(row),
+            Row::Caf(row) => self.caf.put(row),
+            Row::Cap(row) => self.cap.put(row),
+            Row::Txf(row) => self.txf.put(row),
+            Row::Txp(row) => self.txp.put(row),
+            Row::Mcf(row) => self.mcf.put(row),
+            Row::Lgf(row) => self.lgf.put(row),
+            Row::Ocf(row) => self.ocf.put(row),
+            Row::Ocp(row) => self.ocp.put(row),
+        }
     }
 
     /// Takes the first row with a key out of the key's table.
+    #[tactic(auto, unfolding(mib_model::specs::Drafts::rows_of))]
     pub fn del(&mut self, key: &Key) -> Result<(), NoRow>
         ensures held { is_ok result ≡ is_held key.now (rows_of self.old (kind_of_key key.now)) }
         ensures rows { let table = kind_of_key key.now in OnOk result (self.new ≡ with_rows self.old table (without_key key.now (rows_of self.old table))) }
         ensures kept { OnErr result (self.new ≡ self.old) }
     {
-        let list = &mut self.lists[place_of(kind_of(key))];
-        take_row(list, key)
+        match key {
+            Key::Pcf { .. } => self.pcf.del(key),
+            Key::Pid { .. } => self.pid.del(key),
+            Key::Pic { .. } => self.pic.del(key),
+            Key::Tpcf { .. } => self.tpcf.del(key),
+            Key::Plf { .. } => self.plf.del(key),
+            Key::Vpd { .. } => self.vpd.del(key),
+            Key::Cur { .. } => self.cur.del(key),
+            Key::Caf { .. } => self.caf.del(key),
+            Key::Cap { .. } => self.cap.del(key),
+            Key::Txf { .. } => self.txf.del(key),
+            Key::Txp { .. } => self.txp.del(key),
+            Key::Mcf { .. } => self.mcf.del(key),
+            Key::Lgf { .. } => self.lgf.del(key),
+            Key::Ocf { .. } => self.ocf.del(key),
+            Key::Ocp { .. } => self.ocp.del(key),
+        }
     }
 
-    /// The same database in a book of its own, which shares the rows.
+    /// The same database in a book of its own.
     pub fn copy(&self) -> Result<Book, AllocError>
         ensures { IfOk result (λ book. book ≡ self.now) }
     {
-        let mut lists = Vec::with_capacity(self.alloc, KINDS.len())?;
-        for list in &self.lists {
-            lists.push(share_again(self.alloc, list)?)?;
-        }
+        let alloc = self.alloc;
         Ok(Book {
-            alloc: self.alloc,
-            lists,
+            alloc,
+            pcf: self.pcf.copy(alloc)?,
+            pid: self.pid.copy(alloc)?,
+            pic: self.pic.copy(alloc)?,
+            tpcf: self.tpcf.copy(alloc)?,
+            plf: self.plf.copy(alloc)?,
+            vpd: self.vpd.copy(alloc)?,
+            cur: self.cur.copy(alloc)?,
+            caf: self.caf.copy(alloc)?,
+            cap: self.cap.copy(alloc)?,
+            txf: self.txf.copy(alloc)?,
+            txp: self.txp.copy(alloc)?,
+            mcf: self.mcf.copy(alloc)?,
+            lgf: self.lgf.copy(alloc)?,
+            ocf: self.ocf.copy(alloc)?,
+            ocp: self.ocp.copy(alloc)?,
         })
     }
 
-    /// The rows of a table, in their order.
-    pub fn rows(&self, kind: Kind) -> &[Arc<Row>]
-        ensures rows { values_in result.now ≡ rows_of self.now kind }
-        ensures kind { AreOf kind (values_in result.now) }
-        ensures few { length result.now ≤ HELD_MOST }
-    {
-        self.lists[place_of(kind)].as_slice()
-    }
-
     /// The number of rows of a table.
-    pub fn count(&self, kind: Kind) -> u32
+    #[tactic(auto, unfolding(mib_model::specs::Drafts::rows_of))]
+    pub fn count(&self, kind: Kind) -> usize
         ensures { result ≡ length (rows_of self.now kind) }
     {
-        self.rows(kind).len() as u32
+        match kind {
+            Kind::Pcf => self.pcf.rows().len(),
+            Kind::Pid => self.pid.rows().len(),
+            Kind::Pic => self.pic.rows().len(),
+            Kind::Tpcf => self.tpcf.rows().len(),
+            Kind::Plf => self.plf.rows().len(),
+            Kind::Vpd => self.vpd.rows().len(),
+            Kind::Cur => self.cur.rows().len(),
+            Kind::Caf => self.caf.rows().len(),
+            Kind::Cap => self.cap.rows().len(),
+            Kind::Txf => self.txf.rows().len(),
+            Kind::Txp => self.txp.rows().len(),
+            Kind::Mcf => self.mcf.rows().len(),
+            Kind::Lgf => self.lgf.rows().len(),
+            Kind::Ocf => self.ocf.rows().len(),
+            Kind::Ocp => self.ocp.rows().len(),
+        }
     }
 
-    /// A row of a table, from 0: `None` exactly past the last.
-    pub fn row(&self, kind: Kind, place: u32) -> Option<&Row>
-        ensures { option_copied result ≡ slice_get (rows_of self.now kind) place }
+    /// The parameters.
+    pub fn pcf(&self) -> &[PcfRow]
+        ensures rows { result.now ≡ self.now.pcf }
+        ensures few { length result.now ≤ HELD_MOST }
     {
-        let rows = self.rows(kind);
-        let place = place as usize;
-        if place < rows.len() {
-            Some(&rows[place])
-        } else {
-            None
-        }
+        self.pcf.rows()
+    }
+
+    /// The packets.
+    pub fn pid(&self) -> &[PidRow]
+        ensures rows { result.now ≡ self.now.pid }
+        ensures few { length result.now ≤ HELD_MOST }
+    {
+        self.pid.rows()
+    }
+
+    /// The criteria by which packets are told apart.
+    pub fn pic(&self) -> &[PicRow]
+        ensures rows { result.now ≡ self.now.pic }
+        ensures few { length result.now ≤ HELD_MOST }
+    {
+        self.pic.rows()
+    }
+
+    /// The names of packets.
+    pub fn tpcf(&self) -> &[TpcfRow]
+        ensures rows { result.now ≡ self.now.tpcf }
+        ensures few { length result.now ≤ HELD_MOST }
+    {
+        self.tpcf.rows()
+    }
+
+    /// The places of parameters in packets of fixed layout.
+    pub fn plf(&self) -> &[PlfRow]
+        ensures rows { result.now ≡ self.now.plf }
+        ensures few { length result.now ≤ HELD_MOST }
+    {
+        self.plf.rows()
+    }
+
+    /// The rows of structures.
+    pub fn vpd(&self) -> &[VpdRow]
+        ensures rows { result.now ≡ self.now.vpd }
+        ensures few { length result.now ≤ HELD_MOST }
+    {
+        self.vpd.rows()
+    }
+
+    /// The selections of curves.
+    pub fn cur(&self) -> &[CurRow]
+        ensures rows { result.now ≡ self.now.cur }
+        ensures few { length result.now ≤ HELD_MOST }
+    {
+        self.cur.rows()
+    }
+
+    /// The curves by points.
+    pub fn caf(&self) -> &[CafRow]
+        ensures rows { result.now ≡ self.now.caf }
+        ensures few { length result.now ≤ HELD_MOST }
+    {
+        self.caf.rows()
+    }
+
+    /// The points of curves.
+    pub fn cap(&self) -> &[CapRow]
+        ensures rows { result.now ≡ self.now.cap }
+        ensures few { length result.now ≤ HELD_MOST }
+    {
+        self.cap.rows()
+    }
+
+    /// The curves by texts.
+    pub fn txf(&self) -> &[TxfRow]
+        ensures rows { result.now ≡ self.now.txf }
+        ensures few { length result.now ≤ HELD_MOST }
+    {
+        self.txf.rows()
+    }
+
+    /// The texts of curves.
+    pub fn txp(&self) -> &[TxpRow]
+        ensures rows { result.now ≡ self.now.txp }
+        ensures few { length result.now ≤ HELD_MOST }
+    {
+        self.txp.rows()
+    }
+
+    /// The polynomials.
+    pub fn mcf(&self) -> &[McfRow]
+        ensures rows { result.now ≡ self.now.mcf }
+        ensures few { length result.now ≤ HELD_MOST }
+    {
+        self.mcf.rows()
+    }
+
+    /// The logarithmic curves.
+    pub fn lgf(&self) -> &[LgfRow]
+        ensures rows { result.now ≡ self.now.lgf }
+        ensures few { length result.now ≤ HELD_MOST }
+    {
+        self.lgf.rows()
+    }
+
+    /// The checks of parameters.
+    pub fn ocf(&self) -> &[OcfRow]
+        ensures rows { result.now ≡ self.now.ocf }
+        ensures few { length result.now ≤ HELD_MOST }
+    {
+        self.ocf.rows()
+    }
+
+    /// The bounds of checks.
+    pub fn ocp(&self) -> &[OcpRow]
+        ensures rows { result.now ≡ self.now.ocp }
+        ensures few { length result.now ≤ HELD_MOST }
+    {
+        self.ocp.rows()
     }
 }

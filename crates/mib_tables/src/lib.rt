@@ -5,13 +5,9 @@
 #![tactic(auto)]
 
 mod book;
-mod kinds;
-mod laws;
-mod shared;
-mod table_row;
+mod table;
 #[cfg(test)]
 mod tests;
 
 pub use book::Book;
-pub use laws::rows_read_are_of_their_table;
-pub use shared::{HELD_MOST, NoRow, Put};
+pub use table::{HELD_MOST, NoRow, Put};

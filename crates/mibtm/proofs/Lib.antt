@@ -6,7 +6,6 @@ pub mod PlainReadings
 pub mod PlainRecords
 pub mod RunSteps
 pub mod KeptSteps
-pub mod TableSteps
 pub mod UnbuiltSteps
 pub mod LoadSteps
 pub mod DecodeSteps

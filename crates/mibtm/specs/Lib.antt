@@ -4,7 +4,6 @@ pub mod Run
 pub mod Inputs
 pub mod Sources
 pub mod Refusals
-pub mod UnbuiltRows
 pub mod Requests
 pub mod Tool
 pub mod Objects

@@ -1,13 +1,11 @@
 // The first row that asks for what decoding doesn't do.
-ghost use Rattle.std.specs.Prelude.{◌≡◌, ◌<◌, ◌+◌, length, position, IfSome};
-ghost use Rattle.std.specs.Arc.{arc_value};
+ghost use Rattle.std.specs.Prelude.{◌≡◌, ◌<◌, ◌≤◌, ◌+◌, length, option_map, position, IfSome};
+ghost use Rattle.mib_model.specs.declared.fault.MibCode.TheVariants.{Unbuilt};
 ghost use Rattle.mib_model.specs.Unbuilt as Spec;
-ghost use Rattle.mibtm.specs.UnbuiltRows.{is_unbuilt, unbuilt_of};
 
 use crate::values::integer_width;
-use mib_model::{KINDS, Kind, MibCode, MibFault, PcfRow, Row};
+use mib_model::{Kind, MibCode, MibFault, PcfRow, PidRow, PlfRow};
 use mib_tables::Book;
-use std::sync::Arc;
 
 // Whether a parameter is an unsigned integer in the usual order, without a curve and a condition.
 #[tactic(auto, unfolding(mib_model::specs::Encodings::encoding_of, mib_model::specs::Encodings::type_of))]
@@ -20,32 +18,51 @@ fn is_plain(row: &PcfRow) -> bool
     integer_width(row.pfc).is_some() && row.curtx.is_none() && row.valid.is_none()
 }
 
-// Whether a row asks for what decoding doesn't do.
-fn is_unbuilt(row: &Row) -> bool
-    ensures { result ≡ is_unbuilt row.now }
-{
-    match row {
-        Row::Pcf(row) => row.natur == b'R' && !is_plain(row),
-        Row::Pid(row) => row.tpsd >= 1,
-        Row::Plf(row) => row.nbocc > 1,
-        Row::Pic(_) | Row::Cur(_) | Row::Ocf(_) => true,
-        _ => false,
-    }
-}
-
-// The place of the first such row.
-fn place_of_unbuilt(rows: &[Arc<Row>]) -> Option<usize>
-    ensures place { result ≡ position (λ row. is_unbuilt (arc_value row)) rows.now }
+// The place of the first measured parameter that isn't plain.
+fn unbuilt_pcf(rows: &[PcfRow]) -> Option<usize>
+    ensures place { result ≡ position Spec.is_unbuilt_pcf rows.now }
     ensures within { IfSome result (λ i. i < length rows.now) }
 {
-    rows.iter().position(|row| is_unbuilt(row))
+    rows.iter().position(|row| is_unbuilt_pcf(row))
 }
 
-// The fault of the first such row of a table.
-fn unbuilt_of(book: &Book, table: Kind) -> Option<MibFault>
-    ensures { result ≡ unbuilt_of book.now table }
+// Whether a parameter is measured and isn't plain.
+fn is_unbuilt_pcf(row: &PcfRow) -> bool
+    ensures { result ≡ Spec.is_unbuilt_pcf row.now }
 {
-    match place_of_unbuilt(book.rows(table)) {
+    row.natur == b'R' && !is_plain(row)
+}
+
+// The place of the first packet of variable structure.
+fn unbuilt_pid(rows: &[PidRow]) -> Option<usize>
+    ensures place { result ≡ position Spec.is_unbuilt_pid rows.now }
+    ensures within { IfSome result (λ i. i < length rows.now) }
+{
+    rows.iter().position(|row| row.tpsd >= 1)
+}
+
+// The place of the first row with occurrences.
+fn unbuilt_plf(rows: &[PlfRow]) -> Option<usize>
+    ensures place { result ≡ position Spec.is_unbuilt_plf rows.now }
+    ensures within { IfSome result (λ i. i < length rows.now) }
+{
+    rows.iter().position(|row| row.nbocc > 1)
+}
+
+// The place of the first row of any.
+fn first_place<R>(rows: &[R]) -> Option<usize>
+    ensures place { result ≡ position Spec.any_row rows.now }
+    ensures within { IfSome result (λ i. i < length rows.now) }
+{
+    rows.iter().position(|_| true)
+}
+
+// The fault of the row at a place, if there is one.
+fn fault_at(table: Kind, place: Option<usize>) -> Option<MibFault>
+    requires { IfSome place (λ i. i < 1000000000) }
+    ensures { result ≡ option_map (λ i. record { table = table; row = i + 1; column = 0; first = 0; code = Unbuilt }) place }
+{
+    match place {
         Some(place) => Some(MibFault {
             table,
             row: place as u32 + 1,
@@ -58,13 +75,15 @@ fn unbuilt_of(book: &Book, table: Kind) -> Option<MibFault>
 }
 
 /// The first row that isn't built, by table and row.
+#[tactic(auto, unfolding(mib_model::specs::Unbuilt::unbuilt))]
 pub(crate) fn first_unbuilt(book: &Book) -> Option<MibFault>
     ensures { result ≡ Spec.unbuilt book.now }
 {
-    for table in KINDS {
-        if let Some(fault) = unbuilt_of(book, table) {
-            return Some(fault);
-        }
-    }
-    None
+    let pcf = fault_at(Kind::Pcf, unbuilt_pcf(book.pcf()));
+    let pid = fault_at(Kind::Pid, unbuilt_pid(book.pid()));
+    let pic = fault_at(Kind::Pic, first_place(book.pic()));
+    let plf = fault_at(Kind::Plf, unbuilt_plf(book.plf()));
+    let cur = fault_at(Kind::Cur, first_place(book.cur()));
+    let ocf = fault_at(Kind::Ocf, first_place(book.ocf()));
+    pcf.or(pid.or(pic.or(plf.or(cur.or(ocf)))))
 }

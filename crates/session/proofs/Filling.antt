@@ -1,9 +1,6 @@
 -- A book that is filled table by table is the database that was read.
 use Rattle.std.proofs.Common.{◌≡◌, ℕ, Bool, true, false, cond, List, [], ◌∷◌, Option, Some, None, Result, Ok, Err, IfOk, IfSome, refl, sym, ap, ◌∙◌, subst, ◌||◌, ◌<◌, ◌+◌, drop, get_or}
-use Rattle.std.proofs.Math.Path.{fun_ext}
 use Rattle.std.proofs.lemmas.List.{drop_more}
-use Rattle.std.proofs.lemmas.List.Elements.{All-nil}
-use Rattle.std.specs.List.{list_any}
 use Rattle.mib_model.specs.declared.database.Database.{Database}
 use Rattle.mib_model.specs.declared.fault.MibFault.{MibFault}
 use Rattle.mib_model.specs.declared.kind.Kind.{Kind}
@@ -11,15 +8,9 @@ use Rattle.mib_model.specs.declared.kind.Kind.TheVariants as kind
 use Rattle.mib_model.specs.declared.rows.Row.{Row}
 use Rattle.mib_model.specs.Database.{no_rows}
 use Rattle.mib_model.specs.DatabaseTexts.{database_read, database_by, first_fault, rows_in}
-use Rattle.mib_model.specs.Drafts.{rows_of, same_kind, with_rows}
+use Rattle.mib_model.specs.Drafts.{with_rows}
 use Rattle.mib_model.specs.Kinds.{kinds}
 use Rattle.mib_model.specs.Reading.{table_of}
-use Rattle.mib_model.specs.RowTexts.{kind_in}
-use Rattle.mib_tables.specs.Kinds.{AreOf}
-use Rattle.mib_tables.proofs.FillFacts.{rows_of-with}
-use Rattle.mib_tables.proofs.KindFacts.{same_by_name}
-use Rattle.mib_tables.proofs.ListedFacts.{database_back}
-use Rattle.mib_tables.proofs.ReadFacts.{read_are_of}
 use Rattle.session.specs.declared.load_fault.LoadFault.{LoadFault}
 use Rattle.session.specs.declared.load_fault.LoadFault.TheVariants as faults
 use Rattle.session.specs.Sources.{Files, Fills, Refuses, database_in, read_in, table_text}
@@ -33,52 +24,10 @@ pub filled : Reading → List Kind → Database → Database
 filled read [] db = db
 filled read (k ∷ ks) db = filled read ks (with_rows db k (rows_in (read k)))
 
--- the tables have rows of their own alone
-abbrev AreOwn : Reading → Type 0
-AreOwn read = (k : Kind) → AreOf k (rows_in (read k))
-
--- the rows of a table that was given rows, or wasn't
-rows_by : (read : Reading) (j k : Kind) (b : Bool) (others : Bool) (old : List Row) → same_kind j k ≡ b → cond others (rows_in (read j)) (cond b (rows_in (read k)) old) ≡ cond (b || others) (rows_in (read j)) old
-rows_by read j k true true old same = refl
-rows_by read j k true false old same = ap (λ t. rows_in (read t)) (sym (same_by_name j k same))
-rows_by read j k false others old same = refl
-
-rows_of-filled : (read : Reading) (ks : List Kind) (db : Database) (j : Kind) → AreOwn read → rows_of (filled read ks db) j ≡ cond (list_any (same_kind j) ks) (rows_in (read j)) (rows_of db j)
-unfolding filled
-rows_of-filled read [] db j own = refl
-rows_of-filled read (k ∷ ks) db j own =
-    rows_of-filled read ks (with_rows db k (rows_in (read k))) j own
-    ∙ ap (cond (list_any (same_kind j) ks) (rows_in (read j))) (rows_of-with db k (rows_in (read k)) (own k) j)
-    ∙ rows_by read j k (same_kind j k) (list_any (same_kind j) ks) (rows_of db j) refl
-
--- each table is one of the 15
-any-kind : (j : Kind) → list_any (same_kind j) kinds ≡ true
-any-kind kind.Pcf = refl
-any-kind kind.Pid = refl
-any-kind kind.Pic = refl
-any-kind kind.Tpcf = refl
-any-kind kind.Plf = refl
-any-kind kind.Vpd = refl
-any-kind kind.Cur = refl
-any-kind kind.Caf = refl
-any-kind kind.Cap = refl
-any-kind kind.Txf = refl
-any-kind kind.Txp = refl
-any-kind kind.Mcf = refl
-any-kind kind.Lgf = refl
-any-kind kind.Ocf = refl
-any-kind kind.Ocp = refl
-
 -- all 15 tables filled are the database that was read
-all-filled : (read : Reading) → AreOwn read → filled read kinds no_rows ≡ database_by (λ k. rows_in (read k))
-all-filled read own =
-    sym (database_back (filled read kinds no_rows))
-    ∙ ap database_by (fun_ext (λ (j : Kind). rows_of-filled read kinds no_rows j own ∙ ap (λ b. cond b (rows_in (read j)) (rows_of no_rows j)) (any-kind j)))
-
--- the rows that were read of a text are of their table
-own-in : (k : Kind) (read : Result (List Row) MibFault) → IfOk read (AreOf k) → AreOf k (rows_in read)
-own-in k (Ok rows) own = own
-own-in k (Err fault) own = All-nil (λ (r : Row). kind_in r ≡ k)
+all-filled : (read : Reading) → filled read kinds no_rows ≡ database_by (λ k. rows_in (read k))
+unfolding filled
+all-filled read = refl
 
 -- the tables that are still to be filled of a database
 pub record Left (read : Reading) (ks : List Kind) (db : Database) : Type 0 where
@@ -104,7 +53,7 @@ read-whole : (texts : Kind → List ℕ) (db : Database) → Left (texts_in text
 unfolding database_read filled
 read-whole texts db left =
     ap (λ o. elim o as (λ x. Result Database MibFault) [ None ↦ Ok (database_by (λ k. rows_in (texts_in texts k))) | Some f ↦ Err f ]) (sym left.faults)
-    ∙ ap Ok (sym (left.rows ∙ all-filled (texts_in texts) (λ k. own-in k (texts_in texts k) (read_are_of k (texts k)))))
+    ∙ ap Ok (sym (left.rows ∙ all-filled (texts_in texts)))
 
 -- the first fault refuses the database
 read-refused : (texts : Kind → List ℕ) (k : Kind) (ks : List Kind) (db : Database) (fault : MibFault) → Left (texts_in texts) (k ∷ ks) db → texts_in texts k ≡ Err fault → database_read texts ≡ Err fault

@@ -1,7 +1,6 @@
 // The tables of a folder, read in their order.
 ghost use Rattle.std.specs.Prelude.{◌≡◌, string_bytes, IfOk, IfErr, OnOk, IfSome, Ok};
 ghost use Rattle.mib_model.specs.Reading.{table_of};
-ghost use Rattle.mib_tables.specs.Kinds.{AreOf};
 ghost use Rattle.session.specs.Causes.{HasLoadCause, IsTextStop};
 ghost use Rattle.session.specs.Sources.{Fills, Refuses, database_in, read_in, table_file};
 
@@ -27,7 +26,6 @@ fn file_name(alloc: Global, folder: &str, table: Kind) -> Result<String, AllocEr
 // The rows of a table's text.
 fn read_rows(alloc: Global, table: Kind, text: &[u8]) -> Result<Vec<Row>, LoadFault>
     ensures told { IfOk result (λ rows. table_of table text.now ≡ Ok rows.items) }
-    ensures own { IfOk result (λ rows. AreOf table rows.items) }
     ensures refused { IfErr result (λ fault. Refuses fault (table_of table text.now)) }
     ensures stop { IfErr result IsTextStop }
 {
@@ -73,9 +71,7 @@ pub fn load<T: Shelf>(alloc: Global, folder: &str, tables: &mut T) -> Result<Boo
     ensures cause { IfErr result (λ fault. HasLoadCause fault (T.faults tables.old) (T.faults tables.new)) }
     ensures holds { T.holds tables.new ≡ T.holds tables.old }
 {
-    let Ok(mut book) = Book::empty(alloc) else {
-        return Err(LoadFault::Memory);
-    };
+    let mut book = Book::empty(alloc);
     for table in KINDS {
         load_table(alloc, folder, table, tables, &mut book)?;
     }

@@ -1,20 +1,17 @@
-use Rattle.std.proofs.Common.{ap, ◌∙◌, arith, Bool, refl}
-use Rattle.std.specs.Arc.{arc_value}
-use Rattle.mib_model.specs.declared.rows.Row.{Row}
+use Rattle.std.proofs.Common.{◌∙◌, arith, refl}
 use Rattle.mib_keys.specs.Indexes.{has_by}
 use Rattle.mib_keys.proofs.PlaceFacts.{count-more, count-below}
 use Rattle.mib_keys.proofs.index.count.Goals as goal
 
 pub count_key-requires : goal.count_key-requires
 count_key-requires g c = λ q.
-    let p : Row → Bool = λ row. has_by g.B.Key.Ord.cmp q (g.B.By.key c.args.by.now row) in
-    let few = count-below arc_value c.args.rows.now c.loop-row.row-index c.row-item.result p c.loop-row-test.true in
+    let p = λ (row : g.row.B-Row.Denot). has_by g.B.Key.PartialEq.eq q (g.B.By.key c.args.by.now row) in
+    let few = count-below c.args.rows.now c.loop-row.row-index c.row-item.result p c.loop-row-test.true in
     let counted = c.loop-row.invariant q in
     omega (arith, counted, few)
 
 pub loop-row-preserved : goal.loop-row-preserved
 loop-row-preserved g c = λ q.
-    let p : Row → Bool = λ row. has_by g.B.Key.Ord.cmp q (g.B.By.key c.args.by.now row) in
-    let more = count-more arc_value c.args.rows.now c.loop-row.row-index c.row-item.result p c.loop-row-test.true c.row-item.is in
-    let key = c.key.ensures ∙ ap (g.B.By.key c.args.by.now) c.deref.ensures in
-    c.in_ok-count_key.ensures q ∙ rw (key, c.loop-row.invariant q, more) refl
+    let p = λ (row : g.row.B-Row.Denot). has_by g.B.Key.PartialEq.eq q (g.B.By.key c.args.by.now row) in
+    let more = count-more c.args.rows.now c.loop-row.row-index c.row-item.result p c.loop-row-test.true c.row-item.is in
+    c.in_ok-count_key.ensures q ∙ rw (c.key.ensures, c.loop-row.invariant q, more) refl

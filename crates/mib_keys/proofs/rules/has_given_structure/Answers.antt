@@ -5,7 +5,7 @@ use Rattle.mib_keys.proofs.rules.has_given_structure.Goals as goal
 
 pub returns-else-tpsd-lt1 : goal.returns-else-tpsd-lt1
 returns-else-tpsd-lt1 c =
+    let vpd = c.args.lookups.now.vpd in
     let low : int_lt c.args.tpsd (pos 1) ≡ false = search rules in
     let number : c.unsigned_abs.result ≡ nat_abs c.args.tpsd = search rules in
-    structure-there c.args.tables.now.book.now.vpd c.args.tpsd c.structure_rows.result low
-    (c.structure_rows.ensures ∙ ap (λ n. length (filter (λ (row : VpdRow). nat_eq row.tpsd n) c.args.tables.now.book.now.vpd)) number)
+    structure-there vpd c.args.tpsd c.structure_rows.result low (c.structure_rows.ensures ∙ ap (λ n. length (filter (λ (row : VpdRow). nat_eq row.tpsd n) vpd)) number)

@@ -5,4 +5,4 @@ use Rattle.mib_keys.proofs.AnyFacts.{counted-any}
 use Rattle.mib_keys.proofs.rules.has_selections.Goals as goal
 
 pub returns : goal.returns
-returns c = ap (λ n. not (nat_eq n 0)) c.selections.ensures ∙ counted-any (λ (cur : CurRow). bytes_eq cur.pname c.args.name) c.args.tables.now.book.now.cur
+returns c = ap (λ n. not (nat_eq n 0)) c.selections.ensures ∙ counted-any (λ (cur : CurRow). bytes_eq cur.pname c.args.name) c.args.lookups.now.cur

@@ -1,0 +1,171 @@
+// The rows of one table.
+ghost use Rattle.std.specs.Prelude.{◌≡◌, ◌≤◌, ◌++◌, [], IfOk, OnErr, OnOk, filter_map, length, map, position, is_ok};
+ghost use Rattle.std.specs.List.{cons_option};
+ghost use Rattle.mib_model.specs.Drafts.{put_in, without_key, is_held};
+ghost use Rattle.mib_model.specs.Keys.{has_key, key_in, same_key};
+ghost use Rattle.mib_tables.specs.Puts.{put_made};
+
+use mib_model::{Key, Row, TableRow};
+use std::alloc::{AllocError, Global};
+use std::marker::Model;
+
+/// The greatest number of rows that a table in memory holds; a text has fewer.
+pub const HELD_MOST: usize = 1_000_000_000;
+
+/// What `put` did.
+#[derive(Clone, Copy, Debug, PartialEq, Eq)]
+pub enum Put {
+    /// No row had the key: the row stands behind all others.
+    Added,
+    /// The row stands in the place of the first that had its key.
+    Replaced,
+}
+
+/// That no row has a key.
+#[derive(Clone, Copy, Debug, PartialEq, Eq)]
+pub struct NoRow;
+
+/// The rows of a table, at most 1,000,000,000. Contracts see the list of them.
+#[derive(Drop)]
+pub struct Table<R: TableRow> {
+    rows: Vec<R>,
+}
+
+impl<R: TableRow> Model for Table<R> {
+    ghost use Rattle.std.specs.Prelude.{◌≤◌, List, length};
+
+    ghost Value = { List R };
+
+    ghost view = { λ table. table.rows.items };
+
+    ghost invariant = { λ table. length table.rows.items ≤ 1000000000 };
+}
+
+// Whether two keys are the same.
+#[tactic(auto, unfolding(mib_model::specs::Keys::same_key))]
+fn is_same(a: &Key, b: &Key) -> bool
+    ensures { result ≡ same_key a.now b.now }
+{
+    a == b
+}
+
+fn has<R: TableRow>(row: &R, key: &Key) -> bool
+    ensures { result ≡ has_key key.now (R.as_row row.now) }
+{
+    is_same(&row.to_row().key(), key)
+}
+
+// The place of the first row with a key.
+fn place_of<R: TableRow>(rows: &[R], key: &Key) -> Option<usize>
+    ensures { result ≡ position (λ row. has_key key.now (R.as_row row)) rows.now }
+{
+    rows.iter().position(|row| has(row, key))
+}
+
+// Appends a row, where there is one.
+fn push_own<R: TableRow>(own: &mut Vec<R>, row: Option<R>) -> Result<(), AllocError>
+    ensures { OnOk result (own.new.items ≡ own.old.items ++ cons_option row []) }
+{
+    match row {
+        Some(row) => {
+            own.push(row)?;
+            Ok(())
+        }
+        None => Ok(()),
+    }
+}
+
+// The rows of one table among rows of any table.
+fn own_rows<R: TableRow>(alloc: Global, rows: &[Row]) -> Result<Vec<R>, AllocError>
+    ensures { IfOk result (λ own. own.items ≡ filter_map R.from_row rows.now) }
+{
+    let mut own = Vec::with_capacity(alloc, rows.len())?;
+    for row in rows {
+        push_own(&mut own, R::from_row(row))?;
+    }
+    Ok(own)
+}
+
+impl<R: TableRow> Table<R> {
+    /// A table with no rows.
+    pub fn empty(alloc: Global) -> Self
+        ensures { result ≡ [] }
+    {
+        Table {
+            rows: Vec::new(alloc),
+        }
+    }
+
+    /// A table of these rows; more than 1,000,000,000 are want of memory.
+    pub fn new(rows: Vec<R>) -> Result<Self, AllocError>
+        ensures { IfOk result (λ table. table ≡ rows.items) }
+    {
+        if rows.len() > HELD_MOST {
+            return Err(AllocError);
+        }
+        Ok(Table { rows })
+    }
+
+    /// Its rows, in their order.
+    pub fn rows(&self) -> &[R]
+        ensures rows { result.now ≡ self.now }
+        ensures few { length result.now ≤ HELD_MOST }
+    {
+        self.rows.as_slice()
+    }
+
+    /// The same rows in a table of their own.
+    pub fn copy(&self, alloc: Global) -> Result<Self, AllocError>
+        ensures { IfOk result (λ table. table ≡ self.now) }
+    {
+        let mut rows = Vec::with_capacity(alloc, self.rows.len())?;
+        rows.extend_from_slice(self.rows())?;
+        Table::new(rows)
+    }
+
+    /// Takes those of some rows that are of this table in place of its own; more than 1,000,000,000 are want of memory.
+    pub fn fill(&mut self, alloc: Global, rows: &[Row]) -> Result<(), AllocError>
+        ensures rows { OnOk result (self.new ≡ filter_map R.from_row rows.now) }
+        ensures kept { OnErr result (self.new ≡ self.old) }
+    {
+        *self = Table::new(own_rows(alloc, rows)?)?;
+        Ok(())
+    }
+
+    /// Puts a row in the place of the first with its key, or behind all others. A full table takes no more.
+    pub fn put(&mut self, row: R) -> Result<Put, AllocError>
+        ensures rows { OnOk result (self.new ≡ filter_map R.from_row (put_in (R.as_row row) (map R.as_row self.old))) }
+        ensures made { IfOk result (λ made. made ≡ put_made (is_held (key_in (R.as_row row)) (map R.as_row self.old))) }
+        ensures kept { OnErr result (self.new ≡ self.old) }
+    {
+        let key = row.to_row().key();
+        match place_of(self.rows(), &key) {
+            Some(place) => {
+                self.rows[place] = row;
+                Ok(Put::Replaced)
+            }
+            None => {
+                if self.rows.len() == HELD_MOST {
+                    return Err(AllocError);
+                }
+                self.rows.push(row)?;
+                Ok(Put::Added)
+            }
+        }
+    }
+
+    /// Takes the first row with a key out.
+    pub fn del(&mut self, key: &Key) -> Result<(), NoRow>
+        ensures held { is_ok result ≡ is_held key.now (map R.as_row self.old) }
+        ensures rows { OnOk result (self.new ≡ filter_map R.from_row (without_key key.now (map R.as_row self.old))) }
+        ensures kept { OnErr result (self.new ≡ self.old) }
+    {
+        match place_of(self.rows(), key) {
+            Some(place) => {
+                let _row = self.rows.remove(place);
+                Ok(())
+            }
+            None => Err(NoRow),
+        }
+    }
+}
