@@ -102,11 +102,7 @@ fn passes_spots(structure: Option<&Structure>, row: &VpdRow) -> bool
 }
 
 // Whether the group, the choice or the reference of a row is out of form.
-fn is_bad_group(
-    lookups: &Lookups<'_>,
-    number: u32,
-    row: &VpdRow,
-) -> bool
+fn is_bad_group(lookups: &Lookups<'_>, number: u32, row: &VpdRow) -> bool
     requires { cut (number - 1) (position (is_same_place row.now) lookups.now.vpd) ≡ None }
     ensures { result ≡ is_bad_group lookups.now (take (number - 1) lookups.now.vpd) row.now }
 {
@@ -123,11 +119,7 @@ fn lacks_number(row: &VpdRow, parameter: Option<&PcfRow>) -> bool
 }
 
 /// VPD: the parameter of a row, and its group, choice or reference.
-pub fn vpd_flaw(
-    lookups: &Lookups<'_>,
-    number: u32,
-    row: &VpdRow,
-) -> Option<MibFault>
+pub fn vpd_flaw(lookups: &Lookups<'_>, number: u32, row: &VpdRow) -> Option<MibFault>
     requires { cut (number - 1) (position (is_same_place row.now) lookups.now.vpd) ≡ None }
     ensures { result ≡ flaw_by Kind.Vpd number (drop 1 (vpd_rules lookups.now)) (take (number - 1) lookups.now.vpd) row.now }
 {

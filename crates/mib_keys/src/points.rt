@@ -66,11 +66,7 @@ fn point_at(numbr: Name, x: Option<i128>) -> Option<PointKey>
 
 // The first curve of a name.
 #[tactic(auto, using(crate::proofs::LookupFacts::lookups))]
-fn curve_of<'a>(
-    curves: &HashMap<Name, u32>,
-    cafs: &'a [CafRow],
-    numbr: Name,
-) -> Option<&'a CafRow>
+fn curve_of<'a>(curves: &HashMap<Name, u32>, cafs: &'a [CafRow], numbr: Name) -> Option<&'a CafRow>
     requires { (q : List ℕ) → get bytes_eq curves.now q ≡ position (λ caf. bytes_eq caf.numbr q) cafs.now }
     ensures { option_copied result ≡ find (λ caf. bytes_eq caf.numbr numbr) cafs.now }
 {
@@ -100,7 +96,11 @@ pub fn point_places(
     let caps = book.cap();
     let mut points = HashMap::with_capacity(alloc, caps.len())?;
     for (place, row) in caps.iter().enumerate() {
-        note_key(&mut points, point_of(curve_of(curves, cafs, row.numbr), row), place as u32)?;
+        note_key(
+            &mut points,
+            point_of(curve_of(curves, cafs, row.numbr), row),
+            place as u32,
+        )?;
     }
     Ok(points)
 }
@@ -134,12 +134,7 @@ fn repeats(lookups: &Lookups<'_>, number: u32, numbr: Name, x: Option<i128>) -> 
     }
 }
 
-fn is_bad_point(
-    lookups: &Lookups<'_>,
-    number: u32,
-    curve: Option<&CafRow>,
-    row: &CapRow,
-) -> bool
+fn is_bad_point(lookups: &Lookups<'_>, number: u32, curve: Option<&CafRow>, row: &CapRow) -> bool
     ensures { result ≡ is_repeated_point (first_place point_eq (point_in lookups.now.caf) lookups.now.cap) number (option_copied curve.entry) row.now }
 {
     match curve {
@@ -152,11 +147,7 @@ fn is_bad_point(
 }
 
 /// CAP: the curve of a point, and each point at a whole number of its own.
-pub fn cap_flaw(
-    lookups: &Lookups<'_>,
-    number: u32,
-    row: &CapRow,
-) -> Option<MibFault>
+pub fn cap_flaw(lookups: &Lookups<'_>, number: u32, row: &CapRow) -> Option<MibFault>
     ensures { result ≡ flaw_by Kind.Cap number (drop 1 (cap_rules lookups.now)) (take (number - 1) lookups.now.cap) row.now }
 {
     let at = At {
