@@ -38,7 +38,7 @@ fn digits_in_two(whole: &[u8], fraction: &[u8]) -> u128
     digits_behind(digits_number(whole), whole.len(), fraction)
 }
 
-// The same behind a sign.
+// The number of digits before and behind the point, with its sign.
 fn signed_digits(minus: bool, whole: &[u8], fraction: &[u8]) -> i64
     requires short { length whole.now + length fraction.now ≤ DIGITS_MOST }
     requires whole { list_all is_ascii_digit whole.now ≡ true }
@@ -86,7 +86,7 @@ fn lowered(exponent: i64, places: usize) -> i128
     i128::from(exponent) - places as i128
 }
 
-// The same of digits that may end in zeros; no digit is the number 0.
+// The decimal of digits that may end in zeros; no digit is the number 0.
 fn scaled_from(minus: bool, whole: &[u8], fraction: &[u8], exponent: i128) -> Result<Dec, DecFault>
     requires whole { list_all is_ascii_digit whole.now ≡ true }
     requires fraction { list_all is_ascii_digit fraction.now ≡ true }

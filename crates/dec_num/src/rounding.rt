@@ -18,7 +18,7 @@ pub fn rounded(dividend: u128, divisor: u128) -> u128
     }
 }
 
-/// The same of a number with a sign, a tie going away from zero.
+/// A number with a sign divided and rounded to the nearest whole number, a tie going away from zero.
 #[tactic(auto, unfolding(mib_model::specs::Counts::half))]
 pub fn half(dividend: i128, divisor: u128) -> i128
     requires dividend { nat_abs dividend < 2 ^ 127 }

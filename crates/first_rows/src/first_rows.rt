@@ -44,7 +44,8 @@ impl<B: By> Model for FirstRows<B> {
 
 // Notes a row whose key has none yet.
 fn note<B: By>(firsts: &mut HashMap<B::Key, B::Row>, row: B::Row) -> Result<(), AllocError>
-    ensures { OnOk result ((key : B.Key) → get B.Key.eq firsts.new key ≡ option_or (get B.Key.eq firsts.old key) (if option_eq B.Key.eq (B.key_of row) (Some key) then Some row else None)) }
+    ensures { OnOk result ((key : B.Key) → get B.Key.eq firsts.new key ≡ option_or (get B.Key.eq firsts.old key)
+        (if option_eq B.Key.eq (B.key_of row) (Some key) then Some row else None)) }
 {
     let Some(key) = B::key(&row) else {
         return Ok(());

@@ -77,7 +77,8 @@ fn span_of(row: &PlfRow, shape: Shape) -> Span
 // Adds the occurrences of a row, if its parameter has values.
 fn add_row(spans: &mut Vec<Span>, row: &PlfRow, types: &FirstRows<ByName>) -> Result<(), AllocError>
     requires { All IsNear spans.old.items }
-    ensures places { OnOk result (spans_places spans.new.items ≡ spans_places spans.old.items ++ occurrences row.now (option_and_then item_encoding (item_named types.now row.now.name))) }
+    ensures places { OnOk result (spans_places spans.new.items ≡ spans_places spans.old.items
+        ++ occurrences row.now (option_and_then item_encoding (item_named types.now row.now.name))) }
     ensures near { OnOk result (All IsNear spans.new.items) }
 {
     match shape_by(types.find(&row.name)) {

@@ -38,7 +38,7 @@ fn has_number(sort: Sort) -> bool
     }
 }
 
-// Whether values of a parameter have numbers.
+// Whether values of a parameter have numbers; nothing is asked of one that isn't there.
 fn counts(row: Option<&PcfRow>) -> bool
     ensures { result ≡ counts (option_copied row.entry) }
 {
@@ -47,7 +47,7 @@ fn counts(row: Option<&PcfRow>) -> bool
             Some(shape) => has_number(shape.sort()),
             None => false,
         },
-        None => false,
+        None => true,
     }
 }
 

@@ -1,3 +1,10 @@
+//! Soundness of a monitoring database: the first flaw of its tables, by table, row and code.
+//!
+//! `sound` answers `Ok` exactly where no flaw stands, and else exactly the first. It looks keys up in hash maps that it
+//! makes in one pass over each table. It rests on the definitions of `mib_model`, on the `Book` of `mib_tables`, on the
+//! numbers of `dec_num` and on the types of `bit_field`.
+#![tactic(auto)]
+
 mod fault;
 mod flaw;
 mod groups;

@@ -43,7 +43,7 @@ put_at r rows (Some i) = set rows i r
 unfoldable pub put_in : Row → List Row → List Row
 put_in r rows = put_at r rows (position (has_key (key_in r)) rows)
 
--- the rows without the first that has a key
+-- the rows without the one at a place, if there is a place
 abbrev pub taken_at : List Row → Option ℕ → List Row
 taken_at rows None = rows
 taken_at rows (Some i) = remove rows i
@@ -52,7 +52,7 @@ taken_at rows (Some i) = remove rows i
 unfoldable pub without_key : Key → List Row → List Row
 without_key key rows = taken_at rows (position (has_key key) rows)
 
--- the same table
+-- whether two tables are the same
 abbrev pub same_kind : Kind → Kind → Bool
 same_kind x y = bytes_eq (kind_name x) (kind_name y)
 

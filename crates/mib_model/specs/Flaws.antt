@@ -22,11 +22,11 @@ Rule R = List R → R → Option Flaw
 abbrev pub flaw_if : MibCode → Bool → Option Flaw
 flaw_if code holds = if holds then Some (record { code = code; column = 0; first = 0 }) else None
 
--- the first of the rows before that is like the row
+-- the rule that no row before is like the row; the flaw tells the first that is
 abbrev pub twice_by : {R : Type 0} → (R → R → Bool) → Rule R
 twice_by alike earlier row = option_map (λ i. record { code = Twice; column = 0; first = i + 1 }) (position (alike row) earlier)
 
--- rows with the same key
+-- the rule that no row before has the row's key
 abbrev pub twice : {R : Type 0} → (R → Row) → Rule R
 twice as_row = twice_by (λ x y. same_key (key_in (as_row x)) (key_in (as_row y)))
 

@@ -25,7 +25,7 @@ key_in (row.Lgf r) = key.Lgf r.ident
 key_in (row.Ocf r) = key.Ocf r.name
 key_in (row.Ocp r) = key.Ocp r.name r.pos
 
--- the same table, and the same in each key column: numbers by value, names and texts by octets
+-- whether two keys are of one table and equal in each column: numbers by value, names and texts by octets
 unfoldable pub same_key : Key → Key → Bool
 same_key (key.Pcf x) (key.Pcf y) = bytes_eq x y
 same_key (key.Pid x) (key.Pid y) = x == y
@@ -44,6 +44,6 @@ same_key (key.Ocf x) (key.Ocf y) = bytes_eq x y
 same_key (key.Ocp x s) (key.Ocp y t) = bytes_eq x y && (s == t)
 same_key x y = false
 
--- a row that has a key
+-- whether a row has a key
 abbrev pub has_key : Key → Row → Bool
 has_key k r = same_key (key_in r) k

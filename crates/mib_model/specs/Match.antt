@@ -90,6 +90,6 @@ match_by pids pics packet =
 unfoldable pub match_of : Database → List ℕ → Found
 match_of db packet = match_by db.pid db.pic packet
 
--- a row of pic whose discriminants have 64 bits at most, as the columns of its table have them
-abbrev pub is_narrow : PicRow → Bool
-is_narrow row = nat_le row.pi1_wid 64 && nat_le row.pi2_wid 64
+-- whether the discriminants of a row of pic have 64 bits at most, as the columns of its table have them
+abbrev pub discriminants_fit : PicRow → Bool
+discriminants_fit row = nat_le row.pi1_wid 64 && nat_le row.pi2_wid 64

@@ -26,18 +26,20 @@ use Rattle.mib_model.specs.References.{has_parameter, has_packet, has_structure,
 use Rattle.mib_model.specs.Structures.{is_deduced}
 use Rattle.mib_model.specs.WholeNumbers.{whole_number, decimal_whole}
 
--- PCF: references of measured parameters, their types, their widths, and curve beside selections
+-- ---- pcf: references, types, widths, and a curve beside selections, of measured parameters alone
+
+-- the references of a parameter, which are tested where it is measured
 abbrev pub pcf_references : Database → PcfRow → List (ℕ × Bool)
 pcf_references db r =
     (8, not (is_measured r) || if_given r.valid (has_parameter db)) ∷
     (12, not (is_measured r) || if_given r.curtx (has_curve db r.categ)) ∷ []
 
--- a width that is given and below that of the type
+-- whether a width is given and below that of the type
 abbrev pub is_narrow : ℕ → Option Encoding → Bool
 is_narrow width None = false
 is_narrow width (Some e) = not (width == 0) && nat_lt width e.width
 
--- a parameter has selections of curves
+-- whether a parameter has selections of curves
 abbrev pub has_selections : Database → List ℕ → Bool
 has_selections db name = list_any (λ cur. bytes_eq cur.pname name) db.cur
 
@@ -50,7 +52,9 @@ pcf_rules db =
     (λ earlier r. flaw_if Width (is_measured r && not (is_deduced r) && is_narrow r.width (parameter_encoding r))) ∷
     (λ earlier r. flaw_if Both (is_measured r && is_some r.curtx && has_selections db r.name)) ∷ []
 
--- PID: one row for each SPID and for each kind of packet
+-- ---- pid: one row for each SPID and for each kind of packet
+
+-- whether two rows have the same SPID, or the same APID, types and discriminants
 abbrev pub same_packet : PidRow → PidRow → Bool
 same_packet x y =
     (x.spid == y.spid) ||
@@ -62,7 +66,9 @@ pid_rules db =
     twice_by same_packet ∷
     (λ earlier r. missing ((9, int_lt r.tpsd (pos 1) || has_structure db r.tpsd) ∷ [])) ∷ []
 
--- PLF: a deduced parameter has no place of its own
+-- ---- plf: a deduced parameter has no place of its own
+
+-- whether a parameter is there, is measured and is deduced
 abbrev pub is_measured_deduced : Option PcfRow → Bool
 is_measured_deduced None = false
 is_measured_deduced (Some r) = is_measured r && is_deduced r
@@ -74,7 +80,9 @@ plf_rules db =
     (λ earlier r. missing ((1, has_parameter db r.name) ∷ (2, has_packet db r.spid) ∷ [])) ∷
     (λ earlier r. flaw_if BadType (is_measured_deduced (parameter db.pcf r.name))) ∷ []
 
--- CUR: a curve of the category of its parameter
+-- ---- cur
+
+-- whether there is a curve of this name of the category of a parameter; nothing is asked where there is no parameter
 abbrev pub has_curve_of : Database → Option PcfRow → List ℕ → Bool
 has_curve_of db None name = true
 has_curve_of db (Some r) name = has_curve db r.categ name
@@ -85,7 +93,9 @@ cur_rules db =
     twice row.Cur ∷
     (λ earlier r. missing ((1, has_parameter db r.pname) ∷ (3, has_parameter db r.rlchk) ∷ (5, has_curve_of db (parameter db.pcf r.pname) r.curve) ∷ [])) ∷ []
 
--- CAF and CAP: two points at least, each at a whole number of its own
+-- ---- caf and cap: two points at least, each at a whole number of its own
+
+-- the points of a curve
 abbrev pub points_in : Database → List ℕ → List CapRow
 points_in db name = filter (λ cap. bytes_eq cap.numbr name) db.cap
 
@@ -95,16 +105,16 @@ caf_rules db =
     twice row.Caf ∷
     (λ earlier r. flaw_if Points (not (is_real_format r.rawfmt) && nat_lt (length (points_in db r.numbr)) 2)) ∷ []
 
--- an earlier point of the curve at the same whole number
+-- whether another point is of the same curve and at this whole number
 abbrev pub is_same_x : ℕ → ℤ → CapRow → CapRow → Bool
 is_same_x radix x r other = bytes_eq other.numbr r.numbr && option_eq int_eq (whole_number radix other.xvals) (Some x)
 
--- a text that is no whole number, or the x of an earlier point
+-- whether an x is missing, as of a text that is no whole number, or is that of an earlier point
 abbrev pub is_bad_x : ℕ → List CapRow → CapRow → Option ℤ → Bool
 is_bad_x radix earlier r None = true
 is_bad_x radix earlier r (Some x) = list_any (is_same_x radix x r) earlier
 
--- a point of a curve over whole numbers whose x is bad
+-- whether a point is of a curve over whole numbers, and its x is bad
 abbrev pub is_bad_point : Option CafRow → List CapRow → CapRow → Bool
 is_bad_point None earlier r = false
 is_bad_point (Some caf) earlier r = not (is_real_format caf.rawfmt) && is_bad_x caf.radix earlier r (whole_number caf.radix r.xvals)
@@ -116,7 +126,9 @@ cap_rules db =
     (λ earlier r. missing ((1, has_points db r.numbr) ∷ [])) ∷
     (λ earlier r. flaw_if Points (is_bad_point (find (λ caf. bytes_eq caf.numbr r.numbr) db.caf) earlier r)) ∷ []
 
--- TXP: bounds that are whole numbers
+-- ---- txp: bounds that are whole numbers
+
+-- whether a range is of a curve over whole numbers, and one of its bounds is no whole number
 abbrev pub is_bad_range : Option TxfRow → TxpRow → Bool
 is_bad_range None r = false
 is_bad_range (Some txf) r = not (is_real_format txf.rawfmt) && (is_none (decimal_whole r.low) || is_none (decimal_whole r.high))
@@ -128,7 +140,9 @@ txp_rules db =
     (λ earlier r. missing ((1, has_texts db r.numbr) ∷ [])) ∷
     (λ earlier r. flaw_if Points (is_bad_range (find (λ txf. bytes_eq txf.numbr r.numbr) db.txf) r)) ∷ []
 
--- OCF and OCP: checks of parameters, and limits of checks
+-- ---- ocf and ocp: checks of parameters, and limits of checks
+
+-- the rules of ocf
 abbrev pub ocf_rules : Database → List (Rule OcfRow)
 ocf_rules db = twice row.Ocf ∷ (λ earlier r. missing ((1, has_parameter db r.name) ∷ [])) ∷ []
 

@@ -9,18 +9,18 @@ use Rattle.mib_model.specs.declared.rows.Bound.{Bound}
 use Rattle.mib_model.specs.declared.rows.Bound.TheVariants as bound
 use Rattle.mib_model.specs.Columns.{Form, Named, Natural, Integer, Letter, Capital, Decimal, AnyText, Bounding, Content, Column, Must, Optional, Filled, Value, Values}
 
--- the same digits and exponent
+-- whether two decimals have equal digits and exponents
 abbrev pub same_decimal : Dec → Dec → Bool
 same_decimal x y = int_eq x.m y.m && int_eq x.e y.e
 
--- the same bound
+-- whether two bounds are equal
 abbrev pub same_bound : Bound → Bound → Bool
 same_bound bound.Empty bound.Empty = true
 same_bound (bound.Number x) (bound.Number y) = same_decimal x y
 same_bound (bound.Words x) (bound.Words y) = bytes_eq x y
 same_bound x y = false
 
--- the same contents of a form
+-- whether two contents of a form are equal
 abbrev pub same_content : (form : Form) → Content form → Content form → Bool
 same_content Named x y = bytes_eq x y
 same_content (Natural low high) x y = x == y
@@ -31,22 +31,14 @@ same_content Decimal x y = same_decimal x y
 same_content AnyText x y = bytes_eq x y
 same_content (Bounding states) x y = same_bound x y
 
--- the same in a column
+-- whether two values of a column are equal
 abbrev pub same_value : (column : Column) → Value column → Value column → Bool
 same_value (Must number form) x y = same_content form x y
 same_value (Optional number form) x y = option_eq (same_content form) x y
 same_value (Filled number form empty) x y = same_content form x y
 
--- the same values in all columns
+-- whether two rows of values are equal, column by column
 unfoldable pub same_values : (columns : List Column) → Values columns → Values columns → Bool
 same_values [] x y = true
 same_values (column ∷ []) x y = same_value column x.0 y.0
 same_values (column ∷ next ∷ columns) x y = same_value column x.0 y.0 && same_values (next ∷ columns) x.1 y.1
-
--- both missing, or both there and the same
-abbrev pub same_option : {A : Type 0} → (A → A → Bool) → Option A → Option A → Bool
-same_option same x y = option_eq same x y
-
--- as many items, and each the same as that at its place
-abbrev pub same_list : {A : Type 0} → (A → A → Bool) → List A → List A → Bool
-same_list same xs ys = pointwise same xs ys

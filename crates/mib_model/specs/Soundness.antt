@@ -38,6 +38,6 @@ flaws db = flat_map (flaws_of db) kinds
 abbrev pub first_flaw : Database → Option MibFault
 first_flaw db = first_of (flaws db)
 
--- no flaw stands
+-- a database without a flaw
 abbrev pub IsSound : Database → Type 0
 IsSound db = flaws db ≡ []

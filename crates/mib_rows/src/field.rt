@@ -50,7 +50,7 @@ pub fn natural(field: &[u8], column: u8, low: u64, high: u64) -> Result<u64, Lin
     }
 }
 
-/// The same, with a value where the field is empty.
+/// A number of a range from 0 on, or a value where the field is empty.
 #[tactic(auto, unfolding(mib_model::specs::Columns::value_of, mib_model::specs::Columns::content_of))]
 pub fn natural_or(
     field: &[u8],
@@ -69,7 +69,7 @@ pub fn natural_or(
     natural(field, column, low, high)
 }
 
-/// The same, or none where the field is empty.
+/// A number of a range from 0 on, or none where the field is empty.
 #[tactic(auto, unfolding(mib_model::specs::Columns::value_of, mib_model::specs::Columns::content_of))]
 pub fn natural_or_none(
     field: &[u8],
@@ -96,7 +96,7 @@ pub fn integer(field: &[u8], column: u8, low: i128, high: i128) -> Result<i128, 
     number(trim(field), low, high).ok_or(fault(column, MibCode::BadNumber))
 }
 
-/// The same, with a value where the field is empty.
+/// A number of a range, or a value where the field is empty.
 #[tactic(auto, unfolding(mib_model::specs::Columns::value_of, mib_model::specs::Columns::content_of))]
 pub fn integer_or(
     field: &[u8],
@@ -125,7 +125,7 @@ pub fn letter(field: &[u8], column: u8, letters: &[u8]) -> Result<u8, LineFault>
     code(trim(field), letters).ok_or(fault(column, MibCode::BadCode))
 }
 
-/// The same, with a letter where the field is empty.
+/// One of some letters, or a letter where the field is empty.
 #[tactic(auto, unfolding(mib_model::specs::Columns::value_of, mib_model::specs::Columns::content_of))]
 pub fn letter_or(field: &[u8], column: u8, letters: &[u8], empty: u8) -> Result<u8, LineFault>
     ensures { result ≡ value_of (Filled column (Letter letters.now) empty) field.now }

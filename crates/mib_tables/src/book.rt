@@ -170,7 +170,7 @@ impl Book {
         }
     }
 
-    /// The same database in a book of its own.
+    /// A book of its own with this database.
     pub fn copy(&self) -> Result<Book, AllocError>
         ensures { IfOk result (λ book. book ≡ self.now) }
     {

@@ -114,7 +114,7 @@ impl<R: TableRow> Table<R> {
         self.rows.as_slice()
     }
 
-    /// The same rows in a table of their own.
+    /// A table of its own with these rows.
     pub fn copy(&self, alloc: Global) -> Result<Self, AllocError>
         ensures { IfOk result (λ table. table ≡ self.now) }
     {
