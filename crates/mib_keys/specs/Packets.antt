@@ -3,7 +3,7 @@ use Rattle.std.specs.Prelude.{Bool, ◌==◌, ◌&&◌}
 use Rattle.mib_model.specs.declared.rows.PidRow.{PidRow}
 use Rattle.mib_keys.specs.declared.keys.PacketKey.{PacketKey}
 
--- the same kind of packet
+-- whether two packets have the same APID, types and discriminants
 abbrev pub packet_eq : PacketKey → PacketKey → Bool
 packet_eq x y =
     (x.apid == y.apid) && ((x.service == y.service) && ((x.subtype == y.subtype) && ((x.pi1_val == y.pi1_val) && (x.pi2_val == y.pi2_val))))

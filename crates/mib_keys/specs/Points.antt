@@ -10,7 +10,7 @@ use Rattle.mib_model.specs.WholeNumbers.{whole_number}
 use Rattle.mib_keys.specs.declared.keys.PointKey.{PointKey}
 use Rattle.mib_keys.specs.Indexes.{cut}
 
--- the same point
+-- whether two points are of one curve and at one x
 abbrev pub point_eq : PointKey → PointKey → Bool
 point_eq p q = bytes_eq p.numbr q.numbr && int_eq p.x q.x
 

@@ -121,7 +121,7 @@ row_by (column ∷ columns) make row = do
   value ← value_of column (field_at row (number_in column))
   row_by columns (λ values. make (value, values)) row
 
--- the same of fields that stand one behind the other from a place on, each with the number of its own column
+-- what is made of fields that stand one behind the other from a place on, each with the number of its own column
 abbrev pub key_by : {Made : Type 0} (columns : List Column) → (Values columns → Made) → ℕ → List (List ℕ) → Result Made LineFault
 key_by [] make place row = Ok (make tt)
 key_by (column ∷ columns) make place row = do

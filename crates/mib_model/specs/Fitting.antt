@@ -59,7 +59,7 @@ FitsValue (Optional number form) None = Unit {0}
 FitsValue (Optional number form) (Some content) = FitsForm form content × (content_text form content ≢ [])
 FitsValue (Filled number form empty) content = FitsForm form content × (content_text form content ≡ [] → content ≡ empty)
 
--- the same of all columns
+-- what a row may have in all its columns
 abbrev pub FitsValues : (columns : List Column) → Values columns → Type 0
 FitsValues [] values = Unit {0}
 FitsValues (column ∷ columns) values = FitsValue column values.0 × FitsValues columns values.1

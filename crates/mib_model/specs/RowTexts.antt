@@ -19,7 +19,7 @@ use Rattle.mib_model.specs.Writing.{line_by}
 abbrev pub is_of_states : ℕ → Bool
 is_of_states letter = (letter == 0x43) || (letter == 0x45)
 
--- the same of the octets of a field
+-- whether the octets of a field are the letter of a check of states
 abbrev pub names_states : List ℕ → Bool
 names_states (letter ∷ []) = is_of_states letter
 names_states other = false

@@ -27,7 +27,7 @@ content_text Decimal d = decimal_text d
 content_text AnyText octets = octets
 content_text (Bounding states) b = bound_text b
 
--- the same where there may be none
+-- the text of a content, and no text where there is none
 abbrev pub option_text : (form : Form) → Option (Content form) → List ℕ
 option_text form None = []
 option_text form (Some content) = content_text form content

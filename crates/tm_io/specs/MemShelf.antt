@@ -25,7 +25,7 @@ most_of shelf = shelf.most
 abbrev pub skips_of : MemShelf → Option ℕ
 skips_of shelf = shelf.skips
 
--- the same after one turn
+-- how many further turns come before the one that fails, after one turn
 abbrev pub one_less : Option ℕ → Option ℕ
 one_less None = None
 one_less (Some zero) = None
