@@ -1,10 +1,3 @@
-ghost use Rattle.std.specs.Prelude.{◌≡◌, ◌≤◌, IfOk, length};
-ghost use Rattle.mib_model.specs.declared.kind.Kind.{Kind};
-ghost use Rattle.mib_model.specs.declared.kind.Kind.TheVariants as kind;
-ghost use Rattle.mib_model.specs.Database.{database_of};
-ghost use Rattle.mib_model.specs.Drafts.{rows_of};
-ghost use Rattle.mib_model.specs.RowTexts.{kind_in};
-
 use super::*;
 use mib_model::{KINDS, Key, Kind, PicRow, PidRow, Row, Tables, TpcfRow};
 use std::test::Fail;
@@ -14,7 +7,7 @@ fn may_cross<T: Send + Sync>(_: &T) {}
 
 #[test]
 fn a_book_may_be_shared_by_threads(rt: HostRuntime) -> Result<(), Fail> {
-    may_cross(&Book::empty(rt.alloc())?);
+    may_cross(&Book::empty(rt.alloc()));
     Ok(())
 }
 
@@ -31,14 +24,12 @@ fn packet(spid: u32, apid: u16) -> PidRow {
     }
 }
 
-fn pid(spid: u32, apid: u16) -> Row
-    ensures { kind_in result ≡ kind.Pid }
-{
+fn pid(spid: u32, apid: u16) -> Row {
     Row::Pid(packet(spid, apid))
 }
 
-fn criteria(apid: Option<u16>) -> Row {
-    Row::Pic(PicRow {
+fn criterion(apid: Option<u16>) -> PicRow {
+    PicRow {
         service: 3,
         subtype: 25,
         pi1_off: -1,
@@ -46,26 +37,28 @@ fn criteria(apid: Option<u16>) -> Row {
         pi2_off: -1,
         pi2_wid: 0,
         apid,
-    })
+    }
 }
 
 // Whether the table of packets has these numbers and APIDs, in this order, and no more.
 fn has_pids(book: &Book, expected: &[(u32, u16)]) -> bool {
-    for (place, (spid, apid)) in (0..u32::MAX).zip(expected.iter().copied()) {
-        if book.row(Kind::Pid, place) != Some(&pid(spid, apid)) {
+    let rows = book.pid();
+    if rows.len() != expected.len() || book.count(Kind::Pid) != expected.len() {
+        return false;
+    }
+    for (row, (spid, apid)) in rows.iter().zip(expected.iter().copied()) {
+        if *row != packet(spid, apid) {
             return false;
         }
     }
-    let count = book.count(Kind::Pid);
-    count as usize == expected.len() && book.row(Kind::Pid, count).is_none()
+    true
 }
 
 #[test]
 fn a_row_takes_the_place_of_its_key_or_comes_last(rt: HostRuntime) -> Result<(), Fail> {
-    let mut book = Book::empty(rt.alloc())?;
+    let mut book = Book::empty(rt.alloc());
     for kind in KINDS {
-        assert_eq!(rt; book.count(kind), 0);
-        assert!(rt; book.row(kind, 0).is_none());
+        assert_eq!(rt; book.count(kind), 0, "{kind:?}");
     }
     for (spid, apid, made) in [
         (7, 100, Put::Added),
@@ -95,7 +88,7 @@ fn a_row_takes_the_place_of_its_key_or_comes_last(rt: HostRuntime) -> Result<(),
 
 #[test]
 fn of_two_rows_with_a_key_the_first_is_replaced_and_goes(rt: HostRuntime) -> Result<(), Fail> {
-    let mut book = Book::empty(rt.alloc())?;
+    let mut book = Book::empty(rt.alloc());
     book.fill(Kind::Pid, &[pid(1, 10), pid(2, 20), pid(1, 30)])?;
     let key = Key::Pid { spid: 1 };
     assert!(rt; has_pids(&book, &[(1, 10), (2, 20), (1, 30)]), "filled");
@@ -119,7 +112,7 @@ fn of_two_rows_with_a_key_the_first_is_replaced_and_goes(rt: HostRuntime) -> Res
 
 #[test]
 fn an_apid_is_part_of_its_key(rt: HostRuntime) -> Result<(), Fail> {
-    let mut book = Book::empty(rt.alloc())?;
+    let mut book = Book::empty(rt.alloc());
     for (apid, made) in [
         (None, Put::Added),
         (Some(100), Put::Added),
@@ -127,7 +120,7 @@ fn an_apid_is_part_of_its_key(rt: HostRuntime) -> Result<(), Fail> {
         (Some(100), Put::Replaced),
         (None, Put::Replaced),
     ] {
-        assert_eq!(rt; book.put(criteria(apid))?, made, "{apid:?}");
+        assert_eq!(rt; book.put(Row::Pic(criterion(apid)))?, made, "{apid:?}");
     }
     let key = Key::Pic {
         service: 3,
@@ -135,15 +128,13 @@ fn an_apid_is_part_of_its_key(rt: HostRuntime) -> Result<(), Fail> {
         apid: Some(100),
     };
     assert_eq!(rt; book.del(&key), Ok(()));
-    assert!(rt; book.row(Kind::Pic, 0) == Some(&criteria(None)));
-    assert!(rt; book.row(Kind::Pic, 1) == Some(&criteria(Some(101))));
-    assert_eq!(rt; book.count(Kind::Pic), 2);
+    assert!(rt; book.pic() == [criterion(None), criterion(Some(101))].as_slice());
     Ok(())
 }
 
 #[test]
 fn a_copy_keeps_its_rows_when_the_book_changes(rt: HostRuntime) -> Result<(), Fail> {
-    let mut book = Book::empty(rt.alloc())?;
+    let mut book = Book::empty(rt.alloc());
     book.put(pid(1, 10))?;
     book.put(pid(2, 20))?;
     let mut copy = book.copy()?;
@@ -159,9 +150,7 @@ fn a_copy_keeps_its_rows_when_the_book_changes(rt: HostRuntime) -> Result<(), Fa
     Ok(())
 }
 
-fn tables(rt: &HostRuntime) -> Result<Tables, Fail>
-    ensures { IfOk result (λ tables. (kind : Kind) → length (rows_of (database_of tables) kind) ≤ HELD_MOST) }
-{
+fn tables(rt: &HostRuntime) -> Result<Tables, Fail> {
     let alloc = rt.alloc();
     Ok(Tables {
         pcf: Vec::new(alloc),
@@ -191,11 +180,11 @@ fn tables(rt: &HostRuntime) -> Result<Tables, Fail>
 fn tables_make_a_book(rt: HostRuntime) -> Result<(), Fail> {
     let book = Book::new(rt.alloc(), tables(&rt)?)?;
     assert!(rt; has_pids(&book, &[(1, 10), (2, 20)]), "new");
-    let title = Row::Tpcf(TpcfRow {
+    let title = TpcfRow {
         spid: 1,
         name: None,
-    });
-    assert!(rt; book.row(Kind::Tpcf, 0) == Some(&title));
+    };
+    assert!(rt; book.tpcf() == [title].as_slice());
     for kind in KINDS {
         let expected = match kind {
             Kind::Pid => 2,
@@ -203,7 +192,6 @@ fn tables_make_a_book(rt: HostRuntime) -> Result<(), Fail> {
             _ => 0,
         };
         assert_eq!(rt; book.count(kind), expected, "{kind:?}");
-        assert_eq!(rt; book.rows(kind).len(), expected as usize, "{kind:?}");
     }
     Ok(())
 }
