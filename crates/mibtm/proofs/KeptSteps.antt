@@ -1,21 +1,24 @@
 -- What is said of a feed that is printed by the tables that were kept is said of the database that they were kept of.
-use Rattle.std.proofs.Common.{◌≡◌, ℕ, List, [], Option, Some, None, Result, IfSome, IfOk, subst, inl, inr}
+use Rattle.std.proofs.Common.{◌≡◌, ℕ, List, [], Option, Some, None, Result, Ok, Err, IfSome, subst}
 use Rattle.std.specs.Io.KnownBytes.{Appends}
 use Rattle.tm_io.specs.Octets.{AppendsPrefix}
-use Rattle.mib_model.specs.declared.code.Code.{Code}
-use Rattle.mib_model.specs.declared.code.Code.TheVariants as code
 use Rattle.mib_model.specs.declared.database.Database.{Database}
 use Rattle.mib_model.specs.declared.fault.MibFault.{MibFault}
 use Rattle.mib_model.specs.Output.{output_of_one}
 use Rattle.mib_model.specs.Texts.{rest_text}
 use Rattle.session.specs.Sources.{Files}
 use Rattle.mibtm.specs.Readings.{Keeps}
-use Rattle.mibtm.specs.Run.{Ends, Ran, StopsWriting, Writes, WritesOver, WritesPart}
-use Rattle.mibtm.specs.Tool.{Decodes, DecodesSome, PrintsFront, Standing}
+use Rattle.mibtm.specs.Run.{EndsBy, Ran, StopsWriting, Writes, WritesOver, WritesPart}
+use Rattle.mibtm.specs.declared.print.Stop.TheVariants as stop
+use Rattle.mibtm.specs.declared.run.RunEnd.{RunEnd}
+use Rattle.mibtm.specs.declared.run.RunEnd.TheVariants as end
+use Rattle.mibtm.specs.declared.run.RunFault.{RunFault}
+use Rattle.mibtm.specs.declared.run.RunFault.TheVariants as fault
 use Rattle.mibtm.proofs.PlainRecords.{output-kept}
+use Rattle.mibtm.proofs.RunSteps.{ran-map}
 
 -- two databases by which the same is printed
-abbrev AreAlike : Database → Database → Type 0
+abbrev pub AreAlike : Database → Database → Type 0
 AreAlike a b = (packets : List (List ℕ)) (tail : List ℕ) → output_of_one a packets tail ≡ output_of_one b packets tail
 
 module _ (a b : Database) (same : AreAlike a b) where
@@ -37,52 +40,21 @@ module _ (a b : Database) (same : AreAlike a b) where
     least = over s.printed old new s.least;
   }
 
-  ends : (c : Code) (packets : List (List ℕ)) (rest left : List ℕ) (before now : ℕ) (old new : Option (List ℕ)) → Ends c a packets rest left before now old new → Ends c b packets rest left before now old new
-  ends code.Ok packets rest left before now old new (none, end, few, wrote) = (none, end, few, writes packets _ old new wrote)
-  ends (code.Cut count) packets rest left before now old new (size, some, end, few, wrote) = (size, some, end, few, writes packets _ old new wrote)
-  ends code.FeedFault packets rest left before now old new (few, wrote) = (few, writes packets _ old new wrote)
-  ends code.OutFault packets rest left before now old new (few, stopped) = (few, stops packets rest before now old new stopped)
-  ends code.Limit packets rest left before now old new (none, all, wrote) = (none, all, writes packets _ old new wrote)
-  ends code.Want packets rest left before now old new (few, printed, reads, wrote) = (few, printed, reads, writes printed _ old new wrote)
-  ends (code.Usage misuse) packets rest left before now old new never = absurd never
-  ends (code.BadMib fault) packets rest left before now old new never = absurd never
-  ends (code.NoFile input) packets rest left before now old new never = absurd never
-  ends code.TablesFault packets rest left before now old new never = absurd never
-  ends code.DeskFault packets rest left before now old new never = absurd never
-  ends code.ReplyFault packets rest left before now old new never = absurd never
+  ends : (r : Result RunEnd RunFault) (before now : ℕ) (packets : List (List ℕ)) (rest left : List ℕ) (old new : Option (List ℕ))
+      → EndsBy r before now a packets rest left old new → EndsBy r before now b packets rest left old new
+  ends (Ok end.Whole) before now packets rest left old new (none, end, few, wrote) = (none, end, few, writes packets _ old new wrote)
+  ends (Ok (end.Cut count)) before now packets rest left old new (size, some, end, few, wrote) = (size, some, end, few, writes packets _ old new wrote)
+  ends (Ok end.Limit) before now packets rest left old new (none, all, wrote) = (none, all, writes packets _ old new wrote)
+  ends (Err fault.Feed) before now packets rest left old new (few, wrote) = (few, writes packets _ old new wrote)
+  ends (Err (fault.Print stop.Out)) before now packets rest left old new (few, stopped) = (few, stops packets rest before now old new stopped)
+  ends (Err (fault.Print stop.Memory)) before now packets rest left old new (few, printed, reads, wrote) = (few, printed, reads, writes printed _ old new wrote)
 
-  ran : (c : Code) (octets left : Option (List ℕ)) (before now : ℕ) (old new : Option (List ℕ)) → Ran c a octets left before now old new → Ran c b octets left before now old new
-  ran c None left before now old new did = tt
-  ran c (Some octets) None before now old new did = absurd did
-  ran c (Some octets) (Some left) before now old new (read, packets, rest, whole, cut, ended) = (read, packets, rest, whole, cut, ends c packets rest left before now old new ended)
+  pub ran_alike : (r : Result RunEnd RunFault) (before now : ℕ) (octets left old new : Option (List ℕ)) → Ran (EndsBy r before now) a octets left old new → Ran (EndsBy r before now) b octets left old new
+  ran_alike r before now octets left old new =
+      ran-map (EndsBy r before now) (EndsBy r before now) a b octets left old new (λ packets rest l. ends r before now packets rest l old new)
 
-  front : (octets : List ℕ) (old new : Option (List ℕ)) → PrintsFront a octets old new → PrintsFront b octets old new
-  front octets old new (packets, more, whole, each, wrote) = (packets, more, whole, each, writes packets _ old new wrote)
-
-  some : (c : Code) (octets : List ℕ) (s : Standing) → DecodesSome c a octets s → DecodesSome c b octets s
-  some (code.NoFile input) octets s did = absurd did
-  some code.FeedFault octets s (inl missed) = inl missed
-  some code.FeedFault octets s (inr did) = inr (ran code.FeedFault (Some octets) s.left _ _ s.old s.new did)
-  some code.TablesFault octets s did = tt
-  some code.Want octets s did = front octets s.old s.new did
-  some code.Ok octets s did = ran code.Ok (Some octets) s.left _ _ s.old s.new did
-  some (code.Usage misuse) octets s did = ran (code.Usage misuse) (Some octets) s.left _ _ s.old s.new did
-  some (code.BadMib fault) octets s did = ran (code.BadMib fault) (Some octets) s.left _ _ s.old s.new did
-  some (code.Cut count) octets s did = ran (code.Cut count) (Some octets) s.left _ _ s.old s.new did
-  some code.DeskFault octets s did = ran code.DeskFault (Some octets) s.left _ _ s.old s.new did
-  some code.OutFault octets s did = ran code.OutFault (Some octets) s.left _ _ s.old s.new did
-  some code.ReplyFault octets s did = ran code.ReplyFault (Some octets) s.left _ _ s.old s.new did
-  some code.Limit octets s did = ran code.Limit (Some octets) s.left _ _ s.old s.new did
-
-  decodes : (c : Code) (found : Option (List ℕ)) (s : Standing) → Decodes c a found s → Decodes c b found s
-  decodes c None s did = did
-  decodes c (Some octets) s did = some c octets s did
-
--- what is said where tables were kept
-pub kept_decodes : (c : Code) (holds : Option Files) (read : Files → Result Database MibFault) (kept : Database) (feeds : Option Files) (name : List ℕ) (s : Standing)
-    → IfSome holds (λ files. Keeps (read files) kept) → IfSome feeds (λ f. Decodes c kept (f name) s)
-    → IfSome holds (λ files. IfOk (read files) (λ db. IfSome feeds (λ f. Decodes c db (f name) s)))
-kept_decodes c None read kept feeds name s keeps did = tt
-kept_decodes c (Some files) read kept None name s (db, is, built, same) did = rw is tt
-kept_decodes c (Some files) read kept (Some f) name s (db, is, built, same) did =
-    rw is (decodes kept db (λ packets tail. rw same (output-kept db packets tail built)) c (f name) s did)
+-- what is said of each database that prints as the kept tables do is said of the one that they were kept of
+pub each_kept : (S : Result Database MibFault → Type 0) (holds : Option Files) (read : Files → Result Database MibFault) (kept : Database) → IfSome holds (λ files. Keeps (read files) kept)
+    → ((db : Database) → AreAlike kept db → S (Ok db)) → IfSome holds (λ files. S (read files))
+each_kept S None read kept keeps all = tt
+each_kept S (Some files) read kept (db, is, built, same) all = rw is (all db (λ packets tail. rw same (output-kept db packets tail built)))

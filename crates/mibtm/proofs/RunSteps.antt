@@ -1,5 +1,5 @@
 -- A run, packet by packet.
-use Rattle.std.proofs.Common.{◌≡◌, ◌<◌, ◌+◌, ℕ, zero, suc, List, [], ◌∷◌, ◌++◌, Option, Some, None, length, take, refl, sym, ap, ◌∙◌, append_assoc, append-nil, arith, subst, zero-add}
+use Rattle.std.proofs.Common.{◌≡◌, ◌<◌, ◌+◌, ℕ, zero, suc, List, [], ◌∷◌, ◌++◌, Option, Some, None, Result, Ok, Err, length, take, refl, sym, ap, ◌∙◌, append_assoc, append-nil, arith, subst, zero-add}
 use Rattle.std.specs.List.{All, concat}
 use Rattle.std.proofs.lemmas.List.{length_push, take_at}
 use Rattle.std.proofs.lemmas.List.Elements.{All-push, All-nil}
@@ -9,16 +9,18 @@ use Rattle.std.specs.Io.KnownBytes.{Appends, Consumes, IsAtEnd}
 use Rattle.tm_io.specs.Octets.{AppendsPrefix}
 use Rattle.packet_feed.specs.Feed.{TookRest, TookLast}
 use Rattle.mib_model.specs.declared.database.Database.{Database}
-use Rattle.mib_model.specs.declared.code.Code.{Code}
-use Rattle.mib_model.specs.declared.code.Code.TheVariants as code
 use Rattle.mib_model.specs.Output.{output_of_one}
 use Rattle.mib_model.specs.Packets.{IsPacket, BeginsNoPacket, IsCut}
 use Rattle.mib_model.specs.Texts.{cut_text, rest_text}
-use Rattle.mibtm.specs.Causes.{code_of_stop, HasFeedCause}
+use Rattle.mibtm.specs.Causes.{HasFeedCause}
 use Rattle.mibtm.specs.Readings.{IsBuilt, plain_record}
-use Rattle.mibtm.specs.Run.{Ran, Ends, Going, Writes, WritesPart, WritesOver, ReadsNoFurther, StopsWriting, StopsAt}
+use Rattle.mibtm.specs.Run.{Ran, Says, EndsBy, EndsWhole, EndsCut, EndsAtLimit, EndsUnread, EndsUnwritten, EndsWanting, Going, Writes, WritesPart, WritesOver, ReadsNoFurther, StopsWriting, StopsAt}
 use Rattle.mibtm.specs.declared.print.Stop.{Stop}
 use Rattle.mibtm.specs.declared.print.Stop.TheVariants as stop
+use Rattle.mibtm.specs.declared.run.RunEnd.{RunEnd}
+use Rattle.mibtm.specs.declared.run.RunEnd.TheVariants as end
+use Rattle.mibtm.specs.declared.run.RunFault.{RunFault}
+use Rattle.mibtm.specs.declared.run.RunFault.TheVariants as fault
 use Rattle.mibtm.proofs.PlainRecords.{plain_records, output-plain, plain_records-push, plain_records-append, plain_records-nil}
 
 -- a tail behind the text
@@ -164,7 +166,7 @@ stops-with db packets printed rest before now old new part reads wrote =
 
 -- the output failed before a packet was read
 pub ran_unhanded : (db : Database) (number before now : ℕ) (start left old new : Option (List ℕ)) → IsBuilt db → number < 1000000001
-    → Going db number start left old new → Ran code.OutFault db start left before now old new
+    → Going db number start left old new → Ran (EndsUnwritten before now) db start left old new
 ran_unhanded db number before now None left old new built few so_far = tt
 ran_unhanded db number before now (Some octets) None old new built few so_far = absurd so_far
 ran_unhanded db number before now (Some octets) (Some left) old new built few so_far =
@@ -177,27 +179,27 @@ ran_unhanded db number before now (Some octets) (Some left) old new built few so
       (omega (arith, count, few), stops-with db packets packets [] before now old new (λ tail. part-tail db packets tail old new built wrote) (reads_all packets []) wrote),
     )
 
-pub ran_whole : (db : Database) (number before now : ℕ) (start left after old new : Option (List ℕ)) → number < 1000000001
-    → IsAtEnd left → Consumes left after [] → Going db number start left old new → Ran code.Ok db start after before now old new
-ran_whole db number before now None left after old new few end taken so_far = tt
-ran_whole db number before now (Some octets) None after old new few end taken so_far = absurd so_far
-ran_whole db number before now (Some octets) (Some left) None old new few end taken so_far = absurd taken
-ran_whole db number before now (Some octets) (Some left) (Some after) old new few end taken so_far =
+pub ran_whole : (db : Database) (number : ℕ) (start left after old new : Option (List ℕ)) → number < 1000000001
+    → IsAtEnd left → Consumes left after [] → Going db number start left old new → Ran EndsWhole db start after old new
+ran_whole db number None left after old new few end taken so_far = tt
+ran_whole db number (Some octets) None after old new few end taken so_far = absurd so_far
+ran_whole db number (Some octets) (Some left) None old new few end taken so_far = absurd taken
+ran_whole db number (Some octets) (Some left) (Some after) old new few end taken so_far =
     let (packets, whole, each, count, wrote) = so_far in
     (concat packets, packets, [], whole ∙ ap (λ l. concat packets ++ l) taken, packets-cut packets each, (refl, sym taken ∙ end, omega (arith, count, few), wrote))
 
-pub ran_limit : (db : Database) (number before now : ℕ) (start left old new : Option (List ℕ)) → number ≡ 1000000001
-    → Going db number start left old new → Ran code.Limit db start left before now old new
-ran_limit db number before now None left old new last so_far = tt
-ran_limit db number before now (Some octets) None old new last so_far = absurd so_far
-ran_limit db number before now (Some octets) (Some left) old new last so_far =
+pub ran_limit : (db : Database) (number : ℕ) (start left old new : Option (List ℕ)) → number ≡ 1000000001
+    → Going db number start left old new → Ran EndsAtLimit db start left old new
+ran_limit db number None left old new last so_far = tt
+ran_limit db number (Some octets) None old new last so_far = absurd so_far
+ran_limit db number (Some octets) (Some left) old new last so_far =
     let (packets, whole, each, count, wrote) = so_far in
     (concat packets, packets, [], whole, packets-cut packets each, (refl, omega (arith, count, last), wrote))
 
 -- writing stopped in the record of a packet that was read
 pub ran_stopped : (s : Stop) (db : Database) (number before now : ℕ) (start left after old mid new : Option (List ℕ)) (packet : List ℕ) → IsBuilt db → number < 1000000001
     → IsPacket packet → Consumes left after packet → StopsAt s (plain_record db number packet) mid new → Going db number start left old mid
-    → Ran (code_of_stop s) db start after before now old new
+    → Ran (EndsBy (Err (fault.Print s)) before now) db start after old new
 ran_stopped s db number before now None left after old mid new packet built few is given stopped so_far = tt
 ran_stopped s db number before now (Some octets) None after old mid new packet built few is given stopped so_far = absurd so_far
 ran_stopped s db number before now (Some octets) (Some left) None old mid new packet built few is given stopped so_far = absurd given
@@ -236,22 +238,22 @@ read_whole octets left rest after packets whole taken = whole ∙ ap (λ l. conc
 rest-cut : (packets : List (List ℕ)) (rest : List ℕ) → All IsPacket packets → BeginsNoPacket rest → IsCut (concat packets ++ rest) packets rest
 rest-cut packets rest each none = record { whole = refl; each = each; begins_none = none }
 
-pub ran_fault : (db : Database) (number before now : ℕ) (start left after old new : Option (List ℕ)) → number < 1000000001
-    → TookRest left after → Going db number start left old new → Ran code.FeedFault db start after before now old new
-ran_fault db number before now None left after old new few took so_far = tt
-ran_fault db number before now (Some octets) None after old new few took so_far = absurd so_far
-ran_fault db number before now (Some octets) (Some left) None old new few took so_far = absurd took.2
-ran_fault db number before now (Some octets) (Some left) (Some after) old new few took so_far =
+pub ran_fault : (db : Database) (number : ℕ) (start left after old new : Option (List ℕ)) → number < 1000000001
+    → TookRest left after → Going db number start left old new → Ran EndsUnread db start after old new
+ran_fault db number None left after old new few took so_far = tt
+ran_fault db number (Some octets) None after old new few took so_far = absurd so_far
+ran_fault db number (Some octets) (Some left) None old new few took so_far = absurd took.2
+ran_fault db number (Some octets) (Some left) (Some after) old new few took so_far =
     let (packets, whole, each, count, wrote) = so_far in
     let (rest, none, taken) = took in
     (concat packets ++ rest, packets, rest, read_whole octets left rest after packets whole taken, rest-cut packets rest each none, (omega (arith, count, few), wrote))
 
-pub ran_cut : (db : Database) (number cut before now : ℕ) (start left after old mid new : Option (List ℕ)) → IsBuilt db → number < 1000000001
-    → TookLast cut left after → Appends mid new (cut_text cut) → Going db number start left old mid → Ran (code.Cut cut) db start after before now old new
-ran_cut db number cut before now None left after old mid new built few took printed so_far = tt
-ran_cut db number cut before now (Some octets) None after old mid new built few took printed so_far = absurd so_far
-ran_cut db number cut before now (Some octets) (Some left) None old mid new built few took printed so_far = absurd took.4
-ran_cut db number cut before now (Some octets) (Some left) (Some after) old mid new built few took printed so_far =
+pub ran_cut : (db : Database) (number cut : ℕ) (start left after old mid new : Option (List ℕ)) → IsBuilt db → number < 1000000001
+    → TookLast cut left after → Appends mid new (cut_text cut) → Going db number start left old mid → Ran (EndsCut cut) db start after old new
+ran_cut db number cut None left after old mid new built few took printed so_far = tt
+ran_cut db number cut (Some octets) None after old mid new built few took printed so_far = absurd so_far
+ran_cut db number cut (Some octets) (Some left) None old mid new built few took printed so_far = absurd took.4
+ran_cut db number cut (Some octets) (Some left) (Some after) old mid new built few took printed so_far =
     let (packets, whole, each, count, wrote) = so_far in
     let (rest, size, some, none, taken, end) = took in (
       concat packets ++ rest,
@@ -264,7 +266,7 @@ ran_cut db number cut before now (Some octets) (Some left) (Some after) old mid 
 
 -- writing stopped in the line of the rest
 pub ran_stopped_at_rest : (s : Stop) (db : Database) (number cut before now : ℕ) (start left after old mid new : Option (List ℕ)) → IsBuilt db → number < 1000000001
-    → TookLast cut left after → now ≡ before → StopsAt s (cut_text cut) mid new → Going db number start left old mid → Ran (code_of_stop s) db start after before now old new
+    → TookLast cut left after → now ≡ before → StopsAt s (cut_text cut) mid new → Going db number start left old mid → Ran (EndsBy (Err (fault.Print s)) before now) db start after old new
 ran_stopped_at_rest s db number cut before now None left after old mid new built few took same stopped so_far = tt
 ran_stopped_at_rest s db number cut before now (Some octets) None after old mid new built few took same stopped so_far = absurd so_far
 ran_stopped_at_rest s db number cut before now (Some octets) (Some left) None old mid new built few took same stopped so_far = absurd took.4
@@ -300,17 +302,17 @@ ran_stopped_at_rest stop.Out db number cut before now (Some octets) (Some left) 
     )
 
 -- nothing was read and nothing written
-pub ran_nothing : (db : Database) (left old : Option (List ℕ)) (before now : ℕ) → IsBuilt db → Ran code.Want db left left before now old old
-ran_nothing db None old before now built = tt
-ran_nothing db (Some octets) old before now built =
+pub ran_nothing : (db : Database) (left old : Option (List ℕ)) → IsBuilt db → Ran EndsWanting db left left old old
+ran_nothing db None old built = tt
+ran_nothing db (Some octets) old built =
     ([], [], [], refl, packets-cut [] (All-nil IsPacket), (omega arith, [], reads_all [] [], subst (Appends old old) (sym (output-none db built)) (Appends-nil old)))
 
 -- a run whose output fails at its end
-ends-unflushed : (c : Code) (db : Database) (packets : List (List ℕ)) (rest left : List ℕ) (before now : ℕ) (old new : Option (List ℕ)) → IsBuilt db
-    → HasFeedCause c before now → Ends c db packets rest left before now old new → Ends code.OutFault db packets rest left before now old new
-ends-unflushed code.Ok db packets rest left before now old new built cause (none, end, few, wrote) =
+ends-unflushed : (r : Result RunEnd RunFault) (db : Database) (packets : List (List ℕ)) (rest left : List ℕ) (before now : ℕ) (old new : Option (List ℕ)) → IsBuilt db
+    → HasFeedCause r before now → EndsBy r before now db packets rest left old new → EndsUnwritten before now db packets rest left old new
+ends-unflushed (Ok end.Whole) db packets rest left before now old new built cause (none, end, few, wrote) =
     (omega (arith, few), stops-with db packets packets rest before now old new (λ tail. part-tail db packets tail old new built wrote) (reads_all packets rest) wrote)
-ends-unflushed (code.Cut cut) db packets rest left before now old new built cause (size, some, end, few, wrote) = (
+ends-unflushed (Ok (end.Cut cut)) db packets rest left before now old new built cause (size, some, end, few, wrote) = (
   omega (arith, few),
   record {
     whole = λ same. subst (λ (tail : List ℕ). WritesPart db packets tail old new) (sym (rest_text-some rest cut size some)) (part-same db packets (cut_text cut) old new wrote);
@@ -320,23 +322,22 @@ ends-unflushed (code.Cut cut) db packets rest left before now old new built caus
     least = over-tail db packets (cut_text cut) old new built wrote;
   },
 )
-ends-unflushed code.FeedFault db packets rest left before now old new built cause (few, wrote) =
-    (omega (arith, few), stops-with db packets packets rest before now old new (λ tail. part-tail db packets tail old new built wrote) (reads_all packets rest) wrote)
-ends-unflushed code.OutFault db packets rest left before now old new built cause ends = ends
-ends-unflushed code.Limit db packets rest left before now old new built cause (none, all, wrote) =
+ends-unflushed (Ok end.Limit) db packets rest left before now old new built cause (none, all, wrote) =
     (omega (arith, all), stops-with db packets packets rest before now old new (λ tail. part-tail db packets tail old new built wrote) (reads_all packets rest) wrote)
-ends-unflushed code.Want db packets rest left before now old new built cause (few, printed, reads, wrote) =
+ends-unflushed (Err fault.Feed) db packets rest left before now old new built cause (few, wrote) =
+    (omega (arith, few), stops-with db packets packets rest before now old new (λ tail. part-tail db packets tail old new built wrote) (reads_all packets rest) wrote)
+ends-unflushed (Err (fault.Print stop.Out)) db packets rest left before now old new built cause ends = ends
+ends-unflushed (Err (fault.Print stop.Memory)) db packets rest left before now old new built cause (few, printed, reads, wrote) =
     (few, stops-with db packets printed rest before now old new (λ tail. part-front db packets printed reads.more tail old new built reads.parted wrote) reads wrote)
-ends-unflushed (code.Usage misuse) db packets rest left before now old new built cause ends = absurd ends
-ends-unflushed (code.BadMib fault) db packets rest left before now old new built cause ends = absurd ends
-ends-unflushed (code.NoFile input) db packets rest left before now old new built cause ends = absurd ends
-ends-unflushed code.TablesFault db packets rest left before now old new built cause ends = absurd ends
-ends-unflushed code.DeskFault db packets rest left before now old new built cause ends = absurd ends
-ends-unflushed code.ReplyFault db packets rest left before now old new built cause ends = absurd ends
 
-pub ran_unflushed : (c : Code) (db : Database) (before now : ℕ) (start after old new : Option (List ℕ)) → IsBuilt db → HasFeedCause c before now
-    → Ran c db start after before now old new → Ran code.OutFault db start after before now old new
-ran_unflushed c db before now None after old new built cause ran = tt
-ran_unflushed c db before now (Some octets) None old new built cause ran = absurd ran
-ran_unflushed c db before now (Some octets) (Some left) old new built cause (read, packets, rest, whole, cut, ends) =
-    (read, packets, rest, whole, cut, ends-unflushed c db packets rest left before now old new built cause ends)
+-- what is said of runs that leave the same octets
+pub ran-map : (P Q : Says) (a b : Database) (start left old new : Option (List ℕ)) → ((packets : List (List ℕ)) (rest l : List ℕ) → P a packets rest l old new → Q b packets rest l old new)
+    → Ran P a start left old new → Ran Q b start left old new
+ran-map P Q a b None left old new turn ran = tt
+ran-map P Q a b (Some octets) None old new turn ran = absurd ran
+ran-map P Q a b (Some octets) (Some left) old new turn (read, packets, rest, whole, cut, ends) = (read, packets, rest, whole, cut, turn packets rest left ends)
+
+pub ran_unflushed : (r : Result RunEnd RunFault) (db : Database) (before now : ℕ) (start after old new : Option (List ℕ)) → IsBuilt db → HasFeedCause r before now
+    → Ran (EndsBy r before now) db start after old new → Ran (EndsUnwritten before now) db start after old new
+ran_unflushed r db before now start after old new built cause ran =
+    ran-map (EndsBy r before now) (EndsUnwritten before now) db db start after old new (λ packets rest l ends. ends-unflushed r db packets rest l before now old new built cause ends) ran

@@ -23,12 +23,12 @@ command_in (word ∷ words) =
     else if bytes_eq word (codes "decode") then decode_in words
     else Err misuse.Command
 
--- what is said of the folder of a check
-abbrev pub IfCheck : Command → (List ℕ → Type 0) → Type 0
-IfCheck (Check folder) says = says folder
+-- what is said of the folder, where words ask for a check
+abbrev pub IfCheck : Result Command Misuse → (List ℕ → Type 0) → Type 0
+IfCheck (Ok (Check folder)) says = says folder
 IfCheck other says = ⊤
 
--- what is said of the folder and the feed of a decoding
-abbrev pub IfDecode : Command → (List ℕ → List ℕ → Type 0) → Type 0
-IfDecode (Decode folder feed workers) says = says folder feed
+-- what is said of the folder and the feed, where words ask for a decoding
+abbrev pub IfDecode : Result Command Misuse → (List ℕ → List ℕ → Type 0) → Type 0
+IfDecode (Ok (Decode folder feed workers)) says = says folder feed
 IfDecode other says = ⊤

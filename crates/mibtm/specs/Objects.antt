@@ -1,5 +1,6 @@
 -- What the objects of a call show before it and behind it.
-use Rattle.std.specs.Prelude.{◌≡◌, ℕ, List, Option}
+use Rattle.std.specs.Prelude.{◌≡◌, ℕ, List, [], Option}
+use Rattle.std.specs.Io.KnownBytes.{Appends}
 use Rattle.session.specs.Causes.{Failed}
 use Rattle.session.specs.Sources.{Files}
 
@@ -51,6 +52,10 @@ HasBroken o = Failed (o.faults o.before) (o.faults o.now)
 -- this is said of the octets that the sink was given before and now
 abbrev pub Took : {O : Type 0} → SinkView O → (Option (List ℕ) → Option (List ℕ) → Type 0) → Type 0
 Took o says = says (o.written o.before) (o.written o.now)
+
+-- the sink was given nothing
+abbrev pub TookNothing : {O : Type 0} → SinkView O → Type 0
+TookNothing o = Took o (λ old new. Appends old new [])
 
 -- the sink didn't fail, and where all was handed on before, all that was written is handed on
 pub record IsHandedOn {O : Type 0} (o : SinkView O) : Type 0 where

@@ -1,17 +1,9 @@
 -- Why the tables of a folder are not to be had. [This profile.]
 use Rattle.std.specs.Prelude.{◌≡◌, ℕ, Result, Err, ⊤}
 use Rattle.session.specs.Causes.{Failed}
-use Rattle.mib_model.specs.declared.code.Code.{Code}
-use Rattle.mib_model.specs.declared.code.Code.TheVariants as code
 use Rattle.mib_model.specs.declared.fault.MibFault.{MibFault}
 use Rattle.mibtm.specs.declared.load.Refusal.{Refusal}
 use Rattle.mibtm.specs.declared.load.Refusal.TheVariants as refusal
-
--- the code of a refusal
-abbrev pub code_of_refusal : Refusal → Code
-code_of_refusal (refusal.Mib fault) = code.BadMib fault
-code_of_refusal refusal.Failed = code.TablesFault
-code_of_refusal refusal.Memory = code.Want
 
 -- tables are refused with just the fault that reading them gives
 abbrev pub Refuses : {Made : Type 0} → Refusal → Result Made MibFault → Type 0

@@ -1,16 +1,18 @@
 -- What a run reads and writes. [This profile.]
-use Rattle.std.specs.Prelude.{◌≡◌, ℕ, ◌+◌, ◌<◌, ◌≤◌, List, [], ◌++◌, length, Option, Some, None, ⊤}
+use Rattle.std.specs.Prelude.{◌≡◌, ℕ, ◌+◌, ◌<◌, ◌≤◌, List, [], ◌++◌, length, Option, Some, None, Result, Ok, Err, ⊤}
 use Rattle.std.specs.List.{All, concat}
 use Rattle.std.specs.Io.KnownBytes.{Appends}
 use Rattle.tm_io.specs.Octets.{AppendsPrefix}
-use Rattle.mib_model.specs.declared.code.Code.{Code}
-use Rattle.mib_model.specs.declared.code.Code.TheVariants as code
 use Rattle.mib_model.specs.declared.database.Database.{Database}
 use Rattle.mib_model.specs.Output.{output_of_one}
 use Rattle.mib_model.specs.Packets.{IsPacket, IsCut}
 use Rattle.mib_model.specs.Texts.{cut_text, rest_text}
 use Rattle.mibtm.specs.declared.print.Stop.{Stop}
 use Rattle.mibtm.specs.declared.print.Stop.TheVariants as stop
+use Rattle.mibtm.specs.declared.run.RunEnd.{RunEnd}
+use Rattle.mibtm.specs.declared.run.RunEnd.TheVariants as end
+use Rattle.mibtm.specs.declared.run.RunFault.{RunFault}
+use Rattle.mibtm.specs.declared.run.RunFault.TheVariants as fault
 
 -- the most packets of a run
 abbrev pub most_packets : ℕ
@@ -48,44 +50,63 @@ pub record StopsWriting (db : Database) (packets : List (List ℕ)) (rest : List
   pub reads : ReadsNoFurther packets printed rest
   pub least : WritesOver db printed old new
 
--- what a code says of the packets and the rest that were read, of what is left of the feed, of the feed's count of faults and
--- of what was written
-abbrev pub Ends : Code → Database → List (List ℕ) → List ℕ → List ℕ → ℕ → ℕ → Option (List ℕ) → Option (List ℕ) → Type 0
-Ends code.Ok db packets rest left before now old new =
-    (rest ≡ []) × (left ≡ []) × (length packets < most_packets) × Writes db packets [] old new
-Ends (code.Cut count) db packets rest left before now old new =
+-- ---- what a run leaves: the packets and the rest that were read, what is left of the feed, and what was written before and now
+
+-- the feed was read to its end, and all packets were printed
+abbrev pub EndsWhole : Database → List (List ℕ) → List ℕ → List ℕ → Option (List ℕ) → Option (List ℕ) → Type 0
+EndsWhole db packets rest left old new = (rest ≡ []) × (left ≡ []) × (length packets < most_packets) × Writes db packets [] old new
+
+-- the feed was read to its end, which is a rest of so many octets, and all packets and the line of the rest were printed
+abbrev pub EndsCut : ℕ → Database → List (List ℕ) → List ℕ → List ℕ → Option (List ℕ) → Option (List ℕ) → Type 0
+EndsCut count db packets rest left old new =
     (length rest ≡ count) × (0 < count) × (left ≡ []) × (length packets < most_packets) × Writes db packets (cut_text count) old new
-Ends code.FeedFault db packets rest left before now old new = (length packets < most_packets) × Writes db packets [] old new
-Ends code.OutFault db packets rest left before now old new = (length packets ≤ most_packets) × StopsWriting db packets rest before now old new
-Ends code.Limit db packets rest left before now old new = (rest ≡ []) × (length packets ≡ most_packets) × Writes db packets [] old new
-Ends code.Want db packets rest left before now old new =
+
+-- the most packets were read and printed
+abbrev pub EndsAtLimit : Database → List (List ℕ) → List ℕ → List ℕ → Option (List ℕ) → Option (List ℕ) → Type 0
+EndsAtLimit db packets rest left old new = (rest ≡ []) × (length packets ≡ most_packets) × Writes db packets [] old new
+
+-- the feed failed behind the packets that were read, which were printed
+abbrev pub EndsUnread : Database → List (List ℕ) → List ℕ → List ℕ → Option (List ℕ) → Option (List ℕ) → Type 0
+EndsUnread db packets rest left old new = (length packets < most_packets) × Writes db packets [] old new
+
+-- the output failed, with these counts of faults of the feed
+abbrev pub EndsUnwritten : ℕ → ℕ → Database → List (List ℕ) → List ℕ → List ℕ → Option (List ℕ) → Option (List ℕ) → Type 0
+EndsUnwritten before now db packets rest left old new = (length packets ≤ most_packets) × StopsWriting db packets rest before now old new
+
+-- memory ran out, and all packets but those in flight were printed
+abbrev pub EndsWanting : Database → List (List ℕ) → List ℕ → List ℕ → Option (List ℕ) → Option (List ℕ) → Type 0
+EndsWanting db packets rest left old new =
     (length packets ≤ most_packets) × (printed : List (List ℕ)) × ReadsNoFurther packets printed rest × Writes db printed [] old new
-Ends other db packets rest left before now old new = ⊥
 
--- the codes that a run ends with
-abbrev pub IsRunCode : Code → Type 0
-IsRunCode code.Ok = ⊤
-IsRunCode (code.Cut count) = ⊤
-IsRunCode code.FeedFault = ⊤
-IsRunCode code.OutFault = ⊤
-IsRunCode code.Limit = ⊤
-IsRunCode code.Want = ⊤
-IsRunCode other = ⊥
+-- what is said of a database, the packets and the rest that were read, what is left, and what was written before and now
+abbrev pub Says : Type 1
+Says = Database → List (List ℕ) → List ℕ → List ℕ → Option (List ℕ) → Option (List ℕ) → Type 0
 
--- what a run with a code did with the octets that the feed had, if they are told: what was read of them is cut into packets and
--- a rest, and the code says more
-abbrev pub Ran : Code → Database → Option (List ℕ) → Option (List ℕ) → ℕ → ℕ → Option (List ℕ) → Option (List ℕ) → Type 0
-Ran c db None left before now old new = ⊤
-Ran c db (Some octets) None before now old new = ⊥
-Ran c db (Some octets) (Some left) before now old new =
-    (read : List ℕ) × (packets : List (List ℕ)) × (rest : List ℕ) × (octets ≡ read ++ left) × IsCut read packets rest × Ends c db packets rest left before now old new
+-- what a run leaves by its answer, with these counts of faults of the feed
+abbrev pub EndsBy : Result RunEnd RunFault → ℕ → ℕ → Says
+EndsBy (Ok end.Whole) before now = EndsWhole
+EndsBy (Ok (end.Cut count)) before now = EndsCut count
+EndsBy (Ok end.Limit) before now = EndsAtLimit
+EndsBy (Err fault.Feed) before now = EndsUnread
+EndsBy (Err (fault.Print stop.Out)) before now = EndsUnwritten before now
+EndsBy (Err (fault.Print stop.Memory)) before now = EndsWanting
+
+-- what a run did with the octets that the feed had, if they are told: what was read of them is cut into packets and a rest, of
+-- which this is said
+abbrev pub Ran : Says → Database → Option (List ℕ) → Option (List ℕ) → Option (List ℕ) → Option (List ℕ) → Type 0
+Ran says db None left old new = ⊤
+Ran says db (Some octets) None old new = ⊥
+Ran says db (Some octets) (Some left) old new =
+    (read : List ℕ) × (packets : List (List ℕ)) × (rest : List ℕ)
+    × (octets ≡ read ++ left) × IsCut read packets rest × says db packets rest left old new
 
 -- the packets before the one of this number were read and printed
 abbrev pub Going : Database → ℕ → Option (List ℕ) → Option (List ℕ) → Option (List ℕ) → Option (List ℕ) → Type 0
 Going db number None left old new = ⊤
 Going db number (Some octets) None old new = ⊥
 Going db number (Some octets) (Some left) old new =
-    (packets : List (List ℕ)) × (octets ≡ concat packets ++ left) × All IsPacket packets × (length packets + 1 ≡ number) × Writes db packets [] old new
+    (packets : List (List ℕ))
+    × (octets ≡ concat packets ++ left) × All IsPacket packets × (length packets + 1 ≡ number) × Writes db packets [] old new
 
 -- what was written of a text where writing stopped
 abbrev pub StopsAt : Stop → List ℕ → Option (List ℕ) → Option (List ℕ) → Type 0

@@ -1,5 +1,5 @@
 -- The statement of `tool`: what a call shows of the objects that it is handed, by the status that it answers. [This profile.]
-use Rattle.std.specs.Prelude.{◌≡◌, ◌≤◌, ℕ, List, [], Option, Some, None, Result, Err, IfSome, IfOk, IsOkAnd, IsSomeAnd, MatchOption, ◌⊎◌}
+use Rattle.std.specs.Prelude.{◌≡◌, ◌≤◌, ℕ, List, Option, Some, None, Result, Err, IfSome, IfOk, IsOkAnd, IsSomeAnd, MatchOption, ◌⊎◌}
 use Rattle.std.specs.Io.KnownBytes.{Appends}
 use Rattle.tm_io.specs.Octets.{AppendsPrefix}
 use Rattle.mib_model.specs.declared.code.Code.{Code}
@@ -9,10 +9,10 @@ use Rattle.mib_model.specs.declared.database.Database.{Database}
 use Rattle.mib_model.specs.declared.fault.MibFault.{MibFault}
 use Rattle.mib_model.specs.Summaries.{summary}
 use Rattle.session.specs.Causes.{Failed}
-use Rattle.mibtm.specs.Objects.{ShelfView, SinkView, HasStood, HasFailed, IsUncalled, IsUnwritten, HasBroken, Took, IsHandedOn}
+use Rattle.mibtm.specs.Objects.{ShelfView, SinkView, HasStood, HasFailed, IsUncalled, IsUnwritten, HasBroken, Took, IsHandedOn, TookNothing}
 use Rattle.session.specs.Sources.{Files}
 use Rattle.mibtm.specs.Sources.{built_in, sound_in}
-use Rattle.mibtm.specs.Run.{Ran}
+use Rattle.mibtm.specs.Run.{Ran, Says, EndsWhole, EndsCut, EndsAtLimit, EndsUnread, EndsUnwritten}
 use Rattle.mibtm.specs.Tool.{PrintsFront}
 
 -- The objects of a call are views of what they show before and now. A command with a desk, as `live` is to be, has the views of
@@ -36,17 +36,18 @@ IsRefused t read fault = IfSome (t.holds t.before) (λ files. read files ≡ Err
 abbrev pub OfFeed : {F : Type 0} → ShelfView F → List ℕ → (Option (List ℕ) → Type 0) → Type 0
 OfFeed f name says = IfSome (f.holds f.before) (λ files. says (files name))
 
--- the feed was read and printed by a database as the status says of a feed that has these octets
-abbrev pub RanBy : {F O : Type 0} → Code → ShelfView F → SinkView O → Database → List ℕ → Type 0
-RanBy c feed out db octets = Took out (Ran c db (Some octets) (feed.left feed.now) (feed.faults feed.before) (feed.faults feed.now))
+-- a feed that has these octets was read and printed by a database, and this is said of the run
+abbrev pub RanBy : {F O : Type 0} → Says → ShelfView F → SinkView O → Database → List ℕ → Type 0
+RanBy says feed out db octets = Took out (Ran says db (Some octets) (feed.left feed.now))
 
--- the tables are built, and the feed is held and was read and printed as the status says
-abbrev pub Printed : {T F O : Type 0} → Code → List ℕ → List ℕ → ShelfView T → ShelfView F → SinkView O → Type 0
-Printed c folder name tables feed out = ByTables tables (λ files. built_in files folder) (λ db. OfFeed feed name (λ found. IsSomeAnd found (RanBy c feed out db)))
+-- the tables are built, and the feed is held and was read and printed, of which this is said
+abbrev pub Printed : {T F O : Type 0} → Says → List ℕ → List ℕ → ShelfView T → ShelfView F → SinkView O → Type 0
+Printed says folder name tables feed out =
+    ByTables tables (λ files. built_in files folder) (λ db. OfFeed feed name (λ found. IsSomeAnd found (RanBy says feed out db)))
 
 -- the turn to the feed failed, and nothing was written
 abbrev pub MissedFeed : {F O : Type 0} → ShelfView F → SinkView O → Type 0
-MissedFeed feed out = Failed (feed.missed feed.before) (feed.missed feed.now) × Took out (λ old new. Appends old new [])
+MissedFeed feed out = Failed (feed.missed feed.before) (feed.missed feed.now) × TookNothing out
 
 -- what each status of `check` says, in the order of the statuses; no other comes
 abbrev pub Checked : {T O : Type 0} → Code → List ℕ → ShelfView T → SinkView O → Type 0
@@ -58,27 +59,32 @@ Checked code.OutFault folder tables out =
     HasStood tables × HasBroken out
     × ByTables tables (λ files. sound_in files folder) (λ db. Took out (λ old new. AppendsPrefix old new (summary db)))
 Checked code.Want folder tables out =
-    HasStood tables × IsHandedOn out × IfTables tables (λ files. sound_in files folder) (λ db. Took out (λ old new. Appends old new []))
+    HasStood tables × IsHandedOn out × IfTables tables (λ files. sound_in files folder) (λ db. TookNothing out)
 Checked other folder tables out = ⊥
 
 -- what each status of `decode` says, in the order of the statuses; no other comes
 abbrev pub Decoded : {T F O : Type 0} → Code → List ℕ → List ℕ → ShelfView T → ShelfView F → SinkView O → Type 0
-Decoded code.Ok folder name tables feed out = HasStood tables × HasStood feed × IsHandedOn out × Printed code.Ok folder name tables feed out
+Decoded code.Ok folder name tables feed out =
+    HasStood tables × HasStood feed × IsHandedOn out × Printed EndsWhole folder name tables feed out
 Decoded (code.BadMib fault) folder name tables feed out =
     HasStood tables × IsUncalled feed × IsUnwritten out × IsRefused tables (λ files. built_in files folder) fault
 Decoded (code.NoFile input.Feed) folder name tables feed out =
     HasStood tables × HasStood feed × IsUnwritten out
     × ByTables tables (λ files. built_in files folder) (λ db. OfFeed feed name (λ found. found ≡ None))
-Decoded (code.Cut count) folder name tables feed out = HasStood tables × HasStood feed × IsHandedOn out × Printed (code.Cut count) folder name tables feed out
+Decoded (code.Cut count) folder name tables feed out =
+    HasStood tables × HasStood feed × IsHandedOn out × Printed (EndsCut count) folder name tables feed out
 Decoded code.TablesFault folder name tables feed out = HasFailed tables × IsUncalled feed × IsUnwritten out
 Decoded code.FeedFault folder name tables feed out =
     HasStood tables × HasFailed feed × IsHandedOn out
-    × ByTables tables (λ files. built_in files folder) (λ db. OfFeed feed name (λ found. MissedFeed feed out ⊎ IsSomeAnd found (RanBy code.FeedFault feed out db)))
+    × ByTables tables (λ files. built_in files folder)
+    (λ db. OfFeed feed name (λ found. MissedFeed feed out ⊎ IsSomeAnd found (RanBy EndsUnread feed out db)))
 Decoded code.OutFault folder name tables feed out =
-    HasStood tables × (feed.faults feed.before ≤ feed.faults feed.now) × HasBroken out × Printed code.OutFault folder name tables feed out
-Decoded code.Limit folder name tables feed out = HasStood tables × HasStood feed × IsHandedOn out × Printed code.Limit folder name tables feed out
+    HasStood tables × (feed.faults feed.before ≤ feed.faults feed.now) × HasBroken out
+    × Printed (EndsUnwritten (feed.faults feed.before) (feed.faults feed.now)) folder name tables feed out
+Decoded code.Limit folder name tables feed out =
+    HasStood tables × HasStood feed × IsHandedOn out × Printed EndsAtLimit folder name tables feed out
 Decoded code.Want folder name tables feed out =
     HasStood tables × HasStood feed × IsHandedOn out
     × IfTables tables (λ files. built_in files folder)
-    (λ db. OfFeed feed name (λ found. MatchOption found (Took out (λ old new. Appends old new [])) (λ octets. Took out (PrintsFront db octets))))
+    (λ db. OfFeed feed name (λ found. MatchOption found (TookNothing out) (λ octets. Took out (PrintsFront db octets))))
 Decoded other folder name tables feed out = ⊥

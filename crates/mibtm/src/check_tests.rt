@@ -120,6 +120,55 @@ fn tables_are_tested_in_their_order(rt: HostRuntime) -> Result<(), Fail> {
     )
 }
 
+// The tables in the order in which they are read.
+const TABLES: [&str; 15] = [
+    "pcf", "pid", "pic", "tpcf", "plf", "vpd", "cur", "caf", "cap", "txf", "txp", "mcf", "lgf",
+    "ocf", "ocp",
+];
+
+// A check over two tables alone has this line on its end: a table that is marked, and one that can't be read.
+fn told_of_two<X: Abort + Threads + Wait + Sync>(
+    rt: &X,
+    alloc: Global,
+    marked: &str,
+    unread: &str,
+    line: &str,
+) -> Result<(), Fail> {
+    let marked = format!(in alloc; "mib/{marked}.dat")?;
+    let unread = format!(in alloc; "mib/{unread}.dat")?;
+    let files = vec![in alloc;
+        file(alloc, &marked, b"\xEF\xBB\xBF", &[])?,
+        file(alloc, &unread, b"", &[0])?,
+    ]?;
+    let mut out = sink(alloc, &[], 4096)?;
+    let code = call(
+        rt,
+        alloc,
+        &["check", "mib"],
+        &mut MemShelf::new(files, 4096),
+        &mut feed(alloc, PACKET, &[], 4096)?,
+        &mut out,
+    )?;
+    let mut told = Line::new();
+    add_code(&mut told, &code);
+    assert_eq!(rt; told.bytes(), line.as_bytes());
+    assert!(rt; out.bytes().is_empty());
+    Ok(())
+}
+
+#[test]
+fn a_table_is_refused_or_fails_before_the_next_is_read(rt: HostRuntime) -> Result<(), Fail> {
+    let alloc = rt.alloc();
+    for at in 0..14 {
+        let first = TABLES[at];
+        let next = TABLES[at + 1];
+        let refused = format!(in alloc; "BADMIB {first} 0 MARK")?;
+        told_of_two(&rt, alloc, first, next, &refused)?;
+        told_of_two(&rt, alloc, next, first, "FAULT TABLES")?;
+    }
+    Ok(())
+}
+
 #[test]
 fn a_row_is_read_from_left_to_right(rt: HostRuntime) -> Result<(), Fail> {
     let alloc = rt.alloc();

@@ -1,14 +1,13 @@
 // The command `decode`: tables, then a feed.
 ghost use Rattle.std.specs.Prelude.{◌≡◌, ◌≢◌, IfSome, IfOk, IfErr, OnOk, Ok};
 ghost use Rattle.mib_model.specs.Database.{database_of};
-ghost use Rattle.mibtm.specs.Causes.{HasFeedCause, HasOutCause};
 ghost use Rattle.mibtm.specs.Readings.{IsBuilt, Keeps};
 ghost use Rattle.mibtm.specs.Refusals.{HasRefusalCause, Refuses};
 ghost use Rattle.mibtm.specs.Sources.{built_in, if_built};
 ghost use Rattle.mibtm.specs.Objects.{shelf, sink};
 ghost use Rattle.mibtm.specs.Statement.{Decoded};
-ghost use Rattle.mibtm.specs.Tool.{Decodes, IsBeforeRun, IsFeedCode};
 
+use crate::codes::run_code;
 use crate::load::{Refusal, sound_book};
 use crate::run::run;
 use crate::tables::read_tables;
@@ -17,29 +16,6 @@ use mib_model::{Code, Input, Tables};
 use mib_tables::Book;
 use std::alloc::Global;
 use tm_io::{Shelf, Sink};
-
-// Prints the feed of that name by these tables.
-fn decode_feed<F: Shelf, O: Sink>(
-    alloc: Global,
-    tables: &Tables,
-    name: &str,
-    feed: &mut F,
-    out: &mut O,
-) -> Code
-    requires { IsBuilt (database_of tables.now) }
-    ensures decodes { IfSome (F.holds feed.old) (λ feeds. Decodes result (database_of tables.now) (feeds name.now) (record { missed_before = F.missed feed.old; missed_now = F.missed feed.new; faults_before = F.faults feed.old; faults_now = F.faults feed.new; left = F.left feed.new; old = O.written out.old; new = O.written out.new })) }
-    ensures code { IsFeedCode result }
-    ensures feed { HasFeedCause result (F.faults feed.old) (F.faults feed.new) }
-    ensures handed { result ≢ Code.OutFault → O.handed out.old ≡ O.written out.old → O.handed out.new ≡ O.written out.new }
-    ensures out { HasOutCause result (O.faults out.old) (O.faults out.new) }
-    ensures before_run { IsBeforeRun result → out.new ≡ out.old }
-{
-    match feed.aim(name) {
-        Ok(true) => run(alloc, tables, feed, out),
-        Ok(false) => Code::NoFile(Input::Feed),
-        Err(_) => Code::FeedFault,
-    }
-}
 
 // The tables that packets are printed by, where all rows of a book are built.
 fn built_tables(alloc: Global, book: &Book) -> Result<Tables, Refusal>
@@ -78,10 +54,18 @@ pub(crate) fn decode<T: Shelf, F: Shelf, O: Sink>(
     feed: &mut F,
     out: &mut O,
 ) -> Code
-    ensures { Decoded result folder.now name.now (shelf tables.old tables.new T.holds T.left T.faults T.missed) (shelf feed.old feed.new F.holds F.left F.faults F.missed) (sink out.old out.new O.written O.handed O.faults) }
+    ensures { Decoded result folder.now name.now
+        (shelf tables.old tables.new T.holds T.left T.faults T.missed)
+        (shelf feed.old feed.new F.holds F.left F.faults F.missed)
+        (sink out.old out.new O.written O.handed O.faults) }
 {
-    match folder_tables(alloc, folder, tables) {
-        Ok(kept) => decode_feed(alloc, &kept, name, feed, out),
-        Err(refusal) => Code::from(refusal),
+    let kept = match folder_tables(alloc, folder, tables) {
+        Ok(kept) => kept,
+        Err(refusal) => return Code::from(refusal),
+    };
+    match feed.aim(name) {
+        Ok(true) => run_code(run(alloc, &kept, feed, out)),
+        Ok(false) => Code::NoFile(Input::Feed),
+        Err(_) => Code::FeedFault,
     }
 }

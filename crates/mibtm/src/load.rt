@@ -1,11 +1,11 @@
 // The sound tables of a folder.
 ghost use Rattle.std.specs.Prelude.{◌≡◌, ◌≢◌, IfOk, IfErr, OnOk, IfSome, Ok};
 ghost use Rattle.session.specs.Sources.{database_in};
-ghost use Rattle.mibtm.specs.Refusals.{HasRefusalCause, Refuses, code_of_refusal};
+ghost use Rattle.mibtm.specs.Refusals.{HasRefusalCause, Refuses};
 ghost use Rattle.mibtm.specs.Sources.{if_sound, sound_in};
 
 use mib_keys::{SoundFault, sound};
-use mib_model::{Code, MibFault};
+use mib_model::MibFault;
 use mib_tables::Book;
 use session::{LoadFault, load};
 use std::alloc::Global;
@@ -17,18 +17,6 @@ pub(crate) enum Refusal {
     Mib(MibFault),
     Failed,
     Memory,
-}
-
-impl From<Refusal> for Code {
-    fn from(refusal: Refusal) -> Code
-        ensures { result ≡ code_of_refusal refusal }
-    {
-        match refusal {
-            Refusal::Mib(fault) => Code::BadMib(fault),
-            Refusal::Failed => Code::TablesFault,
-            Refusal::Memory => Code::Want,
-        }
-    }
 }
 
 // The tables of a folder, whether they are sound or not.

@@ -10,6 +10,7 @@
 mod buffer;
 mod check;
 mod code_text;
+mod codes;
 mod decode;
 mod kinds;
 mod load;

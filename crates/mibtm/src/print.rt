@@ -1,10 +1,9 @@
 // Writing to the output.
 ghost use Rattle.std.specs.Prelude.{◌≡◌, OnOk, IfErr};
 ghost use Rattle.std.specs.Io.KnownBytes.{Appends};
-ghost use Rattle.mibtm.specs.Causes.{HasStopCause, code_of_stop};
-ghost use Rattle.mibtm.specs.Run.{IsRunCode, StopsAt};
+ghost use Rattle.mibtm.specs.Causes.{HasStopCause};
+ghost use Rattle.mibtm.specs.Run.{StopsAt};
 
-use mib_model::Code;
 use tm_io::{Sink, write_all};
 
 /// Why printing stopped.
@@ -12,18 +11,6 @@ use tm_io::{Sink, write_all};
 pub(crate) enum Stop {
     Memory,
     Out,
-}
-
-impl From<Stop> for Code {
-    fn from(stop: Stop) -> Code
-        ensures code { result ≡ code_of_stop stop }
-        ensures run { IsRunCode result }
-    {
-        match stop {
-            Stop::Memory => Code::Want,
-            Stop::Out => Code::OutFault,
-        }
-    }
 }
 
 /// Writes a text whole.

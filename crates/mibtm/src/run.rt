@@ -1,5 +1,5 @@
 // A run: packets are read and printed one after the other.
-ghost use Rattle.std.specs.Prelude.{◌≡◌, ◌≢◌, ◌≤◌, ◌<◌, length, OnOk, IfErr};
+ghost use Rattle.std.specs.Prelude.{◌≡◌, ◌≢◌, ◌≤◌, ◌<◌, length, Err, OnOk, IfErr};
 ghost use Rattle.std.specs.Io.KnownBytes.{Appends};
 ghost use Rattle.mib_model.specs.Database.{database_of};
 ghost use Rattle.mib_model.specs.Headers.{header_of};
@@ -7,17 +7,35 @@ ghost use Rattle.mib_model.specs.Texts.{cut_text};
 ghost use Rattle.tm_io.specs.Causes.{HasCause};
 ghost use Rattle.mibtm.specs.Causes.{HasOutCause, HasFeedCause, HasStopCause};
 ghost use Rattle.mibtm.specs.Readings.{IsBuilt, plain_record};
-ghost use Rattle.mibtm.specs.Run.{IsRunCode, Ran, StopsAt};
+ghost use Rattle.mibtm.specs.Run.{EndsBy, Ran, StopsAt};
 ghost use Rattle.packet_feed.specs.declared.feed.TheConstants.{PACKET_SIZE};
 
 use crate::buffer::zeros;
 use crate::print::{Stop, print};
 use crate::record::add_record;
 use crate::text::add_cut;
-use mib_model::{Code, Header, Tables};
+use mib_model::{Header, Tables};
 use packet_feed::{Feed, Next, PACKET_SIZE};
 use std::alloc::Global;
 use tm_io::{Failed, Sink, Source};
+
+/// How a run ended that nothing hindered.
+#[derive(Clone, Copy, Debug, PartialEq, Eq)]
+pub(crate) enum RunEnd {
+    /// At the end of the feed.
+    Whole,
+    /// Inside a packet, of which so many octets are there.
+    Cut(u32),
+    /// After the most packets of a run.
+    Limit,
+}
+
+/// What hindered a run.
+#[derive(Clone, Copy, Debug, PartialEq, Eq)]
+pub(crate) enum RunFault {
+    Feed,
+    Print(Stop),
+}
 
 // The most packets of a run.
 const MOST_PACKETS: u64 = 1_000_000_000;
@@ -78,11 +96,11 @@ fn print_packets<S: Source, O: Sink>(
     tables: &Tables,
     source: &mut S,
     out: &mut O,
-) -> Code
+) -> Result<RunEnd, RunFault>
     requires room { length frame.old ≡ PACKET_SIZE }
     requires built { IsBuilt (database_of tables.now) }
-    ensures ran { Ran result (database_of tables.now) (S.left source.old) (S.left source.new) (S.faults source.old) (S.faults source.new) (O.written out.old) (O.written out.new) }
-    ensures code { IsRunCode result }
+    ensures ran { let says = EndsBy result (S.faults source.old) (S.faults source.new) in
+        Ran says (database_of tables.now) (S.left source.old) (S.left source.new) (O.written out.old) (O.written out.new) }
     ensures feed { HasFeedCause result (S.faults source.old) (S.faults source.new) }
     ensures out { HasOutCause result (O.faults out.old) (O.faults out.new) }
     ensures missed { S.missed source.new ≡ S.missed source.old }
@@ -90,26 +108,26 @@ fn print_packets<S: Source, O: Sink>(
     let mut feed = Feed::new(source);
     for number in 1..MOST_PACKETS + 1 {
         let Ok(()) = hand_on_before_wait(&feed, out) else {
-            return Code::OutFault;
+            return Err(RunFault::Print(Stop::Out));
         };
         match feed.next(frame) {
             Next::Packet { octets, header } => {
                 let packet = &frame[..octets as usize];
                 if let Err(stop) = print_packet(text, tables, number, &header, packet, out) {
-                    return Code::from(stop);
+                    return Err(RunFault::Print(stop));
                 }
             }
-            Next::End => return Code::Ok,
+            Next::End => return Ok(RunEnd::Whole),
             Next::Cut { octets } => {
                 return match print_cut(text, octets, out) {
-                    Ok(()) => Code::Cut(octets),
-                    Err(stop) => Code::from(stop),
+                    Ok(()) => Ok(RunEnd::Cut(octets)),
+                    Err(stop) => Err(RunFault::Print(stop)),
                 };
             }
-            Next::Failed => return Code::FeedFault,
+            Next::Failed => return Err(RunFault::Feed),
         }
     }
-    Code::Limit
+    Ok(RunEnd::Limit)
 }
 
 // Prints the packets of a source, in buffers of its own.
@@ -119,16 +137,16 @@ fn print_all<S: Source, O: Sink>(
     tables: &Tables,
     source: &mut S,
     out: &mut O,
-) -> Code
+) -> Result<RunEnd, RunFault>
     requires { IsBuilt (database_of tables.now) }
-    ensures ran { Ran result (database_of tables.now) (S.left source.old) (S.left source.new) (S.faults source.old) (S.faults source.new) (O.written out.old) (O.written out.new) }
-    ensures code { IsRunCode result }
+    ensures ran { let says = EndsBy result (S.faults source.old) (S.faults source.new) in
+        Ran says (database_of tables.now) (S.left source.old) (S.left source.new) (O.written out.old) (O.written out.new) }
     ensures feed { HasFeedCause result (S.faults source.old) (S.faults source.new) }
     ensures out { HasOutCause result (O.faults out.old) (O.faults out.new) }
     ensures missed { S.missed source.new ≡ S.missed source.old }
 {
     let Ok(mut frame) = zeros(alloc, PACKET_SIZE) else {
-        return Code::Want;
+        return Err(RunFault::Print(Stop::Memory));
     };
     print_packets(&mut frame, &mut Vec::new(alloc), tables, source, out)
 }
@@ -141,21 +159,21 @@ pub(crate) fn run<S: Source, O: Sink>(
     tables: &Tables,
     source: &mut S,
     out: &mut O,
-) -> Code
+) -> Result<RunEnd, RunFault>
     requires { IsBuilt (database_of tables.now) }
-    ensures ran { Ran result (database_of tables.now) (S.left source.old) (S.left source.new) (S.faults source.old) (S.faults source.new) (O.written out.old) (O.written out.new) }
-    ensures code { IsRunCode result }
+    ensures ran { let says = EndsBy result (S.faults source.old) (S.faults source.new) in
+        Ran says (database_of tables.now) (S.left source.old) (S.left source.new) (O.written out.old) (O.written out.new) }
     ensures feed { HasFeedCause result (S.faults source.old) (S.faults source.new) }
     ensures out { HasOutCause result (O.faults out.old) (O.faults out.new) }
-    ensures handed { result ≢ Code.OutFault → O.handed out.old ≡ O.written out.old → O.handed out.new ≡ O.written out.new }
+    ensures handed { result ≢ Err (RunFault.Print Stop.Out) → O.handed out.old ≡ O.written out.old → O.handed out.new ≡ O.written out.new }
     ensures missed { S.missed source.new ≡ S.missed source.old }
 {
-    let code = print_all(alloc, tables, source, out);
-    if code == Code::OutFault {
-        return code;
+    let ended = print_all(alloc, tables, source, out);
+    if let Err(RunFault::Print(Stop::Out)) = ended {
+        return ended;
     }
     match out.flush() {
-        Ok(()) => code,
-        Err(_) => Code::OutFault,
+        Ok(()) => ended,
+        Err(_) => Err(RunFault::Print(Stop::Out)),
     }
 }

@@ -1,10 +1,10 @@
-ghost use Rattle.std.specs.Prelude.{◌≡◌, ℕ, List, Some, Ok, map, string_bytes, IfOk, IfErr};
+ghost use Rattle.std.specs.Prelude.{◌≡◌, ℕ, List, Some, Ok, map, string_bytes, IfErr};
 ghost use Rattle.mib_model.specs.declared.database.Database.{Database};
 ghost use Rattle.mibtm.specs.Inputs.{IfCheck, IfDecode, command_in};
 ghost use Rattle.mibtm.specs.Objects.{ShelfView, SinkView, shelf, sink};
 ghost use Rattle.mibtm.specs.Sources.{built_in, sound_in};
 ghost use Rattle.mibtm.specs.Statement.{Checked, Decoded};
-ghost use Rattle.mibtm.specs.Tool.{Completes, CompletesCheck, IsUnfailed};
+ghost use Rattle.mibtm.specs.Tool.{Completes, CompletesCheck, Held, IsSteady, IsSteadySink};
 ghost use Rattle.session.specs.Sources.{Files};
 
 use crate::check::check;
@@ -51,11 +51,14 @@ pub fn tool<
     ensures misuse_out { IfErr (command_in (map string_bytes words.now)) (λ misuse. out.new ≡ out.old) }
 
     // The statement of each command, status by status. A check doesn't call the feed.
-    ensures checks { IfOk (command_in (map string_bytes words.now)) (λ command. IfCheck command (λ folder. Checked result.code folder
-        (shelf tables.old tables.new T.holds T.left T.faults T.missed) (sink out.old out.new O.written O.handed O.faults))) }
-    ensures check_feed { IfOk (command_in (map string_bytes words.now)) (λ command. IfCheck command (λ folder. feed.new ≡ feed.old)) }
-    ensures decodes { IfOk (command_in (map string_bytes words.now)) (λ command. IfDecode command (λ folder name. Decoded result.code folder name
-        (shelf tables.old tables.new T.holds T.left T.faults T.missed) (shelf feed.old feed.new F.holds F.left F.faults F.missed) (sink out.old out.new O.written O.handed O.faults))) }
+    ensures checks { IfCheck (command_in (map string_bytes words.now)) (λ folder. Checked result.code folder
+        (shelf tables.old tables.new T.holds T.left T.faults T.missed)
+        (sink out.old out.new O.written O.handed O.faults)) }
+    ensures check_feed { IfCheck (command_in (map string_bytes words.now)) (λ folder. feed.new ≡ feed.old) }
+    ensures decodes { IfDecode (command_in (map string_bytes words.now)) (λ folder name. Decoded result.code folder name
+        (shelf tables.old tables.new T.holds T.left T.faults T.missed)
+        (shelf feed.old feed.new F.holds F.left F.faults F.missed)
+        (sink out.old out.new O.written O.handed O.faults)) }
 
     ensures desk { desk.new ≡ desk.old }
     ensures replies { replies.new ≡ replies.old }
@@ -73,17 +76,17 @@ pub fn tool<
 /// Where the tables are accepted, the feed is held and nothing fails, a call decodes the feed whole, unless memory
 /// runs out.
 pub fn decoding_is_complete<T, F, O>()
-    ensures { (c : Code) (folder name octets : List ℕ) (files feeds : Files) (db : Database) (tables : ShelfView T) (feed : ShelfView F) (out : SinkView O)
-        → tables.holds tables.before ≡ Some files → built_in files folder ≡ Ok db → feed.holds feed.before ≡ Some feeds → feeds name ≡ Some octets
-        → Decoded c folder name tables feed out
-        → IsUnfailed (tables.faults tables.before) (tables.faults tables.now) → IsUnfailed (feed.faults feed.before) (feed.faults feed.now) → IsUnfailed (out.faults out.before) (out.faults out.now)
-        → Completes c db octets (out.written out.before) (out.written out.now) }
+    ensures { (c : Code) (folder name octets : List ℕ) (files feeds : Files) (db : Database)
+        → (tables : ShelfView T) (feed : ShelfView F) (out : SinkView O)
+        → Held tables files → built_in files folder ≡ Ok db → Held feed feeds → feeds name ≡ Some octets
+        → Decoded c folder name tables feed out → IsSteady tables → IsSteady feed → IsSteadySink out
+        → Completes c db octets out }
 {}
 
 /// Where the tables are sound and nothing fails, a check writes their summary whole, unless memory runs out.
 pub fn checking_is_complete<T, O>()
     ensures { (c : Code) (folder : List ℕ) (files : Files) (db : Database) (tables : ShelfView T) (out : SinkView O)
-        → tables.holds tables.before ≡ Some files → sound_in files folder ≡ Ok db → Checked c folder tables out
-        → IsUnfailed (tables.faults tables.before) (tables.faults tables.now) → IsUnfailed (out.faults out.before) (out.faults out.now)
-        → CompletesCheck c db (out.written out.before) (out.written out.now) }
+        → Held tables files → sound_in files folder ≡ Ok db
+        → Checked c folder tables out → IsSteady tables → IsSteadySink out
+        → CompletesCheck c db out }
 {}

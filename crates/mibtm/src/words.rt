@@ -1,8 +1,8 @@
 // The words of the command line.
-ghost use Rattle.std.specs.Prelude.{◌≡◌, map, string_bytes, MatchResult, Ok, Err};
+ghost use Rattle.std.specs.Prelude.{◌≡◌, map, string_bytes};
 ghost use Rattle.mib_model.specs.Words as Words;
 ghost use Rattle.mibtm.specs.Inputs.{check_in, command_in, decode_in};
-ghost use Rattle.mibtm.specs.Requests.{command_of};
+ghost use Rattle.mibtm.specs.Requests.{Asks};
 
 use mib_model::Misuse;
 
@@ -22,7 +22,7 @@ fn is_option(word: &str) -> bool
 
 // The folder behind `check`.
 fn check_words(words: &[String]) -> Result<Request<'_>, Misuse>
-    ensures { MatchResult result (λ request. check_in (map string_bytes words.now) ≡ Ok (command_of request)) (λ misuse. check_in (map string_bytes words.now) ≡ Err misuse) }
+    ensures { Asks result (check_in (map string_bytes words.now)) }
 {
     match words {
         [folder] if !is_option(folder.as_str()) => Ok(Request::Check {
@@ -34,7 +34,7 @@ fn check_words(words: &[String]) -> Result<Request<'_>, Misuse>
 
 // The folder and the feed behind `decode`.
 fn decode_words(words: &[String]) -> Result<Request<'_>, Misuse>
-    ensures { MatchResult result (λ request. decode_in (map string_bytes words.now) ≡ Ok (command_of request)) (λ misuse. decode_in (map string_bytes words.now) ≡ Err misuse) }
+    ensures { Asks result (decode_in (map string_bytes words.now)) }
 {
     match words {
         [folder, feed] if !is_option(folder.as_str()) && !is_option(feed.as_str()) => {
@@ -49,7 +49,7 @@ fn decode_words(words: &[String]) -> Result<Request<'_>, Misuse>
 
 /// What all words ask for: the command, and then the words behind it.
 pub(crate) fn request_in(words: &[String]) -> Result<Request<'_>, Misuse>
-    ensures { MatchResult result (λ request. command_in (map string_bytes words.now) ≡ Ok (command_of request)) (λ misuse. command_in (map string_bytes words.now) ≡ Err misuse) }
+    ensures { Asks result (command_in (map string_bytes words.now)) }
 {
     match words {
         [command, rest @ ..] if command.as_str() == "check" => check_words(rest),

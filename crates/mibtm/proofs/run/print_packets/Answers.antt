@@ -15,34 +15,34 @@ loop-number-init g c = record {
 
 pub returns-in-Err-clause-ran : goal.returns-in-Err-clause-ran
 returns-in-Err-clause-ran g c =
-    let h = rw c.new-feed.ensures at (rw (← c.from.ensures.code) at
+    let h = rw c.new-feed.ensures at
     (ran_stopped c.in-Err.stop (database_of c.args.tables.now) c.loop-number.number (g.S.Source.faults c.args.source.now) (g.S.Source.faults c.next.new.self.source.now) (g.S.Source.left c.new-feed.result.source.now) (g.S.Source.left c.loop-number.feed.source.now) (g.S.Source.left c.next.new.self.source.now) (g.O.Sink.written c.args.out.now) (g.O.Sink.written c.hand_on_before_wait.new.out) (g.O.Sink.written c.print_packet.new.out) _ c.requires.built
-    c.loop-number-test.true c.in-Packet.ensures.gives.1 c.in-Packet.ensures.gives.2 c.in-Err.ensures.part (going_same _ _ _ _ _ (g.O.Sink.written c.loop-number.out) (g.O.Sink.written c.hand_on_before_wait.new.out) c.hand_on_before_wait.ensures.written c.loop-number.invariant.going))) in
+    c.loop-number-test.true c.in-Packet.ensures.gives.1 c.in-Packet.ensures.gives.2 c.in-Err.ensures.part (going_same _ _ _ _ _ (g.O.Sink.written c.loop-number.out) (g.O.Sink.written c.hand_on_before_wait.new.out) c.hand_on_before_wait.ensures.written c.loop-number.invariant.going)) in
     grind (arith, h)
 
 pub returns-in-End-clause-ran : goal.returns-in-End-clause-ran
 returns-in-End-clause-ran g c =
     let h = rw c.new-feed.ensures at
-    (ran_whole (database_of c.args.tables.now) c.loop-number.number (g.S.Source.faults c.args.source.now) (g.S.Source.faults c.next.new.self.source.now) (g.S.Source.left c.new-feed.result.source.now) (g.S.Source.left c.loop-number.feed.source.now) (g.S.Source.left c.next.new.self.source.now) (g.O.Sink.written c.args.out.now) (g.O.Sink.written c.hand_on_before_wait.new.out) c.loop-number-test.true c.in-End.ensures.gives.0 c.in-End.ensures.gives.1 (going_same _ _ _ _ _ (g.O.Sink.written c.loop-number.out) (g.O.Sink.written c.hand_on_before_wait.new.out) c.hand_on_before_wait.ensures.written c.loop-number.invariant.going)) in
+    (ran_whole (database_of c.args.tables.now) c.loop-number.number (g.S.Source.left c.new-feed.result.source.now) (g.S.Source.left c.loop-number.feed.source.now) (g.S.Source.left c.next.new.self.source.now) (g.O.Sink.written c.args.out.now) (g.O.Sink.written c.hand_on_before_wait.new.out) c.loop-number-test.true c.in-End.ensures.gives.0 c.in-End.ensures.gives.1 (going_same _ _ _ _ _ (g.O.Sink.written c.loop-number.out) (g.O.Sink.written c.hand_on_before_wait.new.out) c.hand_on_before_wait.ensures.written c.loop-number.invariant.going)) in
     grind (arith, h)
 
 pub returns-in-Ok-print_cut-clause-ran : goal.returns-in-Ok-print_cut-clause-ran
 returns-in-Ok-print_cut-clause-ran g c =
     let h = rw c.new-feed.ensures at
-    (ran_cut (database_of c.args.tables.now) c.loop-number.number c.in-Cut.octets (g.S.Source.faults c.args.source.now) (g.S.Source.faults c.next.new.self.source.now) (g.S.Source.left c.new-feed.result.source.now) (g.S.Source.left c.loop-number.feed.source.now) (g.S.Source.left c.next.new.self.source.now) (g.O.Sink.written c.args.out.now) (g.O.Sink.written c.hand_on_before_wait.new.out) (g.O.Sink.written c.print_cut.new.out) c.requires.built c.loop-number-test.true c.in-Cut.ensures.gives c.in-Ok-print_cut.ensures.all (going_same _ _ _ _ _ (g.O.Sink.written c.loop-number.out) (g.O.Sink.written c.hand_on_before_wait.new.out) c.hand_on_before_wait.ensures.written c.loop-number.invariant.going)) in
+    (ran_cut (database_of c.args.tables.now) c.loop-number.number c.in-Cut.octets (g.S.Source.left c.new-feed.result.source.now) (g.S.Source.left c.loop-number.feed.source.now) (g.S.Source.left c.next.new.self.source.now) (g.O.Sink.written c.args.out.now) (g.O.Sink.written c.hand_on_before_wait.new.out) (g.O.Sink.written c.print_cut.new.out) c.requires.built c.loop-number-test.true c.in-Cut.ensures.gives c.in-Ok-print_cut.ensures.all (going_same _ _ _ _ _ (g.O.Sink.written c.loop-number.out) (g.O.Sink.written c.hand_on_before_wait.new.out) c.hand_on_before_wait.ensures.written c.loop-number.invariant.going)) in
     grind (arith, h)
 
 pub returns-in-Err-print_cut-clause-ran : goal.returns-in-Err-print_cut-clause-ran
 returns-in-Err-print_cut-clause-ran g c =
-    let h = rw c.new-feed.ensures at (rw (← c.from-in-Err-print_cut.ensures.code) at
+    let h = rw c.new-feed.ensures at
     (ran_stopped_at_rest _ (database_of c.args.tables.now) c.loop-number.number c.in-Cut.octets (g.S.Source.faults c.args.source.now) (g.S.Source.faults c.next.new.self.source.now) (g.S.Source.left c.new-feed.result.source.now) (g.S.Source.left c.loop-number.feed.source.now) (g.S.Source.left c.next.new.self.source.now) (g.O.Sink.written c.args.out.now) (g.O.Sink.written c.hand_on_before_wait.new.out) (g.O.Sink.written c.print_cut.new.out) c.requires.built
-    c.loop-number-test.true c.in-Cut.ensures.gives (rw c.new-feed.ensures at (c.in-Cut.ensures.cause ∙ c.loop-number.invariant.feed)) c.in-Err-print_cut.ensures.part (going_same _ _ _ _ _ (g.O.Sink.written c.loop-number.out) (g.O.Sink.written c.hand_on_before_wait.new.out) c.hand_on_before_wait.ensures.written c.loop-number.invariant.going))) in
+    c.loop-number-test.true c.in-Cut.ensures.gives (rw c.new-feed.ensures at (c.in-Cut.ensures.cause ∙ c.loop-number.invariant.feed)) c.in-Err-print_cut.ensures.part (going_same _ _ _ _ _ (g.O.Sink.written c.loop-number.out) (g.O.Sink.written c.hand_on_before_wait.new.out) c.hand_on_before_wait.ensures.written c.loop-number.invariant.going)) in
     grind (arith, h)
 
 pub returns-in-Failed-clause-ran : goal.returns-in-Failed-clause-ran
 returns-in-Failed-clause-ran g c =
     let h = rw c.new-feed.ensures at
-    (ran_fault (database_of c.args.tables.now) c.loop-number.number (g.S.Source.faults c.args.source.now) (g.S.Source.faults c.next.new.self.source.now) (g.S.Source.left c.new-feed.result.source.now) (g.S.Source.left c.loop-number.feed.source.now) (g.S.Source.left c.next.new.self.source.now) (g.O.Sink.written c.args.out.now) (g.O.Sink.written c.hand_on_before_wait.new.out) c.loop-number-test.true c.in-Failed.ensures.gives (going_same _ _ _ _ _ (g.O.Sink.written c.loop-number.out) (g.O.Sink.written c.hand_on_before_wait.new.out) c.hand_on_before_wait.ensures.written c.loop-number.invariant.going)) in
+    (ran_fault (database_of c.args.tables.now) c.loop-number.number (g.S.Source.left c.new-feed.result.source.now) (g.S.Source.left c.loop-number.feed.source.now) (g.S.Source.left c.next.new.self.source.now) (g.O.Sink.written c.args.out.now) (g.O.Sink.written c.hand_on_before_wait.new.out) c.loop-number-test.true c.in-Failed.ensures.gives (going_same _ _ _ _ _ (g.O.Sink.written c.loop-number.out) (g.O.Sink.written c.hand_on_before_wait.new.out) c.hand_on_before_wait.ensures.written c.loop-number.invariant.going)) in
     grind (arith, h)
 
 pub loop-number-preserved : goal.loop-number-preserved
@@ -58,7 +58,7 @@ loop-number-preserved g c = record {
 pub returns-clause-ran : goal.returns-clause-ran
 returns-clause-ran g c =
     let h = rw c.new-feed.ensures at
-    (ran_limit (database_of c.args.tables.now) c.loop-number.number (g.S.Source.faults c.args.source.now) (g.S.Source.faults c.loop-number.feed.source.now) (g.S.Source.left c.new-feed.result.source.now) (g.S.Source.left c.loop-number.feed.source.now) (g.O.Sink.written c.args.out.now) (g.O.Sink.written c.loop-number.out) (omega (arith, c.loop-number-test.false)) c.loop-number.invariant.going) in
+    (ran_limit (database_of c.args.tables.now) c.loop-number.number (g.S.Source.left c.new-feed.result.source.now) (g.S.Source.left c.loop-number.feed.source.now) (g.O.Sink.written c.args.out.now) (g.O.Sink.written c.loop-number.out) (omega (arith, c.loop-number-test.false)) c.loop-number.invariant.going) in
     grind (arith, h)
 
 pub returns-in_default-clause-ran : goal.returns-in_default-clause-ran
