@@ -1,9 +1,9 @@
 ghost use Rattle.std.specs.Prelude.{◌≡◌, ◌+◌, ◌*◌, ◌≤◌, ◌<ℤ◌, ◌==◌, ◌&&◌, negsuc, pos, ℕ, length, Option, IfOk, IfSome, OnOk, OnErr, IsTrue, Some, None, true, false};
-ghost use Rattle.std.specs.List.{find, list_all};
+ghost use Rattle.std.specs.List.{find};
 ghost use Rattle.std.specs.Option.{option_copied, option_or};
 ghost use Rattle.mib_model.specs.Headers.{header_of};
 ghost use Rattle.mib_model.specs.Match as Spec;
-ghost use Rattle.mib_model.specs.Match.{service_of, subtype_of, lacks_service, is_criterion, discriminants_fit, found_with, match_by};
+ghost use Rattle.mib_model.specs.Match.{service_of, subtype_of, lacks_service, is_criterion, found_with, match_by};
 
 use crate::keys::{ByCriterion, ByPacket, CriterionKey, PacketKey};
 use bit_field::unsigned;
@@ -21,16 +21,11 @@ pub struct Ident {
 }
 
 impl Model for Ident {
-    ghost use Rattle.std.specs.Prelude.{◌≡◌, true};
-    ghost use Rattle.std.specs.List.{list_all};
-    ghost use Rattle.mib_model.specs.Match.{discriminants_fit};
     ghost use Rattle.ident_plan.specs.Rows.{IdentRows};
 
     ghost Value = { IdentRows };
 
     ghost view = { λ ident. record { pids = ident.pids; pics = ident.pics } };
-
-    ghost invariant = { λ ident. list_all discriminants_fit ident.pics ≡ true };
 }
 
 // The service type and the subtype: octets 7 and 8 behind a secondary header, else 0 (ECSS-E-70-41A, telemetry packet
@@ -61,14 +56,13 @@ fn discriminant(packet: &[u8], offset: i32, width: u8) -> Option<u64>
 
 // The two discriminants by the row of pic that stands for a packet, none where one passes the end.
 fn discriminants(packet: &[u8], row: Option<&PicRow>) -> Option<(u64, u64)>
-    requires { IfSome (option_copied row) (λ row. discriminants_fit row ≡ true) }
     ensures { result ≡ Spec.discriminants packet.now (option_copied row.entry) }
 {
     let Some(row) = row else {
         return Some((0, 0));
     };
-    let first = discriminant(packet, row.pi1_off, row.pi1_wid)?;
-    let second = discriminant(packet, row.pi2_off, row.pi2_wid)?;
+    let first = discriminant(packet, row.pi1_off, row.pi1_wid.bits())?;
+    let second = discriminant(packet, row.pi2_off, row.pi2_wid.bits())?;
     Some((first, second))
 }
 
@@ -96,7 +90,6 @@ impl Ident {
         pics: &[PicRow],
         steps: &mut Steps<L>,
     ) -> Result<Ident, AllocError>
-        requires { list_all discriminants_fit pics.now ≡ true }
         ensures rows { IfOk result (λ ident. ident ≡ record { pids = pids.now; pics = pics.now }) }
         ensures step { OnOk result (steps.new ≡ steps.old + 1) }
         ensures refused { OnErr result (steps.new ≡ steps.old) }
@@ -109,8 +102,7 @@ impl Ident {
 
     // The first row of pic with this key.
     fn row_of_pic(&self, key: CriterionKey) -> Option<&PicRow>
-        ensures row { option_copied result ≡ find (is_criterion key.service key.subtype key.apid) self.now.pics }
-        ensures narrow { IfSome (option_copied result) (λ row. discriminants_fit row ≡ true) }
+        ensures { option_copied result ≡ find (is_criterion key.service key.subtype key.apid) self.now.pics }
     {
         self.pics.find(&key)
     }
@@ -120,8 +112,7 @@ impl Ident {
     fn criterion(&self, header: &Header, packet: &[u8]) -> Option<&PicRow>
         requires header { header.now ≡ header_of packet.now }
         requires long { lacks_service packet.now ≡ false }
-        ensures row { option_copied result ≡ Spec.criterion self.now.pics packet.now }
-        ensures narrow { IfSome (option_copied result) (λ row. discriminants_fit row ≡ true) }
+        ensures { option_copied result ≡ Spec.criterion self.now.pics packet.now }
     {
         let (service, subtype) = types(packet, header.secondary);
         let own = self.row_of_pic(CriterionKey {

@@ -1,7 +1,7 @@
 ghost use Rattle.std.specs.Prelude.{◌≡◌};
 
 use super::*;
-use mib_model::{PicRow, PidRow, Steps};
+use mib_model::{DiscriminantWidth, PicRow, PidRow, Steps};
 use std::alloc::Global;
 use std::marker::Brand;
 use std::process::Abort;
@@ -37,9 +37,9 @@ fn finds<L: Ledger, R: Abort>(rt: &R, alloc: Global, blank: Blank) -> Result<(),
         service: 3,
         subtype: 25,
         pi1_off: 10,
-        pi1_wid: 8,
+        pi1_wid: DiscriminantWidth::new(8),
         pi2_off: -1,
-        pi2_wid: 0,
+        pi2_wid: DiscriminantWidth::new(0),
         apid: None,
     }];
     let mut steps = Steps::<L>::new(blank);

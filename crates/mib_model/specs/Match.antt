@@ -89,7 +89,3 @@ match_by pids pics packet =
 -- what a packet is by a database
 unfoldable pub match_of : Database → List ℕ → Found
 match_of db packet = match_by db.pid db.pic packet
-
--- whether the discriminants of a row of pic have 64 bits at most, as the columns of its table have them
-abbrev pub discriminants_fit : PicRow → Bool
-discriminants_fit row = nat_le row.pi1_wid 64 && nat_le row.pi2_wid 64

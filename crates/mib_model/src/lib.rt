@@ -9,6 +9,7 @@
 mod check;
 mod code;
 mod database;
+mod discriminant_width;
 mod fault;
 mod key;
 mod kind;
@@ -31,6 +32,7 @@ mod tables;
 pub use check::{Change, Class};
 pub use code::{Code, Input, Misuse};
 pub use database::Database;
+pub use discriminant_width::DiscriminantWidth;
 pub use fault::{MibCode, MibFault};
 pub use key::Key;
 pub use kind::{KINDS, Kind};

@@ -1,6 +1,7 @@
 //! The rows of the 15 tables. A field is a column of the SCOS-2000 Database Import ICD in lower case, in the
 //! profile of docs/FORMATS.md; a code is its letter. Contracts see names and texts as octets, numbers as numbers.
 
+use crate::discriminant_width::DiscriminantWidth;
 use crate::name::{Name, Text};
 use crate::number::Dec;
 
@@ -40,9 +41,9 @@ pub struct PicRow {
     pub service: u8,
     pub subtype: u8,
     pub pi1_off: i32,
-    pub pi1_wid: u8,
+    pub pi1_wid: DiscriminantWidth,
     pub pi2_off: i32,
-    pub pi2_wid: u8,
+    pub pi2_wid: DiscriminantWidth,
     pub apid: Option<u16>,
 }
 

@@ -7,7 +7,7 @@ use crate::field::{
     fault, integer_or, letter_or, name, natural, natural_or, natural_or_none, text_or_none,
 };
 use crate::fields::Fields;
-use mib_model::{LineFault, MibCode, PicRow, PidRow, PlfRow, TpcfRow, VpdRow};
+use mib_model::{DiscriminantWidth, LineFault, MibCode, PicRow, PidRow, PlfRow, TpcfRow, VpdRow};
 
 /// A row of packets.
 pub fn pid(row: &Fields) -> Result<PidRow, LineFault>
@@ -39,9 +39,9 @@ pub fn pic(row: &Fields) -> Result<PicRow, LineFault>
         service: natural(row.field(1), 1, 0, 255)? as u8,
         subtype: natural(row.field(2), 2, 0, 255)? as u8,
         pi1_off: integer_or(row.field(3), 3, -1, 65_541, -1)? as i32,
-        pi1_wid: natural_or(row.field(4), 4, 0, 64, 0)? as u8,
+        pi1_wid: DiscriminantWidth::new(natural_or(row.field(4), 4, 0, 64, 0)? as u8),
         pi2_off: integer_or(row.field(5), 5, -1, 65_541, -1)? as i32,
-        pi2_wid: natural_or(row.field(6), 6, 0, 64, 0)? as u8,
+        pi2_wid: DiscriminantWidth::new(natural_or(row.field(6), 6, 0, 64, 0)? as u8),
         apid: natural_or_none(row.field(7), 7, 0, 65_535)?.map(|apid| apid as u16),
     })
 }

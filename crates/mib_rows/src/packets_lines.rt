@@ -29,9 +29,9 @@ pub fn pic(alloc: Global, row: &PicRow) -> Result<Vec<u8>, AllocError>
     out.natural(1, u64::from(row.service))?;
     out.natural(2, u64::from(row.subtype))?;
     out.integer(3, i128::from(row.pi1_off))?;
-    out.natural(4, u64::from(row.pi1_wid))?;
+    out.natural(4, u64::from(row.pi1_wid.bits()))?;
     out.integer(5, i128::from(row.pi2_off))?;
-    out.natural(6, u64::from(row.pi2_wid))?;
+    out.natural(6, u64::from(row.pi2_wid.bits()))?;
     out.natural_or_none(7, row.apid.map(u64::from))?;
     Ok(out.line)
 }

@@ -1,5 +1,5 @@
 use super::*;
-use mib_model::{KINDS, Key, Kind, PicRow, PidRow, Row, Tables, TpcfRow};
+use mib_model::{DiscriminantWidth, KINDS, Key, Kind, PicRow, PidRow, Row, Tables, TpcfRow};
 use std::test::Fail;
 
 // Stands for a place that moves its argument to a thread, and lets others see it.
@@ -33,9 +33,9 @@ fn criterion(apid: Option<u16>) -> PicRow {
         service: 3,
         subtype: 25,
         pi1_off: -1,
-        pi1_wid: 0,
+        pi1_wid: DiscriminantWidth::new(0),
         pi2_off: -1,
-        pi2_wid: 0,
+        pi2_wid: DiscriminantWidth::new(0),
         apid,
     }
 }
