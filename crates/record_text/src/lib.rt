@@ -7,15 +7,20 @@
 //! on `itoa` for digits.
 #![tactic(auto)]
 
+mod code;
+mod fault;
 mod field;
 mod lines;
 mod octets;
 mod raw;
 mod record;
+mod reply;
 mod tail;
 mod value;
 
+pub use code::code_line;
 pub use lines::{HEAD_ROOM, LINE_MOST, LINES_ROOM, Lines, NOTE_ROOM, VALUE_ROOM};
 pub use record::{change_line, cut_line, edition_line, ended_line, head_line};
+pub use reply::reply_line;
 pub use tail::Tail;
 pub use value::value_line;
