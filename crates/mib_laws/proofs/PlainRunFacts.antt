@@ -1,5 +1,5 @@
 -- Databases whose rows ask for nothing that decoding doesn't do yet: their packets' values have no tails and no changes.
-use Rattle.std.proofs.Common.{◌≡◌, ℕ, zero, suc, ◌+◌, pos, int_lt, nat_eq, Bool, true, false, not, cond, ◌&&◌, List, [], ◌∷◌, ◌++◌, map, filter, take, Option, Some, None, refl, ap, subst}
+use Rattle.std.proofs.Common.{◌≡◌, ℕ, zero, suc, ◌+◌, pos, int_lt, nat_eq, Bool, true, false, not, cond, ◌&&◌, ◌||◌, List, [], ◌∷◌, ◌++◌, map, filter, take, Option, Some, None, refl, ap, subst}
 use Rattle.std.proofs.lemmas.Option.{none-some}
 use Rattle.std.specs.List.{AllByRecursion, find, list_any, flat_map, take_while, prefix_len, position, range_with_len}
 use Rattle.std.specs.Option.{is_some, option_or}
@@ -26,7 +26,7 @@ use Rattle.mib_model.specs.Match.{match_of, agrees, found_of, found_with, servic
 use Rattle.mib_model.specs.Orders.{sorted_by}
 use Rattle.mib_model.specs.Output.{stamped_from}
 use Rattle.mib_model.specs.Parameters.{parameter, is_measured, measured_encoding, parameter_encoding}
-use Rattle.mib_model.specs.Unbuilt.{unbuilt, unbuilt_in, is_plain, is_unbuilt_pcf, is_unbuilt_pid, is_unbuilt_plf, any_row}
+use Rattle.mib_model.specs.Unbuilt.{unbuilt, unbuilt_in, is_unbuilt_pcf, is_unbuilt_pid, any_row}
 use Rattle.mib_laws.proofs.Options.{option_or-none, option_map-none, position-none, find-fails}
 use Rattle.mib_laws.specs.Runs.{plainly, plain_record, plain_records}
 
@@ -51,19 +51,13 @@ unfolding unbuilt
 built-from db h =
     let in_pcf = unbuilt_in kind.Pcf is_unbuilt_pcf db.pcf in
     let in_pid = unbuilt_in kind.Pid is_unbuilt_pid db.pid in
-    let in_pic = unbuilt_in kind.Pic any_row db.pic in
-    let in_plf = unbuilt_in kind.Plf is_unbuilt_plf db.plf in
     let in_cur = unbuilt_in kind.Cur any_row db.cur in
     let in_ocf = unbuilt_in kind.Ocf any_row db.ocf in
-    let after_plf = option_or in_cur in_ocf in
-    let after_pic = option_or in_plf after_plf in
-    let after_pid = option_or in_pic after_pic in
+    let after_pid = option_or in_cur in_ocf in
     let after_pcf = option_or in_pid after_pid in
     let pcf = option_or-none in_pcf after_pcf h in
     let pid = option_or-none in_pid after_pid pcf.1 in
-    let pic = option_or-none in_pic after_pic pid.1 in
-    let plf = option_or-none in_plf after_plf pic.1 in
-    let cur = option_or-none in_cur in_ocf plf.1 in
+    let cur = option_or-none in_cur in_ocf pid.1 in
     record {
       no_checks = no_row db.ocf (none_unbuilt kind.Ocf any_row db.ocf cur.1);
       no_selections = no_row db.cur (none_unbuilt kind.Cur any_row db.cur cur.0);
@@ -76,24 +70,17 @@ abbrev IsMeasured : Database → List ℕ → Type 0
 IsMeasured db name = (row : PcfRow) × (parameter db.pcf name ≡ Some row) × (is_measured row ≡ true)
 
 -- a measured parameter among plain ones has no curve and no condition
-and-true : (a b : Bool) → (a && b) ≡ true → (a ≡ true) × (b ≡ true)
-and-true true b h = (refl, h)
-and-true false b h = absurd (subst (λ c. cond c ⊥ (Unit {0})) h tt)
-
-not-some : {A : Type 0} (o : Option A) → not (is_some o) ≡ true → o ≡ None
-not-some None h = refl
-not-some (Some x) h = absurd (subst (λ c. cond c ⊥ (Unit {0})) h tt)
+no-some : {A B : Type 0} (x : Option A) (y : Option B) → (is_some x || is_some y) ≡ false → (x ≡ None) × (y ≡ None)
+no-some None None h = (refl, refl)
+no-some None (Some y) h = absurd (subst (λ c. cond c (Unit {0}) ⊥) h tt)
+no-some (Some x) y h = absurd (subst (λ c. cond c (Unit {0}) ⊥) h tt)
 
 not-not : (b : Bool) → not b ≡ false → b ≡ true
 not-not true h = refl
 not-not false h = absurd (subst (λ c. cond c (Unit {0}) ⊥) h tt)
 
 plain_measured : (row : PcfRow) → is_unbuilt_pcf row ≡ false → is_measured row ≡ true → (row.curtx ≡ None) × (row.valid ≡ None)
-plain_measured row built measured =
-    let plain : is_plain row ≡ true = not-not (is_plain row) (subst (λ b. (b && not (is_plain row)) ≡ false) measured built) in
-    let valid = and-true _ (not (is_some row.valid)) plain in
-    let curtx = and-true _ (not (is_some row.curtx)) valid.0 in
-    (not-some row.curtx curtx.1, not-some row.valid valid.1)
+plain_measured row built measured = no-some row.curtx row.valid (subst (λ b. (b && (is_some row.curtx || is_some row.valid)) ≡ false) measured built)
 
 same_choice : {A : Type 0} (b : Bool) (x : A) → cond b x x ≡ x
 same_choice true x = refl

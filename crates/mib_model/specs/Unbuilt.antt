@@ -1,5 +1,5 @@
 -- Rows that ask for what decoding doesn't do yet: they are refused, so that nothing is printed that isn't whole. [This profile.]
-use Rattle.std.specs.Prelude.{◌+◌, Bool, true, List, Option, option_map, is_some, position, nat_lt, int_lt, pos, ◌==◌, ◌&&◌, not}
+use Rattle.std.specs.Prelude.{◌+◌, Bool, true, List, Option, option_map, is_some, position, int_lt, pos, ◌&&◌, ◌||◌, not}
 use Rattle.std.specs.Option.{option_or}
 use Rattle.mib_model.specs.declared.fault.MibCode.TheVariants.{Unbuilt}
 use Rattle.mib_model.specs.declared.fault.MibFault.{MibFault}
@@ -7,27 +7,16 @@ use Rattle.mib_model.specs.declared.kind.Kind.{Kind}
 use Rattle.mib_model.specs.declared.kind.Kind.TheVariants as kind
 use Rattle.mib_model.specs.declared.rows.PcfRow.{PcfRow}
 use Rattle.mib_model.specs.declared.rows.PidRow.{PidRow}
-use Rattle.mib_model.specs.declared.rows.PlfRow.{PlfRow}
 use Rattle.mib_model.specs.Database.{Database}
-use Rattle.mib_model.specs.Letters.{letter}
-use Rattle.mib_model.specs.Parameters.{is_measured, parameter_encoding}
+use Rattle.mib_model.specs.Parameters.{is_measured}
 
--- a parameter that is an unsigned integer in the usual octet order, with neither a curve nor a condition
-abbrev pub is_plain : PcfRow → Bool
-is_plain row =
-    (row.ptc == 3) && not (row.endian == letter "L") && is_some (parameter_encoding row) && not (is_some row.curtx) && not (is_some row.valid)
-
--- a measured parameter that isn't plain
+-- a measured parameter with a curve or a condition
 abbrev pub is_unbuilt_pcf : PcfRow → Bool
-is_unbuilt_pcf row = is_measured row && not (is_plain row)
+is_unbuilt_pcf row = is_measured row && (is_some row.curtx || is_some row.valid)
 
 -- whether a packet is of variable structure
 abbrev pub is_unbuilt_pid : PidRow → Bool
 is_unbuilt_pid row = not (int_lt row.tpsd (pos 1))
-
--- whether a place has more than one occurrence
-abbrev pub is_unbuilt_plf : PlfRow → Bool
-is_unbuilt_plf row = nat_lt 1 row.nbocc
 
 -- the fault of the first row of a table that isn't built
 abbrev pub unbuilt_in : {R : Type 0} → Kind → (R → Bool) → List R → Option MibFault
@@ -43,6 +32,4 @@ unfoldable pub unbuilt : Database → Option MibFault
 unbuilt db =
     option_or (unbuilt_in kind.Pcf is_unbuilt_pcf db.pcf)
     (option_or (unbuilt_in kind.Pid is_unbuilt_pid db.pid)
-    (option_or (unbuilt_in kind.Pic any_row db.pic)
-    (option_or (unbuilt_in kind.Plf is_unbuilt_plf db.plf)
-    (option_or (unbuilt_in kind.Cur any_row db.cur) (unbuilt_in kind.Ocf any_row db.ocf)))))
+    (option_or (unbuilt_in kind.Cur any_row db.cur) (unbuilt_in kind.Ocf any_row db.ocf)))

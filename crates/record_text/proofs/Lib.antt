@@ -1,0 +1,2 @@
+pub mod ShapeFacts
+pub mod OctetFacts

@@ -1,0 +1,42 @@
+-- Octets of a packet, and hexadecimal digits one by one.
+use Rattle.std.proofs.Common.{◌≡◌, ℕ, zero, suc, ◌+◌, ◌-◌, ◌*◌, ◌/◌, ◌%◌, ◌^◌, ◌<◌, ◌≤◌, true, List, [], ◌∷◌, ◌++◌, take, drop, length, get_or, Some, None, refl, sym, ap, subst, ◌∙◌, length-drop, arith}
+use Rattle.std.specs.Prelude.{Option, cond, unwrap_or}
+use Rattle.std.proofs.lemmas.Bool.{le-leb}
+use Rattle.std.proofs.lemmas.List.{take_more, get_or-drop}
+use Rattle.std.proofs.lemmas.List.FromFn.{map-range_with_len_more}
+use Rattle.std.proofs.lemmas.Nat.{shr-shr}
+use Rattle.bit_field.proofs.BitFacts.{bits-octet, bits-drop}
+use Rattle.mib_model.specs.Bits.{bits, is_inside}
+use Rattle.mib_model.specs.RawTexts.{octets_at, hex_text, hex_digit}
+
+-- the number of a field that stands behind the octet in which its place is
+pub field-number : (packet : List ℕ) (at offset width : ℕ) (found : Option ℕ) → found ≡ cond (is_inside (drop (at / 8) packet) (at % 8 + offset) width) (Some (bits (drop (at / 8) packet) (at % 8 + offset) width)) None
+    → at + offset + width ≤ 8 * length packet → unwrap_or found 0 ≡ bits packet (at + offset) width
+field-number packet at offset width found is fits =
+    let inside : is_inside (drop (at / 8) packet) (at % 8 + offset) width ≡ true = le-leb (at % 8 + offset + width) (8 * length (drop (at / 8) packet)) (omega (arith, length-drop (at / 8) packet)) in
+    let place : 8 * (at / 8) + (at % 8 + offset) ≡ at + offset = omega arith in
+    rw (is, inside) (bits-drop packet (at / 8) (at % 8 + offset) width ∙ ap (λ (j : ℕ). bits packet j width) place)
+
+-- an octet more
+pub octets-more : (packet : List ℕ) (at k : ℕ) → octets_at packet at (k + 1) ≡ octets_at packet at k ++ bits packet (at + 8 * k) 8 ∷ []
+octets-more packet at k = map-range_with_len_more (λ (i : ℕ). bits packet (at + 8 * i) 8) 0 k k (omega arith)
+
+-- octets from an octet's first bit on
+pub octets-whole : (packet : List ℕ) (i n : ℕ) → i + n ≤ length packet → ((k : ℕ) → get_or packet k 0 < 256) → take n (drop i packet) ≡ octets_at packet (8 * i) n
+octets-whole packet i zero inside each = refl
+octets-whole packet i (suc n) inside each =
+    let next : suc n ≡ n + 1 = omega arith in
+    let place : 8 * i + 8 * n ≡ 8 * (i + n) = omega arith in
+    let octet : get_or (drop i packet) n 0 ≡ bits packet (8 * i + 8 * n) 8 =
+    get_or-drop i packet n 0 ∙ (sym (bits-octet packet (i + n) (each (i + n))) ∙ ap (λ (j : ℕ). bits packet j 8) (sym place)) in
+    let step : take (n + 1) (drop i packet) ≡ octets_at packet (8 * i) (n + 1) =
+    take_more (drop i packet) n 0 (omega (arith, length-drop i packet)) ∙ (rw (octets-whole packet i n (omega arith) each, octet) (sym (octets-more packet (8 * i) n))) in
+    subst (λ (m : ℕ). take m (drop i packet) ≡ octets_at packet (8 * i) m) (sym next) step
+
+-- a number's digits, one more
+pub hex-more : (n i digits : ℕ) → i < digits → hex_text (i + 1) (n / 2 ^ (4 * (digits - (i + 1)))) ≡ hex_text i (n / 2 ^ (4 * (digits - i))) ++ hex_digit (n / 2 ^ (4 * (digits - 1 - i)) % 16) ∷ []
+hex-more n i digits below =
+    let next : i + 1 ≡ suc i = omega arith in
+    let same : digits - suc i ≡ digits - 1 - i = omega arith in
+    let more : 4 * (digits - 1 - i) + 4 ≡ 4 * (digits - i) = omega arith in
+    rw (next, same, shr-shr n (4 * (digits - 1 - i)) 4, more) refl

@@ -1,0 +1,9 @@
+use Rattle.std.proofs.Common.{◌≡◌, ◌+◌, ◌-◌, ◌*◌, ◌/◌, ◌^◌, ◌++◌, length}
+use Rattle.mib_model.specs.RawTexts.{hex_text}
+use Rattle.record_text.proofs.octets.add_hex_number.Given as goal
+
+abbrev pub invariant-loop-i : goal.invariant-loop-i
+invariant-loop-i l = record {
+  text : l.out ≡ l.initial.out ++ hex_text l.i (l.number / 2 ^ (4 * (l.digits - l.i)));
+  room : length l.out ≡ length l.initial.out + l.i;
+}

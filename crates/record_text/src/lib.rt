@@ -1,0 +1,26 @@
+//! The printed lines of records, replies and exit codes.
+//!
+//! A packet's record is appended to `Lines`, a buffer that is reserved once: a head line, a line for each value and each
+//! change of an alarm, and a line that tells how the values end. Each call appends exactly the text that a definition of
+//! `mib_model` gives, in one pass and without taking memory, and says how many octets it may append at most. It rests on
+//! `mib_model` for definitions and types, on `bit_field` for the bits of raw values, on `dec_num` for engineering values and
+//! on `itoa` for digits.
+#![tactic(auto)]
+
+mod code;
+mod fault;
+mod field;
+mod lines;
+mod octets;
+mod raw;
+mod record;
+mod reply;
+mod tail;
+mod value;
+
+pub use code::code_line;
+pub use lines::{HEAD_ROOM, LINE_MOST, LINES_ROOM, Lines, NOTE_ROOM, VALUE_ROOM};
+pub use record::{change_line, cut_line, edition_line, ended_line, head_line};
+pub use reply::reply_line;
+pub use tail::Tail;
+pub use value::value_line;
