@@ -1,8 +1,10 @@
-ghost use Rattle.std.specs.Prelude.{◌≡◌, ◌==◌, IfOk, option_and_then};
+ghost use Rattle.std.specs.Prelude.{◌≡◌, ◌==◌, ℕ, List, IfOk, option_and_then};
 ghost use Rattle.std.specs.List.{find};
 ghost use Rattle.std.specs.Option.{option_copied};
+ghost use Rattle.mib_model.specs.declared.database.Database.{Database};
 ghost use Rattle.mib_model.specs.Soundness.{IsSound};
-ghost use Rattle.edition.specs.Layouts.{layout_of};
+ghost use Rattle.edition.specs.Layouts.{layout_of, HasLayout, HasPlaces};
+ghost use Rattle.mib_model.specs.Match.{match_of};
 
 use crate::layouts::layouts;
 use crate::ways::ByTitled;
@@ -80,7 +82,8 @@ impl Edition {
 
     /// The layout of a SPID, none exactly where no packet of that SPID has a fixed layout.
     pub fn layout(&self, spid: u32) -> Option<&Layout>
-        ensures { option_copied result ≡ layout_of self.now spid }
+        ensures rows { option_copied result ≡ layout_of self.now spid }
+        ensures places { HasPlaces self.now spid (option_copied result) }
     {
         self.layouts.get(&spid)
     }
@@ -95,3 +98,8 @@ impl Edition {
         }
     }
 }
+
+/// A packet that is found and is of no structure has a layout.
+pub fn found_packets_have_layouts()
+    ensures { (db : Database) (packet : List ℕ) → HasLayout db (match_of db packet) }
+{}

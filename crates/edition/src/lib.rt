@@ -10,4 +10,4 @@ mod layouts;
 mod sources;
 mod ways;
 
-pub use edition::Edition;
+pub use edition::{Edition, found_packets_have_layouts};

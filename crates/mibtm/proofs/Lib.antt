@@ -1,12 +1,6 @@
-pub mod ListFacts
-pub mod ReadingSteps
-pub mod PlaceSteps
-pub mod RowSteps
-pub mod PlainReadings
 pub mod PlainRecords
+pub mod ValueFacts
 pub mod RunSteps
-pub mod KeptSteps
-pub mod UnbuiltSteps
 pub mod LoadSteps
 pub mod DecodeSteps
 pub mod StatementSteps

@@ -5,11 +5,8 @@ use Rattle.mibtm.specs.declared.load.Refusal.TheVariants as refusal
 use Rattle.mibtm.specs.Refusals.{Refuses}
 use Rattle.mib_model.specs.declared.database.Database.{Database}
 use Rattle.mib_model.specs.declared.fault.MibFault.{MibFault}
-use Rattle.mib_model.specs.declared.tables.Tables.{Tables}
 use Rattle.mib_model.specs.Attempts.{◌>>=◌}
-use Rattle.mib_model.specs.Database.{database_of}
 use Rattle.session.specs.Sources.{Files, database_in}
-use Rattle.mibtm.specs.Readings.{Keeps}
 use Rattle.mibtm.specs.Sources.{built_in, if_built, if_sound, sound_in}
 
 -- a fault that ends the first step ends all
@@ -53,9 +50,9 @@ refused_sound holds folder db (Ok kept) read refused = tt
 refused_sound holds folder db (Err c) read refused = second_sound (Refuses c) holds folder db read refused
 
 -- and of the third
-pub told_built : (holds : Option Files) (folder : List ℕ) (db : Database) (result : Result Tables Refusal) → IfSome holds (λ files. sound_in files folder ≡ Ok db)
-    → IfOk result (λ kept. Keeps (if_built db) (database_of kept)) → IfOk result (λ kept. IfSome holds (λ files. Keeps (built_in files folder) (database_of kept)))
-told_built holds folder db (Ok kept) read told = second_built (λ r. Keeps r (database_of kept)) holds folder db read told
+pub told_built : (holds : Option Files) (folder : List ℕ) (db : Database) (result : Result Database Refusal) → IfSome holds (λ files. sound_in files folder ≡ Ok db)
+    → IfOk result (λ kept. if_built db ≡ Ok kept) → IfOk result (λ kept. IfSome holds (λ files. built_in files folder ≡ Ok kept))
+told_built holds folder db (Ok kept) read told = second_built (λ r. r ≡ Ok kept) holds folder db read told
 told_built holds folder db (Err c) read told = tt
 
 pub refused_built : {A : Type 0} (holds : Option Files) (folder : List ℕ) (db : Database) (result : Result A Refusal) → IfSome holds (λ files. sound_in files folder ≡ Ok db)

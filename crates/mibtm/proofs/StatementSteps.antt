@@ -13,7 +13,6 @@ use Rattle.mibtm.specs.Causes.{HasFeedCause, HasOutCause}
 use Rattle.mibtm.specs.Objects.{ShelfView, SinkView, HasStood, IsUncalled, IsUnwritten, IsHandedOn, Took, TookNothing}
 use Rattle.mibtm.specs.Codes.{code_of_refusal, code_of_run}
 use Rattle.mibtm.specs.Run.{EndsBy, EndsUnread, EndsWanting}
-use Rattle.mibtm.specs.Readings.{Keeps}
 use Rattle.mibtm.specs.Refusals.{Refuses, HasRefusalCause}
 use Rattle.mibtm.specs.Sources.{built_in}
 use Rattle.mibtm.specs.Statement.{Decoded, OfFeed, RanBy, MissedFeed, Printed}
@@ -26,7 +25,6 @@ use Rattle.mibtm.specs.declared.run.RunEnd.TheVariants as end
 use Rattle.mibtm.specs.declared.run.RunFault.{RunFault}
 use Rattle.mibtm.specs.declared.run.RunFault.TheVariants as fault
 use Rattle.mibtm.proofs.DecodeSteps.{ran_prints}
-use Rattle.mibtm.proofs.KeptSteps.{AreAlike, each_kept, ran_alike}
 
 -- a sink that is as it was has nothing to hand on, and took nothing
 unwritten : {O : Type 0} (out : SinkView O) → IsUnwritten out → IsHandedOn out
@@ -78,33 +76,31 @@ found-of : (feeds : Option Files) (name : List ℕ) (P Q : Option (List ℕ) →
 found-of None name P Q turn said = tt
 found-of (Some f) name P Q turn said = turn (f name) said
 
-module _ {T F O : Type 0} (folder name : List ℕ) (tables : ShelfView T) (feed : ShelfView F) (out : SinkView O) (kept : Database)
-    (stood : HasStood tables) (keeps : IfSome (tables.holds tables.before) (λ files. Keeps (built_in files folder) kept)) where
+-- what is said of the database that the tables are
+each_told : (S : Result Database MibFault → Type 0) (holds : Option Files) (read : Files → Result Database MibFault) (db : Database) → IfSome holds (λ files. read files ≡ Ok db)
+    → S (Ok db) → IfSome holds (λ files. S (read files))
+each_told S None read db is said = tt
+each_told S (Some files) read db is said = rw is said
+
+module _ {T F O : Type 0} (folder name : List ℕ) (tables : ShelfView T) (feed : ShelfView F) (out : SinkView O) (db : Database)
+    (stood : HasStood tables) (told : IfSome (tables.holds tables.before) (λ files. built_in files folder ≡ Ok db)) where
   abbrev Fed : Result RunEnd RunFault → Database → Type 0
-  Fed r db = OfFeed feed name (λ found. IsSomeAnd found (RanBy (EndsBy r (feed.faults feed.before) (feed.faults feed.now)) feed out db))
+  Fed r d = OfFeed feed name (λ found. IsSomeAnd found (RanBy (EndsBy r (feed.faults feed.before) (feed.faults feed.now)) feed out d))
 
-  fed-by : (r : Result RunEnd RunFault) → Fed r kept → (db : Database) → AreAlike kept db → Fed r db
-  fed-by r said db same = found-of (feed.holds feed.before) name _ _ each said
-    where
-      each : (found : Option (List ℕ)) → IsSomeAnd found (RanBy (EndsBy r (feed.faults feed.before) (feed.faults feed.now)) feed out kept)
-          → IsSomeAnd found (RanBy (EndsBy r (feed.faults feed.before) (feed.faults feed.now)) feed out db)
-      each None never = never
-      each (Some octets) ran = ran_alike kept db same r (feed.faults feed.before) (feed.faults feed.now) (Some octets) (feed.left feed.now) (out.written out.before) (out.written out.now) ran
-
-  printed : (r : Result RunEnd RunFault) → Fed r kept → Printed (EndsBy r (feed.faults feed.before) (feed.faults feed.now)) folder name tables feed out
-  printed r said = each_kept (λ read. IsOkAnd read (Fed r)) (tables.holds tables.before) (λ files. built_in files folder) kept keeps (fed-by r said)
+  printed : (r : Result RunEnd RunFault) → Fed r db → Printed (EndsBy r (feed.faults feed.before) (feed.faults feed.now)) folder name tables feed out
+  printed r said = each_told (λ read. IsOkAnd read (Fed r)) (tables.holds tables.before) (λ files. built_in files folder) db told said
 
   abbrev Unread : Database → Option (List ℕ) → Type 0
-  Unread db found = MissedFeed feed out ⊎ IsSomeAnd found (RanBy EndsUnread feed out db)
+  Unread d found = MissedFeed feed out ⊎ IsSomeAnd found (RanBy EndsUnread feed out d)
 
   abbrev Wanting : Database → Option (List ℕ) → Type 0
-  Wanting db found = MatchOption found (TookNothing out) (λ octets. Took out (PrintsFront db octets))
+  Wanting d found = MatchOption found (TookNothing out) (λ octets. Took out (PrintsFront d octets))
 
-  wanting : (db : Database) (found : Option (List ℕ)) → IsSomeAnd found (RanBy EndsWanting feed out db) → Wanting db found
-  wanting db None never = absurd never
-  wanting db (Some octets) ran = ran_prints db octets (feed.left feed.now) (out.written out.before) (out.written out.now) ran
+  wanting : (d : Database) (found : Option (List ℕ)) → IsSomeAnd found (RanBy EndsWanting feed out d) → Wanting d found
+  wanting d None never = absurd never
+  wanting d (Some octets) ran = ran_prints d octets (feed.left feed.now) (out.written out.before) (out.written out.now) ran
 
-  pub ran_decoded : (r : Result RunEnd RunFault) → Fed r kept → HasFeedCause r (feed.faults feed.before) (feed.faults feed.now) → HasOutCause r (out.faults out.before) (out.faults out.now)
+  pub ran_decoded : (r : Result RunEnd RunFault) → Fed r db → HasFeedCause r (feed.faults feed.before) (feed.faults feed.now) → HasOutCause r (out.faults out.before) (out.faults out.now)
       → (r ≢ Err (fault.Print stop.Out) → out.handed out.before ≡ out.written out.before → out.handed out.now ≡ out.written out.now)
       → Decoded (code_of_run r) folder name tables feed out
   ran_decoded (Ok end.Whole) said read wrote handed = (stood, read, record { stood = wrote; handed = handed (λ is. cc is) }, printed (Ok end.Whole) said)
@@ -114,14 +110,14 @@ module _ {T F O : Type 0} (folder name : List ℕ) (tables : ShelfView T) (feed 
     stood,
     read,
     record { stood = wrote; handed = handed (λ is. cc is) },
-    each_kept (λ r. IsOkAnd r (λ db. OfFeed feed name (Unread db))) (tables.holds tables.before) (λ files. built_in files folder) kept keeps
-        (λ db same. found-of (feed.holds feed.before) name _ (Unread db) (λ found ran. inr ran) (fed-by (Err fault.Feed) said db same)),
+    each_told (λ r. IsOkAnd r (λ d. OfFeed feed name (Unread d))) (tables.holds tables.before) (λ files. built_in files folder) db told
+        (found-of (feed.holds feed.before) name _ (Unread db) (λ found ran. inr ran) said),
   )
   ran_decoded (Err (fault.Print stop.Out)) said read wrote handed = (stood, read, wrote, printed (Err (fault.Print stop.Out)) said)
   ran_decoded (Err (fault.Print stop.Memory)) said read wrote handed = (
     stood,
     read,
     record { stood = wrote; handed = handed (λ is. cc is) },
-    each_kept (λ r. IfOk r (λ db. OfFeed feed name (Wanting db))) (tables.holds tables.before) (λ files. built_in files folder) kept keeps
-        (λ db same. found-of (feed.holds feed.before) name _ (Wanting db) (wanting db) (fed-by (Err (fault.Print stop.Memory)) said db same)),
+    each_told (λ r. IfOk r (λ d. OfFeed feed name (Wanting d))) (tables.holds tables.before) (λ files. built_in files folder) db told
+        (found-of (feed.holds feed.before) name _ (Wanting db) (wanting db) said),
   )

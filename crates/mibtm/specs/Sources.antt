@@ -2,12 +2,7 @@
 use Rattle.std.specs.Prelude.{ℕ, List, Option, Some, None, Result, Ok, Err}
 use Rattle.mib_model.specs.declared.database.Database.{Database}
 use Rattle.mib_model.specs.declared.fault.MibFault.{MibFault}
-use Rattle.mib_model.specs.declared.rows.PcfRow.{PcfRow}
-use Rattle.mib_model.specs.declared.rows.PidRow.{PidRow}
-use Rattle.mib_model.specs.declared.rows.PlfRow.{PlfRow}
-use Rattle.mib_model.specs.declared.rows.TpcfRow.{TpcfRow}
 use Rattle.mib_model.specs.Attempts.{◌>>=◌}
-use Rattle.mib_model.specs.Database.{no_rows}
 use Rattle.mib_model.specs.Soundness.{first_flaw}
 use Rattle.mib_model.specs.Unbuilt.{unbuilt}
 use Rattle.session.specs.Sources.{Files, database_in}
@@ -29,14 +24,6 @@ if_built db = free_of db (unbuilt db)
 unfoldable pub sound_in : Files → List ℕ → Result Database MibFault
 sound_in files folder = database_in files folder >>= if_sound
 
--- the same of one that is built
+-- the sound database without a row that isn't built that the tables of a folder are, or the fault for which they are refused
 unfoldable pub built_in : Files → List ℕ → Result Database MibFault
 built_in files folder = sound_in files folder >>= if_built
-
--- the tables that a packet of fixed layout is printed by
-abbrev pub fixed_by : List PcfRow → List PidRow → List TpcfRow → List PlfRow → Database
-fixed_by pcf pid tpcf plf = record no_rows { pcf = pcf; pid = pid; tpcf = tpcf; plf = plf }
-
--- those of a database
-abbrev pub fixed_tables : Database → Database
-fixed_tables db = fixed_by db.pcf db.pid db.tpcf db.plf

@@ -1,4 +1,4 @@
-use crate::code_text::add_code;
+use record_text::code_line;
 use crate::tests::{PACKET, PCF, PID, PLF, call, feed, file, sink};
 use mib_model::{Code, Line};
 use std::alloc::Global;
@@ -55,7 +55,7 @@ fn says<X: Abort + Threads + Wait + Sync>(
         &mut out,
     )?;
     let mut told = Line::new();
-    add_code(&mut told, &code);
+    code_line(&code, &mut told);
     assert_eq!(rt; told.bytes(), line);
     assert_eq!(rt; out.bytes(), printed);
     Ok(())
@@ -150,7 +150,7 @@ fn told_of_two<X: Abort + Threads + Wait + Sync>(
         &mut out,
     )?;
     let mut told = Line::new();
-    add_code(&mut told, &code);
+    code_line(&code, &mut told);
     assert_eq!(rt; told.bytes(), line.as_bytes());
     assert!(rt; out.bytes().is_empty());
     Ok(())

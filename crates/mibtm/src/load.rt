@@ -1,5 +1,6 @@
 // The sound tables of a folder.
 ghost use Rattle.std.specs.Prelude.{◌≡◌, ◌≢◌, IfOk, IfErr, OnOk, IfSome, Ok};
+ghost use Rattle.mib_model.specs.Soundness.{IsSound};
 ghost use Rattle.session.specs.Sources.{database_in};
 ghost use Rattle.mibtm.specs.Refusals.{HasRefusalCause, Refuses};
 ghost use Rattle.mibtm.specs.Sources.{if_sound, sound_in};
@@ -37,6 +38,7 @@ fn load_book<T: Shelf>(alloc: Global, folder: &str, tables: &mut T) -> Result<Bo
 // A book, where it is sound.
 fn accept(alloc: Global, book: Book) -> Result<Book, Refusal>
     ensures told { IfOk result (λ kept. if_sound book ≡ Ok kept) }
+    ensures sound { IfOk result (λ kept. IsSound kept) }
     ensures refused { IfErr result (λ refusal. Refuses refusal (if_sound book)) }
     ensures cause { IfErr result (λ refusal. refusal ≢ Refusal.Failed) }
 {
@@ -55,6 +57,7 @@ pub(crate) fn sound_book<T: Shelf>(
     tables: &mut T,
 ) -> Result<Book, Refusal>
     ensures told { IfOk result (λ book. IfSome (T.holds tables.old) (λ files. sound_in files folder.now ≡ Ok book)) }
+    ensures sound { IfOk result (λ book. IsSound book) }
     ensures refused { IfErr result (λ code. IfSome (T.holds tables.old) (λ files. Refuses code (sound_in files folder.now))) }
     ensures ok { OnOk result (T.faults tables.new ≡ T.faults tables.old) }
     ensures cause { IfErr result (λ refusal. HasRefusalCause refusal (T.faults tables.old) (T.faults tables.new)) }

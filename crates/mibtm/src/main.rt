@@ -9,25 +9,20 @@
 
 mod buffer;
 mod check;
-mod code_text;
 mod codes;
 mod decode;
-mod kinds;
 mod load;
 mod print;
-mod quoted;
 mod record;
 mod run;
-mod tables;
-mod text;
 mod tool;
 mod unbuilt;
 mod values;
 mod words;
 
-use crate::code_text::add_code;
 use crate::tool::tool;
 use mib_model::{Code, Line, Misuse};
+use record_text::code_line;
 use std::alloc::AllocError;
 use std::env;
 use std::io::{ErrorKind, Write};
@@ -52,7 +47,7 @@ fn arguments(rt: HostRuntime) -> Result<Vec<String>, Code> {
 // Tells on standard error how the call ended, unless all is well.
 fn tell(rt: HostRuntime, code: &Code) {
     let mut line = Line::new();
-    add_code(&mut line, code);
+    code_line(code, &mut line);
     if line.bytes().is_empty() {
         return;
     }

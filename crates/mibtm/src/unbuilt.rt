@@ -3,22 +3,10 @@ ghost use Rattle.std.specs.Prelude.{◌≡◌, ◌<◌, ◌≤◌, ◌+◌, leng
 ghost use Rattle.mib_model.specs.declared.fault.MibCode.TheVariants.{Unbuilt};
 ghost use Rattle.mib_model.specs.Unbuilt as Spec;
 
-use crate::values::integer_width;
-use mib_model::{Kind, MibCode, MibFault, PcfRow, PidRow, PlfRow};
+use mib_model::{Kind, MibCode, MibFault, PcfRow, PidRow};
 use mib_tables::Book;
 
-// Whether a parameter is an unsigned integer in the usual order, without a curve and a condition.
-#[tactic(auto, unfolding(mib_model::specs::Encodings::encoding_of, mib_model::specs::Encodings::type_of))]
-fn is_plain(row: &PcfRow) -> bool
-    ensures { result ≡ Spec.is_plain row.now }
-{
-    if row.ptc != 3 || row.endian == b'L' {
-        return false;
-    }
-    integer_width(row.pfc).is_some() && row.curtx.is_none() && row.valid.is_none()
-}
-
-// The place of the first measured parameter that isn't plain.
+// The place of the first measured parameter with a curve or a condition.
 fn unbuilt_pcf(rows: &[PcfRow]) -> Option<usize>
     ensures place { result ≡ position Spec.is_unbuilt_pcf rows.now }
     ensures within { IfSome result (λ i. i < length rows.now) }
@@ -26,11 +14,11 @@ fn unbuilt_pcf(rows: &[PcfRow]) -> Option<usize>
     rows.iter().position(|row| is_unbuilt_pcf(row))
 }
 
-// Whether a parameter is measured and isn't plain.
+// Whether a parameter is measured and has a curve or a condition.
 fn is_unbuilt_pcf(row: &PcfRow) -> bool
     ensures { result ≡ Spec.is_unbuilt_pcf row.now }
 {
-    row.natur == b'R' && !is_plain(row)
+    row.natur == b'R' && (row.curtx.is_some() || row.valid.is_some())
 }
 
 // The place of the first packet of variable structure.
@@ -39,14 +27,6 @@ fn unbuilt_pid(rows: &[PidRow]) -> Option<usize>
     ensures within { IfSome result (λ i. i < length rows.now) }
 {
     rows.iter().position(|row| row.tpsd >= 1)
-}
-
-// The place of the first row with occurrences.
-fn unbuilt_plf(rows: &[PlfRow]) -> Option<usize>
-    ensures place { result ≡ position Spec.is_unbuilt_plf rows.now }
-    ensures within { IfSome result (λ i. i < length rows.now) }
-{
-    rows.iter().position(|row| row.nbocc > 1)
 }
 
 // The place of the first row of any.
@@ -81,9 +61,7 @@ pub(crate) fn first_unbuilt(book: &Book) -> Option<MibFault>
 {
     let pcf = fault_at(Kind::Pcf, unbuilt_pcf(book.pcf()));
     let pid = fault_at(Kind::Pid, unbuilt_pid(book.pid()));
-    let pic = fault_at(Kind::Pic, first_place(book.pic()));
-    let plf = fault_at(Kind::Plf, unbuilt_plf(book.plf()));
     let cur = fault_at(Kind::Cur, first_place(book.cur()));
     let ocf = fault_at(Kind::Ocf, first_place(book.ocf()));
-    pcf.or(pid.or(pic.or(plf.or(cur.or(ocf)))))
+    pcf.or(pid.or(cur.or(ocf)))
 }

@@ -1,5 +1,4 @@
 use Rattle.std.proofs.Common.{refl}
-use Rattle.mib_model.specs.Database.{database_of}
 use Rattle.mibtm.specs.Objects.{shelf, sink}
 use Rattle.mibtm.specs.Run.{Ran, EndsBy}
 use Rattle.mibtm.proofs.DecodeSteps.{fed}
@@ -19,8 +18,8 @@ returns-in-Ok-true g c =
     (shelf c.args.tables.now c.folder_tables.new.tables g.T.Source.holds g.T.Source.left g.T.Source.faults g.T.Source.missed)
     (shelf c.args.feed.now c.run.new.source g.F.Source.holds g.F.Source.left g.F.Source.faults g.F.Source.missed)
     (sink c.args.out.now c.run.new.out g.O.Sink.written g.O.Sink.handed g.O.Sink.faults)
-    (database_of c.in-Ok.kept) c.in-Ok.ensures.ok c.in-Ok.ensures.told c.run.result
-    (fed (λ start. Ran says (database_of c.in-Ok.kept) start left old new) (g.F.Source.holds c.args.feed.now) c.args.name.now c.in-Ok-true.field-0 (g.F.Source.left c.aim.new.self)
+    c.in-Ok.edition c.in-Ok.ensures.ok c.in-Ok.ensures.told c.run.result
+    (fed (λ start. Ran says c.in-Ok.edition start left old new) (g.F.Source.holds c.args.feed.now) c.args.name.now c.in-Ok-true.field-0 (g.F.Source.left c.aim.new.self)
     c.in-Ok-true.field-0-test c.in-Ok-true.ensures.held c.in-Ok-true.ensures.left (rw same at c.run.ensures.ran))
     (rw same at c.run.ensures.feed) c.run.ensures.out c.run.ensures.handed)
 

@@ -1,10 +1,9 @@
-use Rattle.std.proofs.Common.{◌≡◌, ◌≤◌, ◌++◌, drop}
-use Rattle.mibtm.specs.Readings.{readings_text, places_in}
+use Rattle.std.proofs.Common.{◌≡◌, ◌≤◌, ◌+◌, ◌*◌, ◌++◌, length, take}
+use Rattle.mibtm.specs.Readings.{value_lines}
 use Rattle.mibtm.proofs.values.add_values.Given as goal
 
-abbrev pub invariant-loop-row : goal.invariant-loop-row
-invariant-loop-row l = record {
-  few : l.given ≤ 8192;
-  text : l.out.items ++ readings_text l.packet l.given (places_in l.parameters (drop l.row-index l.rows) l.spid)
-      ≡ l.initial.out.items ++ readings_text l.packet 0 (places_in l.parameters l.rows l.spid);
+abbrev pub invariant-loop-value : goal.invariant-loop-value
+invariant-loop-value l = record {
+  text : l.out ≡ l.initial.out ++ value_lines l.packet (take l.value-index l.values);
+  room : length l.out ≤ length l.initial.out + l.value-index * 4400;
 }

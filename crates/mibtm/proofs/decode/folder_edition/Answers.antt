@@ -1,6 +1,6 @@
 use Rattle.std.proofs.lemmas.Result.{err_from_is_err_and}
 use Rattle.mibtm.proofs.LoadSteps.{refused_built, refused_unsound, told_built}
-use Rattle.mibtm.proofs.decode.folder_tables.Goals as goal
+use Rattle.mibtm.proofs.decode.folder_edition.Goals as goal
 
 pub returns-in_err-book-clause-refused : goal.returns-in_err-book-clause-refused
 returns-in_err-book-clause-refused g c =
@@ -9,8 +9,8 @@ returns-in_err-book-clause-refused g c =
 
 pub returns-clause-told : goal.returns-clause-told
 returns-clause-told g c =
-    told_built (g.T.Source.holds c.args.tables.now) c.args.folder.now c.in_ok-book.book c.built_tables.result c.in_ok-book.ensures.told c.built_tables.ensures.told
+    told_built (g.T.Source.holds c.args.tables.now) c.args.folder.now c.in_ok-book.book c.built_edition.result c.in_ok-book.ensures.told c.built_edition.ensures.told
 
 pub returns-clause-refused : goal.returns-clause-refused
 returns-clause-refused g c =
-    refused_built (g.T.Source.holds c.args.tables.now) c.args.folder.now c.in_ok-book.book c.built_tables.result c.in_ok-book.ensures.told c.built_tables.ensures.refused
+    refused_built (g.T.Source.holds c.args.tables.now) c.args.folder.now c.in_ok-book.book c.built_edition.result c.in_ok-book.ensures.told c.built_edition.ensures.refused
