@@ -20,8 +20,7 @@ fn add_hex_octet(octet: u8, out: &mut Lines)
     ensures text { out.new ≡ out.old ++ Spec.hex_text 2 octet }
     ensures room { length out.new ≡ length out.old + 2 }
 {
-    out.push(hex_digit(octet / 16));
-    out.push(hex_digit(octet % 16));
+    out.add(&[hex_digit(octet / 16), hex_digit(octet % 16)]);
 }
 
 /// Appends the two digits of each octet.
