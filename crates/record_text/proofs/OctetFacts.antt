@@ -1,8 +1,9 @@
 -- Octets of a packet, and hexadecimal digits one by one.
 use Rattle.std.proofs.Common.{◌≡◌, ℕ, zero, suc, ◌+◌, ◌-◌, ◌*◌, ◌/◌, ◌%◌, ◌^◌, ◌<◌, ◌≤◌, true, List, [], ◌∷◌, ◌++◌, take, drop, length, get_or, Some, None, refl, sym, ap, subst, ◌∙◌, length-drop, arith}
 use Rattle.std.specs.Prelude.{Option, cond, unwrap_or}
+use Rattle.std.specs.List.{flat_map}
 use Rattle.std.proofs.lemmas.Bool.{le-leb}
-use Rattle.std.proofs.lemmas.List.{take_more, get_or-drop}
+use Rattle.std.proofs.lemmas.List.{take_more, get_or-drop, flat_map_more}
 use Rattle.std.proofs.lemmas.List.FromFn.{map-range_with_len_more}
 use Rattle.std.proofs.lemmas.Nat.{shr-shr}
 use Rattle.bit_field.proofs.BitFacts.{bits-octet, bits-drop}
@@ -40,3 +41,9 @@ hex-more n i digits below =
     let same : digits - suc i ≡ digits - 1 - i = omega arith in
     let more : 4 * (digits - 1 - i) + 4 ≡ 4 * (digits - i) = omega arith in
     rw (next, same, shr-shr n (4 * (digits - 1 - i)) 4, more) refl
+
+-- octets that are written, one more
+pub spelled-more : (spell : ℕ → List ℕ) (before : List ℕ) (packet : List ℕ) (at k octet : ℕ) → octet ≡ bits packet (at + 8 * k) 8
+    → (before ++ flat_map spell (octets_at packet at k)) ++ spell octet ≡ before ++ flat_map spell (octets_at packet at (k + 1))
+spelled-more spell before packet at k octet is =
+    rw (is, octets-more packet at k) (flat_map_more spell before (octets_at packet at k) (bits packet (at + 8 * k) 8))

@@ -1,1 +1,2 @@
 pub mod TailViews
+pub mod Spellings

@@ -1,5 +1,5 @@
 // The line that tells how a call of the tool ended.
-ghost use Rattle.std.specs.Prelude.{◌≡◌, []};
+ghost use Rattle.std.specs.Prelude.{◌≡◌, ◌≤◌, [], length};
 ghost use Rattle.mib_model.specs.Faults as Spec;
 
 use crate::fault::{add_fault, add_number};
@@ -9,7 +9,8 @@ use mib_model::{Code, Input, Line, Misuse};
 #[tactic(auto, unfolding(mib_model::specs::Faults::code_line))]
 pub fn code_line(code: &Code, out: &mut Line)
     requires { out.old ≡ [] }
-    ensures { out.new ≡ Spec.code_line code.now }
+    ensures text { out.new ≡ Spec.code_line code.now }
+    ensures room { length out.new ≤ 150 }
 {
     match code {
         Code::Ok => {}

@@ -4,7 +4,6 @@ ghost use Rattle.mib_model.specs.Bits.{bits};
 ghost use Rattle.mib_model.specs.RawTexts.{octets_at};
 
 use bit_field::unsigned;
-use mib_model::Line;
 
 /// The number in so many bits, 64 at most, that stand `offset` bits behind a place.
 pub(crate) fn field(packet: &[u8], at: u64, offset: u16, width: u8) -> u64
@@ -28,18 +27,4 @@ pub(crate) fn whole_octets(packet: &[u8], at: u64, count: u16) -> Option<&[u8]>
     }
     let first = (at / 8) as usize;
     Some(&packet[first..first + usize::from(count)])
-}
-
-/// A copy of so many octets from a bit on.
-pub(crate) fn shifted_octets(packet: &[u8], at: u64, count: u16) -> Line
-    requires count { count ≤ 1024 }
-    requires inside { at + 8 * count ≤ 8 * length packet.now }
-    ensures octets { result ≡ octets_at packet.now at count }
-    ensures count { length result ≡ count }
-{
-    let mut octets = Line::new();
-    for k in 0..count {
-        octets.add(&[field(packet, at, 8 * k, 8) as u8]);
-    }
-    octets
 }

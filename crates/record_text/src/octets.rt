@@ -2,8 +2,10 @@
 ghost use Rattle.std.specs.Prelude.{◌≡◌, ◌≤◌, ◌<◌, ◌+◌, ◌*◌, ◌^◌, ◌++◌, length};
 ghost use Rattle.std.specs.List.{flat_map};
 ghost use Rattle.mib_model.specs.RawTexts as Spec;
+ghost use Rattle.record_text.specs.Spellings.{spelled};
 ghost use Rattle.record_text.specs.declared.lines.TheConstants.{LINES_ROOM};
 
+use crate::field::{field, whole_octets};
 use crate::lines::Lines;
 
 // A hexadecimal digit, in upper case.
@@ -20,19 +22,7 @@ fn add_hex_octet(octet: u8, out: &mut Lines)
     ensures text { out.new ≡ out.old ++ Spec.hex_text 2 octet }
     ensures room { length out.new ≡ length out.old + 2 }
 {
-    out.push(hex_digit(octet / 16));
-    out.push(hex_digit(octet % 16));
-}
-
-/// Appends the two digits of each octet.
-pub(crate) fn add_hex(octets: &[u8], out: &mut Lines)
-    requires { length out.old + 2 * length octets.now ≤ LINES_ROOM }
-    ensures text { out.new ≡ out.old ++ flat_map (Spec.hex_text 2) octets.now }
-    ensures room { length out.new ≤ length out.old + 2 * length octets.now }
-{
-    for octet in octets {
-        add_hex_octet(*octet, out);
-    }
+    out.add(&[hex_digit(octet / 16), hex_digit(octet % 16)]);
 }
 
 /// Appends a number in so many digits.
@@ -69,6 +59,65 @@ fn add_quoted_octet(octet: u8, out: &mut Lines)
     }
 }
 
+/// How octets are written.
+#[derive(Clone, Copy)]
+pub(crate) enum Spelling {
+    /// Each as two hexadecimal digits.
+    Digits,
+    /// Each as it stands in quotes.
+    Quoted,
+}
+
+// Appends an octet.
+fn add_octet(spelling: Spelling, octet: u8, out: &mut Lines)
+    requires { length out.old + 4 ≤ LINES_ROOM }
+    ensures text { out.new ≡ out.old ++ spelled spelling octet }
+    ensures room { length out.new ≤ length out.old + 4 }
+{
+    match spelling {
+        Spelling::Digits => add_hex_octet(octet, out),
+        Spelling::Quoted => add_quoted_octet(octet, out),
+    }
+}
+
+// Appends octets.
+fn add_octets(spelling: Spelling, octets: &[u8], out: &mut Lines)
+    requires { length out.old + 4 * length octets.now ≤ LINES_ROOM }
+    ensures text { out.new ≡ out.old ++ flat_map (spelled spelling) octets.now }
+    ensures room { length out.new ≤ length out.old + 4 * length octets.now }
+{
+    for octet in octets {
+        add_octet(spelling, *octet, out);
+    }
+}
+
+// Appends so many octets from a bit on.
+fn add_shifted(spelling: Spelling, packet: &[u8], at: u64, count: u16, out: &mut Lines)
+    requires count { count ≤ 1024 }
+    requires inside { at + 8 * count ≤ 8 * length packet.now }
+    requires room { length out.old + 4 * count ≤ LINES_ROOM }
+    ensures text { out.new ≡ out.old ++ flat_map (spelled spelling) (Spec.octets_at packet.now at count) }
+    ensures room { length out.new ≤ length out.old + 4 * count }
+{
+    for k in 0..count {
+        add_octet(spelling, field(packet, at, 8 * k, 8) as u8, out);
+    }
+}
+
+/// Appends so many octets from a bit on, from the packet itself where that bit is an octet's first.
+pub(crate) fn add_octets_at(spelling: Spelling, packet: &[u8], at: u64, count: u16, out: &mut Lines)
+    requires count { count ≤ 1024 }
+    requires inside { at + 8 * count ≤ 8 * length packet.now }
+    requires room { length out.old + 4 * count ≤ LINES_ROOM }
+    ensures text { out.new ≡ out.old ++ flat_map (spelled spelling) (Spec.octets_at packet.now at count) }
+    ensures room { length out.new ≤ length out.old + 4 * count }
+{
+    match whole_octets(packet, at, count) {
+        Some(octets) => add_octets(spelling, octets, out),
+        None => add_shifted(spelling, packet, at, count, out),
+    }
+}
+
 /// Appends octets in quotes.
 #[tactic(auto, unfolding(mib_model::specs::RawTexts::quoted))]
 pub(crate) fn add_quoted(octets: &[u8], out: &mut Lines)
@@ -77,8 +126,6 @@ pub(crate) fn add_quoted(octets: &[u8], out: &mut Lines)
     ensures room { length out.new ≤ length out.old + (4 * length octets.now + 2) }
 {
     out.push(b'"');
-    for octet in octets {
-        add_quoted_octet(*octet, out);
-    }
+    add_octets(Spelling::Quoted, octets, out);
     out.push(b'"');
 }

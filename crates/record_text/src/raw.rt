@@ -6,14 +6,14 @@ ghost use Rattle.mib_model.specs.RawTexts as Spec;
 ghost use Rattle.record_text.specs.declared.lines.TheConstants.{LINES_ROOM};
 ghost use Rattle.record_text.specs.declared.raw.TheConstants.{RAW_ROOM};
 
-use crate::field::{field, shifted_octets, whole_octets};
+use crate::field::field;
 use crate::lines::Lines;
-use crate::octets::{add_hex, add_hex_number, add_quoted};
+use crate::octets::{Spelling, add_hex_number, add_octets_at};
 use bit_field::number;
 use mib_model::{Shape, Sort, Value};
 
-/// The most octets of a raw text: 1,024 characters in quotes.
-pub(crate) const RAW_ROOM: usize = 4098;
+/// The most octets of a raw text: 1,024 octets of 4 octets each, and 4 around them.
+pub(crate) const RAW_ROOM: usize = 4100;
 
 // The hexadecimal digits of a real number.
 fn real_digits(shape: Shape) -> u8
@@ -42,18 +42,16 @@ fn add_real(shape: Shape, packet: &[u8], at: u64, out: &mut Lines)
 fn add_hex_field(packet: &[u8], at: u64, count: u16, out: &mut Lines)
     requires count { count ≤ 1024 }
     requires inside { at + 8 * count ≤ 8 * length packet.now }
-    requires room { length out.old + 2052 ≤ LINES_ROOM }
+    requires room { length out.old + RAW_ROOM ≤ LINES_ROOM }
     ensures text { out.new ≡ out.old ++ codes "HEX:" ++ flat_map (Spec.hex_text 2) (Spec.octets_at packet.now at count) }
-    ensures room { length out.new ≤ length out.old + 2052 }
+    ensures room { length out.new ≤ length out.old + RAW_ROOM }
 {
     out.add(b"HEX:");
-    match whole_octets(packet, at, count) {
-        Some(octets) => add_hex(octets, out),
-        None => add_hex(shifted_octets(packet, at, count).bytes(), out),
-    }
+    add_octets_at(Spelling::Digits, packet, at, count, out);
 }
 
 // Appends so many octets from a bit on, in quotes.
+#[tactic(auto, unfolding(mib_model::specs::RawTexts::quoted))]
 fn add_quoted_field(packet: &[u8], at: u64, count: u16, out: &mut Lines)
     requires count { count ≤ 1024 }
     requires inside { at + 8 * count ≤ 8 * length packet.now }
@@ -61,10 +59,9 @@ fn add_quoted_field(packet: &[u8], at: u64, count: u16, out: &mut Lines)
     ensures text { out.new ≡ out.old ++ Spec.quoted (Spec.octets_at packet.now at count) }
     ensures room { length out.new ≤ length out.old + RAW_ROOM }
 {
-    match whole_octets(packet, at, count) {
-        Some(octets) => add_quoted(octets, out),
-        None => add_quoted(shifted_octets(packet, at, count).bytes(), out),
-    }
+    out.push(b'"');
+    add_octets_at(Spelling::Quoted, packet, at, count, out);
+    out.push(b'"');
 }
 
 // Appends days, milliseconds of the day and, with 64 bits, microseconds of the millisecond.

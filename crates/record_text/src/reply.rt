@@ -65,7 +65,8 @@ fn add_words(reply: &Reply, out: &mut Line)
 /// Writes the line of a reply into an empty line.
 pub fn reply_line(reply: &Reply, out: &mut Line)
     requires { out.old ≡ [] }
-    ensures { out.new ≡ Spec.reply_text reply.now }
+    ensures text { out.new ≡ Spec.reply_text reply.now }
+    ensures room { length out.new ≤ 151 }
 {
     add_words(reply, out);
     out.add(b"\n");

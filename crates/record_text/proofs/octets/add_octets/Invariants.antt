@@ -1,10 +1,10 @@
 use Rattle.std.proofs.Common.{◌≡◌, ◌≤◌, ◌+◌, ◌*◌, ◌++◌, take, length}
 use Rattle.std.specs.List.{flat_map}
-use Rattle.mib_model.specs.RawTexts.{quoted_octet}
-use Rattle.record_text.proofs.octets.add_quoted.Given as goal
+use Rattle.record_text.specs.Spellings.{spelled}
+use Rattle.record_text.proofs.octets.add_octets.Given as goal
 
 abbrev pub invariant-loop-octet : goal.invariant-loop-octet
 invariant-loop-octet l = record {
-  text : l.out ≡ l.initial.out ++ flat_map quoted_octet (take l.octet-index l.octets);
+  text : l.out ≡ l.initial.out ++ flat_map (spelled l.spelling) (take l.octet-index l.octets);
   room : length l.out ≤ length l.initial.out + 4 * l.octet-index;
 }

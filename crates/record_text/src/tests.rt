@@ -1,0 +1,187 @@
+use super::*;
+use bit_field::{shape_of, take};
+use mib_model::{
+    BadWhy, Cal, Change, Class, Code, Ended, Endian, Eng, Found, Header, Input, Kind, Line,
+    MibCode, MibFault, Misuse, Name, Reply, Text, Value,
+};
+use std::process::Abort;
+use std::test::Fail;
+
+const PACKET: [u8; 27] = [
+    0x08, 0x64, 0xC0, 0x00, 0x00, 0x14, 0x10, 0x03, 0x19, 0x00, 0x3F, 0x80, 0x00, 0x00, 0x41, 0x22,
+    0x0A, 0xBE, 0xEF, 0x00, 0x02, 0x00, 0x00, 0x03, 0xE8, 0x05, 0x80,
+];
+
+fn named(rt: &impl Abort, octets: &[u8]) -> Name {
+    Name::new(octets).expect(rt, "a name")
+}
+
+fn taken(rt: &impl Abort, name: &[u8], ptc: u8, pfc: u16, endian: Endian, at: u64) -> Value {
+    let shape = shape_of(ptc, pfc, endian).expect(rt, "a shape");
+    take(&PACKET, at, named(rt, name), shape).expect(rt, "a value")
+}
+
+fn shows(rt: &impl Abort, value: &Value, tail: &Tail<'_>, out: &mut Lines, line: &[u8]) {
+    assert!(rt; value.at < 1000);
+    assert!(rt; value.at + u64::from(value.shape.width()) <= 216);
+    out.clear();
+    value_line(value, &PACKET, tail, out);
+    assert_eq!(rt; out.bytes(), line);
+}
+
+#[test]
+fn values_are_shown_by_their_types(rt: HostRuntime) -> Result<(), Fail> {
+    let cases = [
+        (5, 1, Endian::B, 80, b"  V REAL:3F800000\n".as_slice()),
+        (8, 3, Endian::B, 112, b"  V \"A\\x22\\x0A\"\n"),
+        (7, 2, Endian::B, 136, b"  V HEX:BEEF\n"),
+        (9, 1, Endian::B, 152, b"  V TIME:2:1000\n"),
+        (10, 4, Endian::B, 200, b"  V TIME:5:128\n"),
+        (5, 1, Endian::L, 80, b"  V REAL:0000803F\n"),
+        (5, 4, Endian::B, 80, b"  V REAL:3F8000004122\n"),
+        (8, 2, Endian::B, 116, b"  V \"\\x12 \"\n"),
+        (7, 1, Endian::B, 140, b"  V HEX:EE\n"),
+        (9, 2, Endian::B, 152, b"  V TIME:2:1000:1408\n"),
+        (9, 3, Endian::B, 200, b"  V TIME:5\n"),
+        (9, 18, Endian::B, 152, b"  V TIME:131072:256005\n"),
+        (3, 12, Endian::B, 136, b"  V 48879\n"),
+        (4, 12, Endian::B, 136, b"  V -16657\n"),
+    ];
+    let mut out = Lines::new(rt.alloc())?;
+    for (ptc, pfc, endian, at, line) in cases {
+        let value = taken(&rt, b"V", ptc, pfc, endian, at);
+        shows(&rt, &value, &Tail::Plain, &mut out, line);
+    }
+    Ok(())
+}
+
+fn tells<'a>(rt: &impl Abort, cal: Cal<'a>, out: &mut Lines, line: &[u8]) {
+    let value = taken(rt, b"V", 3, 4, Endian::B, 72);
+    shows(rt, &value, &Tail::Given { cal, decimals: 2 }, out, line);
+}
+
+#[test]
+fn tails_tell_what_a_calibration_gave(rt: HostRuntime) -> Result<(), Fail> {
+    let text = Text::new(b"a\\b").expect(&rt, "a text");
+    let mut out = Lines::new(rt.alloc())?;
+    let number = Eng {
+        count: -1_504_999_999_999,
+    };
+    tells(&rt, Cal::Value(number), &mut out, b"  V 0 = -1.50\n");
+    tells(&rt, Cal::Text(&text), &mut out, b"  V 0 = \"a\\x5Cb\"\n");
+    tells(&rt, Cal::NoText, &mut out, b"  V 0 ! NOTEXT\n");
+    tells(&rt, Cal::Outside, &mut out, b"  V 0 ! OUTSIDE\n");
+    tells(&rt, Cal::Over, &mut out, b"  V 0 ! OVER\n");
+    tells(&rt, Cal::LogCurve, &mut out, b"  V 0 ! LOGCURVE\n");
+    tells(&rt, Cal::RealCurve, &mut out, b"  V 0 ! REALCURVE\n");
+    let value = taken(&rt, b"V", 3, 4, Endian::B, 72);
+    shows(&rt, &value, &Tail::Invalid, &mut out, b"  V 0 ? INVALID\n");
+    Ok(())
+}
+
+fn heads(rt: &impl Abort, found: Found, title: Option<&Text>, out: &mut Lines, line: &[u8]) {
+    out.clear();
+    head_line(
+        7,
+        &Header::read(&[0x08, 0x64, 0xC0, 0x05, 0, 0]),
+        &found,
+        title,
+        out,
+    );
+    assert_eq!(rt; out.bytes(), line);
+}
+
+#[test]
+fn heads_tell_what_a_packet_is(rt: HostRuntime) -> Result<(), Fail> {
+    let found = Found::Spid {
+        spid: 4001,
+        service: 3,
+        subtype: 25,
+        tpsd: -1,
+        dfhsize: 0,
+    };
+    let unknown = Found::Unknown {
+        service: 3,
+        subtype: 25,
+    };
+    let title = Text::new(b"A").expect(&rt, "a text");
+    let empty = Text::new(b"").expect(&rt, "a text");
+    let mut out = Lines::new(rt.alloc())?;
+    let known = b"PKT 7 APID 100 COUNT 5 TYPE 3/25 SPID 4001\n";
+    let telling = b"PKT 7 APID 100 COUNT 5 TYPE 3/25 SPID 4001 NAME \"A\"\n";
+    heads(&rt, found, Some(&title), &mut out, telling);
+    heads(&rt, found, Some(&empty), &mut out, known);
+    heads(&rt, found, None, &mut out, known);
+    heads(
+        &rt,
+        unknown,
+        None,
+        &mut out,
+        b"PKT 7 APID 100 COUNT 5 TYPE 3/25 UNKNOWN\n",
+    );
+    heads(
+        &rt,
+        Found::Idle,
+        None,
+        &mut out,
+        b"PKT 7 APID 100 COUNT 5 IDLE\n",
+    );
+    for (why, line) in [
+        (
+            BadWhy::Version,
+            b"PKT 7 APID 100 COUNT 5 BAD VERSION\n".as_slice(),
+        ),
+        (
+            BadWhy::Telecommand,
+            b"PKT 7 APID 100 COUNT 5 BAD TELECOMMAND\n",
+        ),
+        (BadWhy::Short, b"PKT 7 APID 100 COUNT 5 BAD SHORT\n"),
+    ] {
+        heads(&rt, Found::Bad(why), None, &mut out, line);
+    }
+    Ok(())
+}
+
+fn ends(rt: &impl Abort, ended: Ended, out: &mut Lines, line: &[u8]) {
+    out.clear();
+    ended_line(&ended, out);
+    assert_eq!(rt; out.bytes(), line);
+}
+
+#[test]
+fn values_end_with_a_line_of_their_own(rt: HostRuntime) -> Result<(), Fail> {
+    let mut out = Lines::new(rt.alloc())?;
+    let name = named(&rt, b"P2");
+    ends(&rt, Ended::Whole, &mut out, b"");
+    ends(&rt, Ended::Short { name }, &mut out, b"  SHORT P2\n");
+    ends(&rt, Ended::Many, &mut out, b"  MANY\n");
+    ends(
+        &rt,
+        Ended::NoStructure { tpsd: 9 },
+        &mut out,
+        b"  NOSTRUCTURE 9\n",
+    );
+    ends(
+        &rt,
+        Ended::NoParameter { pid: -3 },
+        &mut out,
+        b"  NOPARAMETER -3\n",
+    );
+    Ok(())
+}
+
+#[test]
+fn lines_stand_one_behind_the_other(rt: HostRuntime) -> Result<(), Fail> {
+    let mut out = Lines::new(rt.alloc())?;
+    let name = named(&rt, b"P1");
+    edition_line(2, &mut out);
+    change_line(name, Change::Alarm(Class::Hard), &mut out);
+    change_line(name, Change::Clear(Class::Status), &mut out);
+    change_line(name, Change::Alarm(Class::Delta), &mut out);
+    change_line(name, Change::Clear(Class::Soft), &mut out);
+    cut_line(11, &mut out);
+    let lines =
+        b"EDITION 2\n  ALARM P1 HARD\n  CLEAR P1 STATUS\n  ALARM P1 DELTA\n  CLEAR P1 SOFT\nCUT 11\n";
+    assert_eq!(rt; out.bytes(), lines.as_slice());
+    Ok(())
+}
