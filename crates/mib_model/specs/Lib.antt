@@ -71,3 +71,4 @@ pub mod Replies
 pub mod Unbuilt
 pub mod Words
 pub mod OctetsLayout
+pub mod CalibrationViews

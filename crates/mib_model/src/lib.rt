@@ -6,6 +6,7 @@
 //! It rests on `histories` for the words on histories of a sequential machine.
 #![tactic(auto)]
 
+mod calibration;
 mod check;
 mod code;
 mod database;
@@ -28,6 +29,7 @@ mod steps;
 mod table_row;
 mod tables;
 
+pub use calibration::Cal;
 pub use check::{Change, Class};
 pub use code::{Code, Input, Misuse};
 pub use database::Database;
