@@ -1,0 +1,7 @@
+mod NumberTests
+mod OrderFacts
+pub mod PointFacts
+pub mod PairFacts
+pub mod RangeFacts
+pub mod CompiledFacts
+pub mod TestFacts
