@@ -1,5 +1,6 @@
 mod NumberTests
 mod OrderFacts
+pub mod FindFacts
 pub mod PointFacts
 pub mod PairFacts
 pub mod RangeFacts

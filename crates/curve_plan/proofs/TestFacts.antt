@@ -1,5 +1,5 @@
 -- Two points that stand apart.
-use Rattle.std.proofs.Common.{◌≡◌, ◌≢◌, ℕ, ℤ, List, [], ◌∷◌, Some, filter_map}
+use Rattle.std.proofs.Common.{◌≡◌, ◌≢◌, ℕ, ℤ, [], ◌∷◌, Some, filter_map}
 use Rattle.mib_model.specs.declared.rows.CapRow.{CapRow}
 use Rattle.mib_model.specs.Points.{knot_of}
 use Rattle.mib_model.specs.WholeNumbers.{whole_number}

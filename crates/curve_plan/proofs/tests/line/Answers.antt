@@ -1,4 +1,4 @@
-use Rattle.std.proofs.Common.{◌≡◌, ◌≢◌, ap, subst, sym, ◌∙◌, arith, List, filter_map}
+use Rattle.std.proofs.Common.{◌≢◌, ap, subst, sym, ◌∙◌, arith, List, filter_map}
 use Rattle.std.proofs.lemmas.Int.{ints}
 use Rattle.mib_model.specs.declared.rows.CapRow.{CapRow}
 use Rattle.mib_model.specs.Points.{knot_of}
