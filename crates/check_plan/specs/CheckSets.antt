@@ -1,0 +1,49 @@
+-- The class of a sample by checks that are sorted by their types. [SCOS-2000 Database Import ICD, ocp.]
+use Rattle.std.specs.Prelude.{◌≡◌, ℤ, ◌-ℤ◌, Bool, false, ◌&&◌, not, if◌then◌else◌, List, map, filter, Option, Some, None}
+use Rattle.std.specs.List.{list_any}
+use Rattle.check_plan.specs.declared.check_set.CheckSet.{CheckSet}
+use Rattle.check_plan.specs.declared.limit.Limit.{Limit}
+use Rattle.check_plan.specs.declared.state.State.{State}
+use Rattle.mib_model.specs.declared.check.Class.{Class}
+use Rattle.mib_model.specs.declared.check.Class.TheVariants.{Nominal, Hard, Status, Delta, Soft}
+use Rattle.mib_model.specs.declared.rows.OcpRow.{OcpRow}
+use Rattle.mib_model.specs.Checks.{Sample, Numbered, Worded, is_hard, is_status, is_delta, is_soft}
+use Rattle.mib_model.specs.Kept.{Memory}
+use Rattle.check_plan.specs.Limits.{limit_of, is_outside, applies_to}
+use Rattle.check_plan.specs.States.{state_of, is_in_state, asked_of}
+
+-- whether a count is outside one of the limits that apply
+abbrev pub any_outside : Memory → ℤ → List Limit → Bool
+any_outside memory count limits = list_any (λ limit. is_outside limit count && applies_to memory limit) limits
+
+-- whether a sample is a number outside one of the limits that apply
+abbrev pub any_violated : Memory → Sample → List Limit → Bool
+any_violated memory (Numbered count) limits = any_outside memory count limits
+any_violated memory (Worded text) limits = false
+
+-- whether a sample is a number too far from the one before, if there was one
+abbrev pub any_far : Memory → Option ℤ → Sample → List Limit → Bool
+any_far memory None sample limits = false
+any_far memory (Some previous) (Numbered count) limits = any_outside memory (count -ℤ previous) limits
+any_far memory (Some previous) (Worded text) limits = false
+
+-- whether a state is expected, and a sample agrees with none that is
+abbrev pub is_unexpected : Memory → Sample → List State → Bool
+is_unexpected memory sample states =
+    list_any (asked_of memory) states && not (list_any (λ state. is_in_state sample state && asked_of memory state) states)
+
+-- the class of a sample
+abbrev pub class_in : Memory → CheckSet → Sample → Option ℤ → Class
+class_in memory set sample previous =
+    if any_violated memory sample set.hard.items then Hard
+    else if is_unexpected memory sample set.states.items then Status
+    else if any_far memory previous sample set.deltas.items then Delta
+    else if any_violated memory sample set.soft.items then Soft
+    else Nominal
+
+-- the checks of rows, by their types
+pub record IsSetOf (set : CheckSet) (ocps : List OcpRow) : Type 0 where
+  pub hard : set.hard.items ≡ map limit_of (filter is_hard ocps)
+  pub states : set.states.items ≡ map state_of (filter is_status ocps)
+  pub deltas : set.deltas.items ≡ map limit_of (filter is_delta ocps)
+  pub soft : set.soft.items ≡ map limit_of (filter is_soft ocps)

@@ -1,0 +1,59 @@
+ghost use Rattle.std.specs.Prelude.{◌≡◌, option_map, IfOk};
+ghost use Rattle.mib_model.specs.Checks as Spec;
+ghost use Rattle.check_plan.specs.Samples.{count_of, sample_of};
+
+use crate::check_set::CheckSet;
+use crate::condition::Holds;
+use crate::sample::Sample;
+use mib_model::{Class, Eng, OcfRow, OcpRow};
+use std::alloc::{AllocError, Global};
+use std::marker::Model;
+use std::snapshot::Snapshot;
+
+/// The check of a parameter and its limits, compiled. Contracts see the rows.
+#[derive(Drop)]
+pub struct Checks {
+    ocf: OcfRow,
+    set: CheckSet,
+    ocps: Snapshot<Vec<OcpRow>>,
+}
+
+impl Model for Checks {
+    ghost use Rattle.check_plan.specs.CheckSets.{IsSetOf};
+    ghost use Rattle.check_plan.specs.Rows.{CheckRows};
+
+    ghost Value = { CheckRows };
+
+    ghost view = { λ checks. record { ocf = checks.ocf; ocps = checks.ocps.value.items } };
+
+    ghost invariant = { λ checks. IsSetOf checks.set checks.ocps.value.items };
+}
+
+impl Checks {
+    /// Compiles a parameter's row of ocf and its rows of ocp by POS. An error is want of memory.
+    pub fn compile(alloc: Global, ocf: &OcfRow, ocps: &[OcpRow]) -> Result<Checks, AllocError>
+        ensures { IfOk result (λ checks. checks ≡ record { ocf = ocf.now; ocps = ocps.now }) }
+    {
+        let rows = Vec::from_slice(alloc, ocps)?;
+        Ok(Checks {
+            ocf: *ocf,
+            set: CheckSet::compile(alloc, &rows)?,
+            ocps: Snapshot::of(&rows),
+        })
+    }
+
+    /// The row of ocf.
+    pub fn row(&self) -> &OcfRow
+        ensures { result.now ≡ self.now.ocf }
+    {
+        &self.ocf
+    }
+
+    /// The class of a sample, with the last checked number of the parameter and what is kept of raw numbers (SCOS-2000
+    /// Database Import ICD, ocp; the order of the classes is this profile's). It takes no memory.
+    pub fn class_of<K: Holds>(&self, sample: Sample, previous: Option<Eng>, kept: &K) -> Class
+        ensures { result ≡ Spec.class_of self.now.ocps (sample_of sample.entry) (option_map count_of previous) (K.memory kept.now) }
+    {
+        self.set.class_of(sample, previous, kept)
+    }
+}

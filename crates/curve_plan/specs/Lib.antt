@@ -1,0 +1,4 @@
+pub mod Rows
+pub mod Knots
+pub mod Ranges
+pub mod Compiled

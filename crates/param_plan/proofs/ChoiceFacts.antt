@@ -1,0 +1,53 @@
+-- The curve of the first choice whose condition is met is that of the slice.
+use Rattle.std.proofs.Common.{◌≡◌, ◌∙◌, ℕ, ◌+◌, ◌<◌, ◌≤◌, min, ℤ, Bool, true, false, cond, List, [], ◌∷◌, ◌++◌, Option, Some, None, option_map, option_and_then, find, zip, map, take, length, get_or, refl, sym, ap, arith}
+use Rattle.std.proofs.lemmas.List.{take_more, take_all, get_or-map, map-append, length-map}
+use Rattle.std.proofs.lemmas.Slice.Zip.{get_or-zip, length-zip}
+use Rattle.mib_model.specs.declared.plan.CurveRows.{CurveRows}
+use Rattle.mib_model.specs.declared.rows.CurRow.{CurRow}
+use Rattle.mib_model.specs.Kept.{Memory, holds}
+use Rattle.curve_plan.specs.declared.rows.CurveRows.{CurveRows as Own}
+use Rattle.curve_plan.specs.Rows.{rows_of}
+use Rattle.param_plan.specs.declared.choice.Choice.{Choice}
+use Rattle.param_plan.specs.Choices.{choice_of, is_chosen, only_choice, choices_in}
+use Rattle.param_plan.specs.Slices.{curve_beside, curve_by}
+
+beside-same : (memory : Memory) (pairs : List (CurRow × Option CurveRows))
+    → option_and_then (λ choice. choice.curve) (find (is_chosen memory) (map choice_of pairs)) ≡ option_and_then (λ pair. pair.1) (find (λ pair. holds memory pair.0.rlchk pair.0.valpar) pairs)
+beside-same memory [] = refl
+beside-same memory (pair ∷ pairs) = go (holds memory pair.0.rlchk pair.0.valpar) (beside-same memory pairs) where
+  go : (b : Bool) → option_and_then (λ choice. choice.curve) (find (is_chosen memory) (map choice_of pairs)) ≡ option_and_then (λ pair. pair.1) (find (λ pair. holds memory pair.0.rlchk pair.0.valpar) pairs)
+      → option_and_then (λ choice. choice.curve) (cond b (Some (choice_of pair)) (find (is_chosen memory) (map choice_of pairs))) ≡ option_and_then (λ pair. pair.1) (cond b (Some pair) (find (λ pair. holds memory pair.0.rlchk pair.0.valpar) pairs))
+  go true others = refl
+  go false others = others
+
+only-same : (memory : Memory) (curves : List (Option CurveRows)) (name : List ℕ) (curs : List CurRow)
+    → option_and_then (λ choice. choice.curve) (find (is_chosen memory) (only_choice curves)) ≡ curve_by memory (Some name) curs curves
+only-same memory [] name curs = refl
+only-same memory (curve ∷ curves) name curs = refl
+
+pub chosen-same : (memory : Memory) (curtx : Option (List ℕ)) (curs : List CurRow) (curves : List (Option CurveRows))
+    → option_and_then (λ choice. choice.curve) (find (is_chosen memory) (choices_in curtx curs curves)) ≡ curve_by memory curtx curs curves
+chosen-same memory (Some name) curs curves = only-same memory curves name curs
+chosen-same memory None curs curves = beside-same memory (zip curs curves)
+
+-- selections with their curves, so many
+abbrev pub first_choices : List CurRow → List (Option Own) → ℕ → List Choice
+first_choices curs curves n = map choice_of (take n (zip curs (map (option_map rows_of) curves)))
+
+pub all-selected : (curs : List CurRow) (curves : List (Option Own)) (n : ℕ) → n ≡ min (length curs) (length curves) → first_choices curs curves n ≡ map choice_of (zip curs (map (option_map rows_of) curves))
+all-selected curs curves n is =
+    let pairs = zip curs (map (option_map rows_of) curves) in
+    let long : length pairs ≤ n = (let one = length-zip curs (map (option_map rows_of) curves) in let two : length (map (option_map rows_of) curves) ≡ length curves = simp length-map in omega (arith, is, one, two)) in
+    ap (map choice_of) (take_all n pairs long)
+
+pub selected-more : (curs : List CurRow) (curves : List (Option Own)) (n : ℕ) (cur : CurRow) (rows : Option Own) (number : ℤ) (curve : Option CurveRows) (old : List Choice)
+    → n < length curs → n < length curves → cur ≡ get_or curs n cur → rows ≡ get_or curves n rows → number ≡ cur.valpar → curve ≡ option_map rows_of rows → old ≡ first_choices curs curves n
+    → old ++ record { rlchk = Some cur.rlchk; valpar = number; curve = curve } ∷ [] ≡ first_choices curs curves (n + 1)
+selected-more curs curves n cur rows number curve old a b here beside same made so_far =
+    let pairs = zip curs (map (option_map rows_of) curves) in
+    let mapped : n < length (map (option_map rows_of) curves) = (let two : length (map (option_map rows_of) curves) ≡ length curves = simp length-map in omega (arith, b, two)) in
+    let within : n < length pairs = (let one = length-zip curs (map (option_map rows_of) curves) in omega (arith, a, mapped, one)) in
+    let item : get_or pairs n (cur, option_map rows_of rows) ≡ (cur, option_map rows_of rows) = get_or-zip curs (map (option_map rows_of) curves) n (cur, option_map rows_of rows) a mapped ∙ (λ i. (sym here i, (get_or-map (option_map rows_of) curves n rows (option_map rows_of rows) b ∙ ap (option_map rows_of) (sym beside)) i)) in
+    let last : choice_of (get_or pairs n (cur, option_map rows_of rows)) ≡ record { rlchk = Some cur.rlchk; valpar = number; curve = curve } = ap choice_of item ∙ (λ i. record { rlchk = Some cur.rlchk; valpar = sym same i; curve = sym made i }) in
+    let whole = ap (map choice_of) (take_more pairs n (cur, option_map rows_of rows) within) ∙ map-append choice_of (take n pairs) (get_or pairs n (cur, option_map rows_of rows) ∷ []) in
+    sym (whole ∙ (ap (λ c. first_choices curs curves n ++ c ∷ []) last ∙ ap (λ front. front ++ record { rlchk = Some cur.rlchk; valpar = number; curve = curve } ∷ []) (sym so_far)))

@@ -1,0 +1,4 @@
+pub mod ChoiceFacts
+mod NameFacts
+pub mod PlanFacts
+pub mod LawFacts

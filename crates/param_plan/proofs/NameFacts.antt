@@ -1,0 +1,86 @@
+-- What is found by its name among items whose names ascend.
+use Rattle.std.proofs.Common.{◌≡◌, ◌∙◌, ℕ, zero, suc, ◌+◌, ◌-◌, ◌<◌, ◌≤◌, inl, inr, Bool, true, false, List, Option, Some, None, Less, Equal, Greater, Ordering, length, get_or, IsPermutation, refl, sym, ap, subst, arith}
+use Rattle.std.proofs.lemmas.Bool.{cases_lt, cases_order}
+use Rattle.std.proofs.lemmas.List.{get_or_default}
+use Rattle.std.proofs.lemmas.List.Sorted.{IsPermutation-refl, searchable_from_sorted}
+use Rattle.std.specs.Cmp.{tied_back}
+use Rattle.std.specs.Cmp.Lexicographic.{nat_list_cmp_total, slice_cmp, texts_ties}
+use Rattle.std.specs.List.{AllAdjacentBelow, find}
+use Rattle.std.specs.List.Sorted.{IsNonDecreasingBy, IsPartitionPoint, IsSortedBy}
+use Rattle.std.specs.Ordering.{is_eq, is_lt, nat_cmp, ordering_index, ordering_reverse}
+use Rattle.std.specs.Str.{bytes_eq}
+use Rattle.curve_plan.proofs.FindFacts.{found-none, found-only}
+
+abbrev order : List ℕ → List ℕ → Ordering
+order = slice_cmp nat_cmp
+
+equal-from : (r : Ordering) → is_eq r ≡ true → r ≡ Equal
+equal-from Less e = absurd (cc e)
+equal-from Equal e = refl
+equal-from Greater e = absurd (cc e)
+
+module _ {X : Type 0} (key : X → List ℕ) (name : List ℕ) where
+  abbrev pub is_named : X → Bool
+  is_named x = bytes_eq (key x) name
+
+  abbrev pub Rise : List X → Type 0
+  Rise xs = AllAdjacentBelow (λ x y. order (key x) (key y) ≡ Less) xs (length xs)
+
+  rise-far : (xs : List X) → Rise xs → (i n : ℕ) (d : X) → i + suc n < length xs → order (key (get_or xs i d)) (key (get_or xs (i + suc n) d)) ≡ Less
+  rise-far xs up i zero d below = up i d (omega (arith, below))
+  rise-far xs up i (suc n) d below =
+      let before = rise-far xs up i n d (omega (arith, below)) in
+      let next = up (i + suc n) d (omega (arith, below)) in
+      let same : i + suc n + 1 ≡ i + suc (suc n) = omega arith in
+      let next' : order (key (get_or xs (i + suc n) d)) (key (get_or xs (i + suc (suc n)) d)) ≡ Less = subst (λ k. order (key (get_or xs (i + suc n) d)) (key (get_or xs k d)) ≡ Less) same next in
+      nat_list_cmp_total.trans (key (get_or xs i d)) (key (get_or xs (i + suc n) d)) (key (get_or xs (i + suc (suc n)) d)) before next'
+
+  further : (i j : ℕ) → i < j → i + suc (j - suc i) ≡ j
+  further i j h = omega (arith, h)
+
+  below-far : (xs : List X) → Rise xs → (i j : ℕ) (d : X) → i < j → j < length xs → order (key (get_or xs i d)) (key (get_or xs j d)) ≡ Less
+  below-far xs up i j d before below = subst (λ k. order (key (get_or xs i d)) (key (get_or xs k d)) ≡ Less) (further i j before) (rise-far xs up i (j - suc i) d (let f = further i j before in omega (arith, below, f)))
+
+  tied : (x : X) → is_named x ≡ true → order (key x) name ≡ Equal
+  tied x h = equal-from (order (key x) name) (sym (texts_ties (key x) name) ∙ h)
+
+  not-both : (xs : List X) → Rise xs → (i j : ℕ) (d : X) → i < j → j < length xs → is_named (get_or xs i d) ≡ true → is_named (get_or xs j d) ≡ true → Less ≡ Equal
+  not-both xs up i j d before below h k =
+      let less = below-far xs up i j d before below in
+      let along = nat_list_cmp_total.congr (key (get_or xs i d)) name (key (get_or xs j d)) (tied (get_or xs i d) h) in
+      let back = tied_back nat_list_cmp_total (key (get_or xs j d)) name (tied (get_or xs j d) k) in
+      sym less ∙ (along ∙ back)
+
+  once : (xs : List X) → Rise xs → (i j : ℕ) (d : X) → i < length xs → j < length xs → is_named (get_or xs i d) ≡ true → is_named (get_or xs j d) ≡ true → i ≡ j
+  once xs up i j d a b h k = elim (cases_order i j) [
+    | inl e ↦ e
+    | inr f ↦ elim f [
+      | inl l ↦ absurd (cc (not-both xs up i j d l b h k))
+      | inr l ↦ absurd (cc (not-both xs up j i d l a k h))
+    ]
+  ]
+
+  -- the item that is found has the name
+  pub named-found : (xs : List X) → Rise xs → (k : ℕ) (x : X) → k < length xs → get_or xs k x ≡ x → order (key x) name ≡ Equal → find is_named xs ≡ Some x
+  named-found xs up k x below is same =
+      let here : is_named x ≡ true = texts_ties (key x) name ∙ ap is_eq same in
+      found-only is_named xs xs k x (IsPermutation-refl xs) below is here
+      (λ j d b h. once xs up j k d b below h (ap is_named (get_or_default xs k d x below ∙ is) ∙ here))
+
+  sorted : (xs : List X) → Rise xs → IsSortedBy (λ x y. is_lt (order (key x) (key y))) xs
+  sorted xs up = λ k d low below. ap is_lt (nat_list_cmp_total.antisymm (key (get_or xs (k + 1) d)) (key (get_or xs k d)) ∙ ap ordering_reverse (up k d below))
+
+  not-named : (x : X) (r : Ordering) → order (key x) name ≡ r → is_eq r ≡ false → is_named x ≡ false
+  not-named x r e f = texts_ties (key x) name ∙ (ap is_eq e ∙ f)
+
+  -- where a search ends between lower and higher names, no item has the name
+  pub named-missing : (xs : List X) → Rise xs → (i : ℕ)
+      → (IsNonDecreasingBy (λ y. ordering_index (order (key y) name)) xs → IsPartitionPoint (λ y. order (key y) name ≡ Less) (λ y. order (key y) name ≡ Greater) xs i) → find is_named xs ≡ None
+  named-missing xs up i ends =
+      let parts = ends (searchable_from_sorted nat_list_cmp_total key xs name (sorted xs up)) in
+      found-none is_named xs xs (IsPermutation-refl xs) (fails parts) where
+        fails : IsPartitionPoint (λ y. order (key y) name ≡ Less) (λ y. order (key y) name ≡ Greater) xs i → (j : ℕ) (d : X) → j < length xs → is_named (get_or xs j d) ≡ false
+        fails parts j d b = elim (cases_lt j i) [
+          | inl l ↦ not-named (get_or xs j d) Less (parts.0 j d (omega arith) l) refl
+          | inr l ↦ not-named (get_or xs j d) Greater (parts.1 j d l b) refl
+        ]

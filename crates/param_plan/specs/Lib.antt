@@ -1,0 +1,4 @@
+pub mod Slices
+pub mod Choices
+pub mod Names
+pub mod Laws
