@@ -13,14 +13,19 @@ pub mod Database
 pub mod Attempts
 pub mod Lines
 pub mod Numbers
+pub mod Forms
 pub mod Columns
+pub mod ColumnRows
 pub mod ParameterTables
 pub mod PacketTables
+pub mod LayoutTables
+pub mod TextTables
 pub mod CurveTables
 pub mod Writing
 pub mod RowTexts
 pub mod Fitting
 pub mod Reading
+pub mod TypedRows
 pub mod DatabaseTexts
 pub mod Parameters
 pub mod Bits
@@ -45,6 +50,7 @@ pub mod Texts
 pub mod Flaws
 pub mod References
 pub mod RowFlaws
+pub mod CurveFlaws
 pub mod GroupFlaws
 pub mod Soundness
 pub mod Sameness

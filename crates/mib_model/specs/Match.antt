@@ -13,6 +13,7 @@ use Rattle.mib_model.specs.declared.packet.TheConstants.{IDLE_APID}
 use Rattle.mib_model.specs.Bits.{bits, is_inside}
 use Rattle.mib_model.specs.Database.{Database}
 use Rattle.mib_model.specs.Headers.{header_of}
+use Rattle.mib_model.specs.declared.limits.TheConstants.{DISCRIMINANT_BITS}
 
 -- the service type: octet 7 behind a secondary header, else 0
 abbrev pub service_of : List ℕ → ℕ
@@ -90,6 +91,6 @@ match_by pids pics packet =
 unfoldable pub match_of : Database → List ℕ → Found
 match_of db packet = match_by db.pid db.pic packet
 
--- whether the discriminants of a row of pic have 64 bits at most, as the columns of its table have them
+-- whether the discriminants of a row of pic have no more bits than a discriminant may, as the columns of its table have them
 abbrev pub discriminants_fit : PicRow → Bool
-discriminants_fit row = nat_le row.pi1_wid 64 && nat_le row.pi2_wid 64
+discriminants_fit row = nat_le row.pi1_wid DISCRIMINANT_BITS && nat_le row.pi2_wid DISCRIMINANT_BITS

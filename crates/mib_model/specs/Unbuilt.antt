@@ -1,5 +1,5 @@
 -- Rows that ask for what decoding doesn't do yet: they are refused, so that nothing is printed that isn't whole. [This profile.]
-use Rattle.std.specs.Prelude.{◌+◌, Bool, true, List, Option, option_map, is_some, position, nat_lt, int_lt, pos, ◌==◌, ◌&&◌, not}
+use Rattle.std.specs.Prelude.{◌+◌, Bool, true, List, Option, option_map, is_some, position, nat_lt, ◌==◌, ◌&&◌, not}
 use Rattle.std.specs.Option.{option_or}
 use Rattle.mib_model.specs.declared.fault.MibCode.TheVariants.{Unbuilt}
 use Rattle.mib_model.specs.declared.fault.MibFault.{MibFault}
@@ -11,6 +11,7 @@ use Rattle.mib_model.specs.declared.rows.PlfRow.{PlfRow}
 use Rattle.mib_model.specs.Database.{Database}
 use Rattle.mib_model.specs.Letters.{letter}
 use Rattle.mib_model.specs.Parameters.{is_measured, parameter_encoding}
+use Rattle.mib_model.specs.Fixed.{has_layout}
 
 -- a parameter that is an unsigned integer in the usual octet order, with neither a curve nor a condition
 abbrev pub is_plain : PcfRow → Bool
@@ -23,7 +24,7 @@ is_unbuilt_pcf row = is_measured row && not (is_plain row)
 
 -- whether a packet is of variable structure
 abbrev pub is_unbuilt_pid : PidRow → Bool
-is_unbuilt_pid row = not (int_lt row.tpsd (pos 1))
+is_unbuilt_pid row = not (has_layout row)
 
 -- whether a place has more than one occurrence
 abbrev pub is_unbuilt_plf : PlfRow → Bool

@@ -1,13 +1,15 @@
 // The tables of calibration.
 ghost use Rattle.std.specs.Prelude.{◌≡◌};
-ghost use Rattle.mib_model.specs.Columns.{made_by};
-ghost use Rattle.mib_model.specs.CurveTables.{cur, cur_row, caf, caf_row, cap, cap_row, txf, txf_row, txp, txp_row, mcf, mcf_row, lgf, lgf_row};
+ghost use Rattle.mib_model.specs.ColumnRows.{made_by};
+ghost use Rattle.mib_model.specs.TextTables.{cur, cur_row, txf, txf_row, txp, txp_row};
+ghost use Rattle.mib_model.specs.CurveTables.{caf, caf_row, cap, cap_row, mcf, mcf_row, lgf, lgf_row};
 
-use crate::field::{
-    INT_MAX, INT_MIN, decimal, decimal_or_zero, fault, integer, letter_or, name, natural, text,
-};
+use crate::field::{decimal, decimal_or_zero, fault, integer, letter_or, name, natural, text};
 use crate::fields::Fields;
-use mib_model::{CafRow, CapRow, CurRow, LgfRow, LineFault, McfRow, MibCode, TxfRow, TxpRow};
+use mib_model::{
+    CafRow, CapRow, CurRow, LgfRow, LineFault, McfRow, MibCode, RAW_LEAST, RAW_MOST, TxfRow,
+    TxpRow, WORD_MOST,
+};
 
 /// A row of selections of a curve by a condition.
 pub fn cur(row: &Fields) -> Result<CurRow, LineFault>
@@ -18,9 +20,9 @@ pub fn cur(row: &Fields) -> Result<CurRow, LineFault>
     }
     Ok(CurRow {
         pname: name(row.field(1), 1)?,
-        pos: natural(row.field(2), 2, 0, 65_535)? as u16,
+        pos: natural(row.field(2), 2, 0, WORD_MOST)? as u16,
         rlchk: name(row.field(3), 3)?,
-        valpar: integer(row.field(4), 4, INT_MIN, INT_MAX)?,
+        valpar: integer(row.field(4), 4, RAW_LEAST, RAW_MOST)?,
         curve: name(row.field(5), 5)?,
     })
 }

@@ -9,10 +9,8 @@ ghost use Rattle.mib_rows.specs.Left.{IsAtRecord, left_in, line_of};
 use crate::fields::Fields;
 use crate::read_fault::ReadFault;
 use csv::{Reader, ReaderBuilder, Terminator};
+use mib_model::ROWS_MOST;
 use std::alloc::Global;
-
-/// The number of the last row that a table may have.
-pub const ROWS_MOST: u32 = 100_000;
 
 /// What reads the rows of a text, each from the fields of its line.
 pub trait ReadsRows {

@@ -8,14 +8,9 @@ use crate::fields::Fields;
 use crate::keys::key;
 use crate::read_fault::ReadFault;
 use crate::row::row;
-use crate::rows::{ROWS_MOST, ReadsRows, rows};
-use mib_model::{Key, Kind, LineFault, MibCode, MibFault, Row};
+use crate::rows::{ReadsRows, rows};
+use mib_model::{Key, Kind, LineFault, MibCode, MibFault, ROW_MOST, ROWS_MOST, Row, TABLE_MOST};
 use std::alloc::Global;
-
-// The octets of the greatest text and of the longest row.
-const TEXT_MOST: usize = 67_108_864;
-
-const ROW_MOST: u16 = 4_096;
 
 /// A fault of a table and a row.
 pub fn fault_in_row(table: Kind, row: u32, fault: LineFault) -> MibFault
@@ -70,7 +65,7 @@ fn begins_with_mark(text: &[u8]) -> bool
 pub fn read_table(alloc: Global, kind: Kind, text: &[u8]) -> Result<Vec<Row>, ReadFault>
     ensures { Gives (λ rows. rows.items) result (table_of kind text.now) }
 {
-    if text.len() > TEXT_MOST {
+    if text.len() > TABLE_MOST {
         let big = fault(0, MibCode::Big);
         return Err(ReadFault::Mib(fault_in_row(kind, 0, big)));
     }

@@ -3,10 +3,11 @@ ghost use Rattle.mib_model.specs.Database.{database_of, no_rows};
 ghost use Rattle.mib_model.specs.Drafts.{is_held, put_in, rows_of, with_rows, without_key};
 ghost use Rattle.mib_model.specs.Keys.{key_in};
 ghost use Rattle.mib_model.specs.RowTexts.{kind_in};
+ghost use Rattle.mib_model.specs.declared.limits.TheConstants.{HELD_MOST};
 ghost use Rattle.mib_tables.specs.Kinds.{kind_of_key};
 ghost use Rattle.mib_tables.specs.Puts.{put_made};
 
-use crate::table::{HELD_MOST, NoRow, Put, Table};
+use crate::table::{NoRow, Put, Table};
 use mib_model::{
     CafRow, CapRow, CurRow, Key, Kind, LgfRow, McfRow, OcfRow, OcpRow, PcfRow, PicRow, PidRow,
     PlfRow, Row, Tables, TpcfRow, TxfRow, TxpRow, VpdRow,

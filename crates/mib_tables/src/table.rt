@@ -3,14 +3,12 @@ ghost use Rattle.std.specs.Prelude.{◌≡◌, ◌≤◌, ◌++◌, [], IfOk, On
 ghost use Rattle.std.specs.List.{cons_option};
 ghost use Rattle.mib_model.specs.Drafts.{put_in, without_key, is_held};
 ghost use Rattle.mib_model.specs.Keys.{has_key, key_in, same_key};
+ghost use Rattle.mib_model.specs.declared.limits.TheConstants.{HELD_MOST};
 ghost use Rattle.mib_tables.specs.Puts.{put_made};
 
-use mib_model::{Key, Row, TableRow};
+use mib_model::{HELD_MOST, Key, Row, TableRow};
 use std::alloc::{AllocError, Global};
 use std::marker::Model;
-
-/// The greatest number of rows that a table in memory holds; a text has fewer.
-pub const HELD_MOST: usize = 1_000_000_000;
 
 /// What `put` did.
 #[derive(Clone, Copy, Debug, PartialEq, Eq)]
@@ -25,7 +23,7 @@ pub enum Put {
 #[derive(Clone, Copy, Debug, PartialEq, Eq)]
 pub struct NoRow;
 
-/// The rows of a table, at most 1,000,000,000. Contracts see the list of them.
+/// The rows of a table, at most `HELD_MOST`. Contracts see the list of them.
 #[derive(Drop)]
 pub struct Table<R: TableRow> {
     rows: Vec<R>,
@@ -33,12 +31,13 @@ pub struct Table<R: TableRow> {
 
 impl<R: TableRow> Model for Table<R> {
     ghost use Rattle.std.specs.Prelude.{◌≤◌, List, length};
+    ghost use Rattle.mib_model.specs.declared.limits.TheConstants.{HELD_MOST};
 
     ghost Value = { List R };
 
     ghost view = { λ table. table.rows.items };
 
-    ghost invariant = { λ table. length table.rows.items ≤ 1000000000 };
+    ghost invariant = { λ table. length table.rows.items ≤ HELD_MOST };
 }
 
 // Whether two keys are the same.

@@ -4,11 +4,12 @@ ghost use Rattle.session.specs.Causes.{HasLoadCause, IsReadStop};
 ghost use Rattle.session.specs.Sources.{octets_of, part_read};
 
 use crate::load_fault::LoadFault;
+use mib_model::TABLE_MOST;
 use std::alloc::{AllocError, Global};
 use tm_io::{Shelf, Source};
 
 // The most octets of a text that are read: one more than a table may have.
-const READ_MOST: usize = 67_108_865;
+const READ_MOST: usize = TABLE_MOST + 1;
 
 // The octets that are read at once.
 const CHUNK_SIZE: usize = 65_536;
