@@ -143,9 +143,8 @@ fn first_flaw(alloc: Global, book: &Book) -> Result<Option<MibFault>, AllocError
 pub fn sound(alloc: Global, book: &Book) -> Result<(), SoundFault>
     ensures { Gives result book.now }
 {
-    match first_flaw(alloc, book) {
-        Ok(None) => Ok(()),
-        Ok(Some(fault)) => Err(SoundFault::Mib(fault)),
-        Err(_) => Err(SoundFault::Memory),
+    match first_flaw(alloc, book)? {
+        None => Ok(()),
+        Some(fault) => Err(SoundFault::Mib(fault)),
     }
 }

@@ -26,6 +26,7 @@ pub mod RowTexts
 pub mod Fitting
 pub mod Reading
 pub mod TypedRows
+pub mod TableLists
 pub mod DatabaseTexts
 pub mod Parameters
 pub mod Bits

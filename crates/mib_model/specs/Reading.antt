@@ -26,12 +26,16 @@ in_row table number (Err fault) = Err (fault_at table number fault)
 abbrev pub whole_fault : {Made : Type 0} → Kind → ℕ → MibCode → Result Made MibFault
 whole_fault table number code = Err (fault_at table number (record { column = 0; code = code }))
 
--- the row that a line is, which is the table's row of this number
-unfoldable pub row_at : Kind → ℕ → List ℕ → Result Row MibFault
-row_at table number line =
+-- what is made of a line's fields, where the line is the table's row of this number
+abbrev pub line_at : {Made : Type 0} → (List (List ℕ) → Result Made LineFault) → Kind → ℕ → List ℕ → Result Made MibFault
+line_at read table number line =
     if nat_lt ROW_MOST (length line) then whole_fault table number LineLong
     else if nat_lt ROWS_MOST number then whole_fault table number Rows
-    else in_row table number (row_of table (fields line))
+    else in_row table number (read (fields line))
+
+-- the row that a line is, which is the table's row of this number
+unfoldable pub row_at : Kind → ℕ → List ℕ → Result Row MibFault
+row_at table number line = line_at (row_of table) table number line
 
 -- what is read of lines one by one, the first of which has this number, or the first fault
 unfoldable pub rows_from : {Made : Type 0} → (ℕ → List ℕ → Result Made MibFault) → ℕ → List (List ℕ) → Result (List Made) MibFault

@@ -57,4 +57,4 @@ pub use rows::{
 pub use shape::{Endian, Order, Shape, Sort};
 pub use steps::Steps;
 pub use table_row::TableRow;
-pub use tables::Tables;
+pub use tables::{TableRows, Tables};

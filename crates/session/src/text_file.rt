@@ -37,15 +37,11 @@ fn read_into<S: Source>(
 {
     while text.len() < READ_MOST {
         let size = chunk.len().min(READ_MOST - text.len());
-        let Ok(count) = source.read(&mut chunk[..size]) else {
-            return Err(LoadFault::Failed);
-        };
+        let count = source.read(&mut chunk[..size])?;
         if count == 0 {
             return Ok(());
         }
-        if text.extend_from_slice(&chunk[..count]).is_err() {
-            return Err(LoadFault::Memory);
-        }
+        text.extend_from_slice(&chunk[..count])?;
     }
     Ok(())
 }
@@ -58,9 +54,7 @@ fn read_whole<S: Source>(alloc: Global, source: &mut S) -> Result<Vec<u8>, LoadF
     ensures stop { IfErr result IsReadStop }
     ensures holds { S.holds source.new ≡ S.holds source.old }
 {
-    let Ok(mut chunk) = buffer(alloc, CHUNK_SIZE) else {
-        return Err(LoadFault::Memory);
-    };
+    let mut chunk = buffer(alloc, CHUNK_SIZE)?;
     let mut text = Vec::new(alloc);
     read_into(source, &mut chunk, &mut text)?;
     Ok(text)
@@ -74,9 +68,9 @@ pub fn read_file<T: Shelf>(alloc: Global, shelf: &mut T, name: &str) -> Result<V
     ensures stop { IfErr result IsReadStop }
     ensures holds { T.holds shelf.new ≡ T.holds shelf.old }
 {
-    match shelf.aim(name) {
-        Ok(true) => read_whole(alloc, shelf),
-        Ok(false) => Ok(Vec::new(alloc)),
-        Err(_) => Err(LoadFault::Failed),
+    let found = shelf.aim(name)?;
+    if !found {
+        return Ok(Vec::new(alloc));
     }
+    read_whole(alloc, shelf)
 }
