@@ -16,9 +16,9 @@ mod values;
 pub use encoding::shape_of;
 pub use field::{signed, unsigned};
 pub use laws::bits_are_a_sum;
-pub use mib_model::{Ended, Endian, Order, Shape, Sort, Value};
+pub use mib_model::{Ended, Endian, MOST_VALUES, Order, Shape, Sort, Value};
 pub use value::{number, take};
-pub use values::{MOST_VALUES, Values};
+pub use values::Values;
 
 #[cfg(test)]
 mod tests;

@@ -1,7 +1,4 @@
-use mib_model::Value;
-
-/// The most values of a packet.
-pub const MOST_VALUES: u32 = 8192;
+use mib_model::{MOST_VALUES, Value};
 
 /// The values of a packet: the front of some slots, of which so many are in use.
 #[derive(Drop)]

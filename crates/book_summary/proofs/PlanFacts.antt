@@ -4,7 +4,8 @@ use Rattle.std.proofs.lemmas.List.{length-map}
 use Rattle.mib_model.specs.declared.database.Database.{Database}
 use Rattle.mib_model.specs.declared.rows.VpdRow.{VpdRow}
 use Rattle.mib_model.specs.Orders.{sorted_by}
-use Rattle.mib_model.specs.Plans.{plans, param_plan, param_plans, layout_plan, layout_plans, structure_plan, structure_plans, has_plan, has_layout, distinct, may_precede}
+use Rattle.mib_model.specs.Plans.{plans, param_plan, param_plans, layout_plan, layout_plans, structure_plan, structure_plans, has_plan, distinct, may_precede}
+use Rattle.mib_model.specs.Fixed.{has_layout}
 use Rattle.book_summary.proofs.RowFacts.{long-sorted}
 
 -- the plans of items in order are as many as the items

@@ -2,25 +2,19 @@
 ghost use Rattle.std.specs.Prelude.{◌≡◌, ◌≤◌, length, filter, map, IfOk};
 ghost use Rattle.std.specs.BTreeSet.{IsFromIterResult};
 ghost use Rattle.std.specs.Ordering.{nat_cmp};
-ghost use Rattle.mib_model.specs.Plans.{has_plan, has_layout, distinct, plans};
+ghost use Rattle.mib_model.specs.Plans.{has_plan, distinct, plans};
+ghost use Rattle.mib_model.specs.Fixed.{has_layout};
 
 use mib_model::{PcfRow, PidRow, VpdRow};
 use mib_tables::Book;
 use std::alloc::{AllocError, Global};
 use std::collections::BTreeSet;
 
-// Nature `R`, and not PTC 11.
+// A parameter that is measured and not deduced.
 fn has_plan(row: &PcfRow) -> bool
     ensures { result ≡ has_plan row.now }
 {
-    row.natur == b'R' && row.ptc != 11
-}
-
-// A packet of fixed layout.
-fn has_layout(row: &PidRow) -> bool
-    ensures { result ≡ has_layout row.now }
-{
-    row.tpsd < 1
+    row.is_measured() && !row.is_deduced()
 }
 
 // The parameters with a plan.
@@ -36,7 +30,7 @@ fn count_layouts(rows: &[PidRow]) -> usize
     ensures count { result ≡ length (filter has_layout rows.now) }
     ensures within { result ≤ length rows.now }
 {
-    rows.iter().filter(|row| has_layout(row)).count()
+    rows.iter().filter(|row| row.has_layout()).count()
 }
 
 // The numbers of the structures, each once.

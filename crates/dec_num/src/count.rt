@@ -7,10 +7,10 @@ ghost use Rattle.mib_model.specs.declared.line.TheConstants.{LINE_ROOM};
 use crate::rounding::{power, rounded, scaled_down};
 use crate::steps::scaled_up;
 use itoa::Buffer;
-use mib_model::{Dec, Eng, Line};
+use mib_model::{Dec, Eng, Line, STEP_BOUND};
 
 /// The magnitude that a count is held to.
-const HELD: i128 = 10_000_000_000_000_000_000_000_000_000_000_000_000;
+const HELD: i128 = STEP_BOUND as i128;
 
 /// The decimals of a count.
 const DECIMALS: u8 = 12;

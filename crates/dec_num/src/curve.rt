@@ -1,9 +1,10 @@
 // The sums of calibration curves.
-ghost use Rattle.std.specs.Prelude.{◌≡◌, ◌<◌, ◌^◌, ◌<ℤ◌, ◌≤ℤ◌, ◌+ℤ◌, ◌-ℤ◌, ◌*ℤ◌, nat_abs, false, IfSome};
+ghost use Rattle.std.specs.Prelude.{◌≡◌, ◌<◌, ◌<ℤ◌, ◌≤ℤ◌, ◌+ℤ◌, ◌-ℤ◌, ◌*ℤ◌, nat_abs, false, IfSome};
 ghost use Rattle.mib_model.specs.WholeNumbers.{least_raw, greatest_raw};
 ghost use Rattle.mib_model.specs.Calibrated.{bounded};
 ghost use Rattle.mib_model.specs.Points.{interpolated};
 ghost use Rattle.dec_num.specs.Narrow.{counted, narrow};
+ghost use Rattle.mib_model.specs.declared.limits.TheConstants.{STEP_BOUND};
 
 use crate::rounding::half;
 use crate::steps::{difference, outcome, product};
@@ -40,7 +41,7 @@ fn raised(count: i128, offset: i128) -> Result<Eng, Over>
 #[tactic(auto, using(crate::proofs::ScalingFacts::far_products))]
 fn climb(rise: i128, x: i128, raw: i128) -> Option<i128>
     ensures value { result ≡ narrow ((raw -ℤ x) *ℤ rise) }
-    ensures within { IfSome result (λ z. nat_abs z < 10 ^ 37) }
+    ensures within { IfSome result (λ z. nat_abs z < STEP_BOUND) }
 {
     if rise == 0 {
         return Some(0);

@@ -7,6 +7,7 @@ ghost use Rattle.mib_model.specs.Counts as Counts;
 ghost use Rattle.mib_model.specs.Polynomials as Spec;
 ghost use Rattle.dec_num.specs.Narrow.{counted, narrow, narrow_result, or_over};
 ghost use Rattle.dec_num.specs.Sums.{without_zeros, advanced, sum_behind};
+ghost use Rattle.mib_model.specs.declared.limits.TheConstants.{STEP_BOUND};
 
 use crate::rounding::scaled_down;
 use crate::steps::{outcome, product, scaled_up, step, sum};
@@ -34,7 +35,7 @@ fn scale_of(a: &[Dec; 5]) -> u8
 fn times_power(number: i128, exponent: i32) -> Option<i128>
     requires { nat_abs number < 2 ^ 127 }
     ensures value { result ≡ narrow (Counts.times_power number exponent) }
-    ensures within { IfSome result (λ z. nat_abs z < 10 ^ 37) }
+    ensures within { IfSome result (λ z. nat_abs z < STEP_BOUND) }
 {
     if exponent < 0 {
         step(scaled_down(number, exponent.unsigned_abs()))
@@ -46,7 +47,7 @@ fn times_power(number: i128, exponent: i32) -> Option<i128>
 // A coefficient as a whole number at a scale.
 fn at_scale(d: Dec, scale: u8) -> Option<i128>
     ensures value { result ≡ narrow (Counts.times_power d.m (d.e +ℤ pos scale)) }
-    ensures within { IfSome result (λ z. nat_abs z < 10 ^ 37) }
+    ensures within { IfSome result (λ z. nat_abs z < STEP_BOUND) }
 {
     times_power(i128::from(d.m), i32::from(d.e) + i32::from(scale))
 }
@@ -55,7 +56,7 @@ fn at_scale(d: Dec, scale: u8) -> Option<i128>
 fn coefficients(a: &[Dec; 5], scale: u8) -> Option<(i128, [i128; 4])>
     ensures none { IfNone result (list_any is_wide (Spec.at_scale scale a.now) ≡ true) }
     ensures some { IfSome result (λ c. c.0 ∷ c.1 ≡ Spec.at_scale scale a.now) }
-    ensures within { IfSome result (λ c. nat_abs c.0 < 10 ^ 37) }
+    ensures within { IfSome result (λ c. nat_abs c.0 < STEP_BOUND) }
     ensures narrow { OnSome result (list_any is_wide (Spec.at_scale scale a.now) ≡ false) }
 {
     let [a0, a1, a2, a3, a4] = *a;
@@ -82,7 +83,7 @@ fn up_to_degree(coefficients: &[i128]) -> &[i128]
 // The next power, and the sum with the term of its coefficient, where no step is too wide.
 fn advance(raw: i128, power: i128, total: i128, coefficient: i128) -> Option<(i128, i128)>
     ensures value { result ≡ advanced raw power total coefficient }
-    ensures within { IfSome result (λ p. nat_abs p.1 < 10 ^ 37) }
+    ensures within { IfSome result (λ p. nat_abs p.1 < STEP_BOUND) }
 {
     let next = product(power, raw)?;
     let term = product(coefficient, next)?;
@@ -91,9 +92,9 @@ fn advance(raw: i128, power: i128, total: i128, coefficient: i128) -> Option<(i1
 
 // The sum of a first coefficient and of those of the powers from 1 on, where no step is too wide.
 fn total(first: i128, rest: &[i128], raw: i128) -> Option<i128>
-    requires { nat_abs first < 10 ^ 37 }
+    requires { nat_abs first < STEP_BOUND }
     ensures value { result ≡ sum_behind raw (pos 1) first rest.now }
-    ensures within { IfSome result (λ z. nat_abs z < 10 ^ 37) }
+    ensures within { IfSome result (λ z. nat_abs z < STEP_BOUND) }
 {
     let mut power = 1;
     let mut total = first;
@@ -107,7 +108,7 @@ fn total(first: i128, rest: &[i128], raw: i128) -> Option<i128>
 
 // A sum at a scale, brought to counts of 10^-12, where it is below the bound of results.
 fn to_count(sum: i128, scale: u8) -> Option<i128>
-    requires { nat_abs sum < 10 ^ 37 }
+    requires { nat_abs sum < STEP_BOUND }
     ensures { result ≡ narrow_result (Spec.to_count scale sum) }
 {
     outcome(times_power(sum, 12 - i32::from(scale))?)

@@ -1,19 +1,15 @@
 // Sums and products of at most 36 digits.
 ghost use Rattle.std.specs.Prelude.{◌≡◌, ◌<◌, ◌≤◌, ◌+ℤ◌, ◌*ℤ◌, ◌-ℤ◌, ◌^◌, pos, nat_abs, IfSome};
 ghost use Rattle.dec_num.specs.Narrow.{narrow, narrow_result};
+ghost use Rattle.mib_model.specs.declared.limits.TheConstants.{STEP_BOUND};
 
 use crate::rounding::power;
-
-/// A step's bound: its magnitude may not reach 10^37.
-const STEP_BOUND: u128 = 10_000_000_000_000_000_000_000_000_000_000_000_000;
-
-/// A result's bound: its magnitude may not reach 10^36.
-const RESULT_BOUND: u128 = 1_000_000_000_000_000_000_000_000_000_000_000_000;
+use mib_model::{RESULT_BOUND, STEP_BOUND};
 
 /// A number, where it is below the bound of steps.
 pub fn step(number: i128) -> Option<i128>
     ensures value { result ≡ narrow number }
-    ensures within { IfSome result (λ z. nat_abs z < 10 ^ 37) }
+    ensures within { IfSome result (λ z. nat_abs z < STEP_BOUND) }
 {
     if number.unsigned_abs() < STEP_BOUND {
         Some(number)
@@ -36,7 +32,7 @@ pub fn outcome(number: i128) -> Option<i128>
 /// A sum, where it is below the bound of steps.
 pub fn sum(a: i128, b: i128) -> Option<i128>
     ensures value { result ≡ narrow (a +ℤ b) }
-    ensures within { IfSome result (λ z. nat_abs z < 10 ^ 37) }
+    ensures within { IfSome result (λ z. nat_abs z < STEP_BOUND) }
 {
     step(a.checked_add(b)?)
 }
@@ -44,7 +40,7 @@ pub fn sum(a: i128, b: i128) -> Option<i128>
 /// A difference, where it is below the bound of steps.
 pub fn difference(a: i128, b: i128) -> Option<i128>
     ensures value { result ≡ narrow (a -ℤ b) }
-    ensures within { IfSome result (λ z. nat_abs z < 10 ^ 37) }
+    ensures within { IfSome result (λ z. nat_abs z < STEP_BOUND) }
 {
     step(a.checked_sub(b)?)
 }
@@ -52,7 +48,7 @@ pub fn difference(a: i128, b: i128) -> Option<i128>
 /// A product, where it is below the bound of steps.
 pub fn product(a: i128, b: i128) -> Option<i128>
     ensures value { result ≡ narrow (a *ℤ b) }
-    ensures within { IfSome result (λ z. nat_abs z < 10 ^ 37) }
+    ensures within { IfSome result (λ z. nat_abs z < STEP_BOUND) }
 {
     step(a.checked_mul(b)?)
 }
@@ -70,7 +66,7 @@ fn signed_power(exponent: u32) -> i128
 #[tactic(auto, using(crate::proofs::ScalingFacts::great_powers))]
 pub fn scaled_up(number: i128, exponent: u32) -> Option<i128>
     ensures value { result ≡ narrow (number *ℤ pos (10 ^ exponent)) }
-    ensures within { IfSome result (λ z. nat_abs z < 10 ^ 37) }
+    ensures within { IfSome result (λ z. nat_abs z < STEP_BOUND) }
 {
     if number == 0 {
         return Some(0);

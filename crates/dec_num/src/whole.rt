@@ -6,13 +6,7 @@ ghost use Rattle.mib_model.specs.WholeNumbers as Spec;
 use crate::read::read_dec;
 use crate::spaces::trim;
 use crate::steps::scaled_up;
-use mib_model::Dec;
-
-/// The least raw number, -2^63.
-const LEAST_RAW: i128 = -9_223_372_036_854_775_808;
-
-/// The greatest raw number, 2^64 - 1.
-const GREATEST_RAW: i128 = 18_446_744_073_709_551_615;
+use mib_model::{Dec, RAW_LEAST, RAW_MOST};
 
 /// What an octal number may not reach, 2^64.
 const OCTAL_BOUND: u128 = 18_446_744_073_709_551_616;
@@ -21,7 +15,7 @@ const OCTAL_BOUND: u128 = 18_446_744_073_709_551_616;
 fn if_raw(number: i128) -> Option<i128>
     ensures { result ≡ Spec.if_raw number }
 {
-    if LEAST_RAW <= number && number <= GREATEST_RAW {
+    if RAW_LEAST <= number && number <= RAW_MOST {
         Some(number)
     } else {
         None

@@ -9,11 +9,10 @@ use Rattle.mib_model.specs.declared.database.Database.{Database}
 use Rattle.mib_model.specs.declared.packet.Found.{Found}
 use Rattle.mib_model.specs.declared.packet.Found.TheVariants as found
 use Rattle.mib_model.specs.declared.rows.PidRow.{PidRow}
-use Rattle.mib_model.specs.Fixed.{places}
+use Rattle.mib_model.specs.Fixed.{has_layout, places}
 use Rattle.mib_model.specs.Headers.{header_of}
 use Rattle.mib_model.specs.Layouts.{layout_places}
 use Rattle.mib_model.specs.Match.{match_of, agrees, found_of, found_with, service_of, subtype_of, lacks_service, discriminants, criterion}
-use Rattle.mib_model.specs.Plans.{has_layout}
 use Rattle.mib_laws.proofs.SliceFacts.{slices-suffice}
 use Rattle.edition.specs.Layouts.{is_layout_row, layout_slice, layout_of, HasPlaces, HasLayout}
 

@@ -6,9 +6,9 @@ use Rattle.mib_model.specs.declared.database.Database.{Database}
 use Rattle.mib_model.specs.declared.packet.Found.{Found}
 use Rattle.mib_model.specs.declared.packet.Found.TheVariants as found
 use Rattle.mib_model.specs.declared.rows.PidRow.{PidRow}
-use Rattle.mib_model.specs.Fixed.{places}
+use Rattle.mib_model.specs.Fixed.{has_layout, places}
 use Rattle.mib_model.specs.Layouts.{layout_places}
-use Rattle.mib_model.specs.Plans.{has_layout, layout_rows, type_items}
+use Rattle.mib_model.specs.Plans.{layout_rows, type_items}
 
 -- a row of the packets of fixed layout with a SPID
 abbrev pub is_layout_row : ℕ → PidRow → Bool

@@ -46,7 +46,7 @@ fn shape_by(item: Option<&TypeItem>) -> Option<Shape>
     ensures { result ≡ option_and_then item_encoding (option_copied item.entry) }
 {
     let item = item?;
-    if item.natur != b'R' {
+    if !item.is_measured() {
         return None;
     }
     shape_of(item.ptc, item.pfc, item.endian)

@@ -9,7 +9,7 @@ use Rattle.std.specs.Str.{bytes_eq}
 use Rattle.mib_model.specs.declared.rows.CafRow.{CafRow}
 use Rattle.mib_model.specs.declared.rows.CapRow.{CapRow}
 use Rattle.mib_model.specs.Curves.{is_real_format}
-use Rattle.mib_model.specs.RowFlaws.{is_bad_point, is_bad_x, is_same_x}
+use Rattle.mib_model.specs.CurveFlaws.{is_bad_point, is_bad_x, is_same_x}
 use Rattle.mib_model.specs.WholeNumbers.{whole_number}
 use Rattle.mib_keys.specs.declared.keys.PointKey.{PointKey}
 use Rattle.mib_keys.specs.Indexes.{has_by, first_place, cut}

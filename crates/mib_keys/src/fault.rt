@@ -1,4 +1,8 @@
+ghost use Rattle.std.specs.Prelude.{◌≡◌};
+ghost use Rattle.mib_keys.specs.declared.fault.SoundFault.TheVariants as faults;
+
 use mib_model::MibFault;
+use std::alloc::AllocError;
 use thiserror::Error;
 
 /// Why a book isn't sound, or could not be checked.
@@ -9,4 +13,12 @@ pub enum SoundFault {
     Mib(MibFault),
     #[error("out of memory")]
     Memory,
+}
+
+impl From<AllocError> for SoundFault {
+    ghost from_gives = { λ _ made. made ≡ faults.Memory };
+
+    fn from(_: AllocError) -> SoundFault {
+        SoundFault::Memory
+    }
 }

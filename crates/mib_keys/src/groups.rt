@@ -9,7 +9,6 @@ ghost use Rattle.mib_keys.specs.Structures.{is_same_place, spots_in, passes_spot
 
 use crate::flaw::At;
 use crate::lookups::Lookups;
-use crate::rules::is_measured;
 use crate::structures::Structure;
 use crate::types::encoding;
 use mib_model::{Kind, MibCode, MibFault, PcfRow, Sort, VpdRow};
@@ -24,7 +23,7 @@ fn is_unmeasured(row: Option<&PcfRow>) -> bool
     ensures { result ≡ is_unmeasured (option_copied row.entry) }
 {
     match row {
-        Some(row) => !is_measured(row),
+        Some(row) => !row.is_measured(),
         None => false,
     }
 }

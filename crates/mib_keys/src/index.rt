@@ -4,6 +4,7 @@ ghost use Rattle.std.specs.HashMap.{get};
 ghost use Rattle.std.specs.Option.{option_or};
 ghost use Rattle.mib_keys.specs.Alike.{AreKeyPlaces, key_eq};
 ghost use Rattle.mib_keys.specs.Indexes.{has_by, first_place, some_if, count_with};
+ghost use Rattle.mib_model.specs.declared.limits.TheConstants.{HELD_MOST};
 
 use crate::keys::By;
 use mib_model::{Key, TableRow};
@@ -35,7 +36,7 @@ pub fn places<B: By>(
     by: &B,
     rows: &[B::Row],
 ) -> Result<HashMap<B::Key, u32>, AllocError>
-    requires { length rows.now ≤ 1000000000 }
+    requires { length rows.now ≤ HELD_MOST }
     ensures { IfOk result (λ places. (q : B.Key) → get B.Key.eq places q ≡ first_place B.Key.eq (B.key by.now) rows.now q) }
 {
     let mut places = HashMap::with_capacity(alloc, rows.len())?;
@@ -50,7 +51,7 @@ fn count_key<K: Eq + Hash + Copy + Drop>(
     counts: &mut HashMap<K, u32>,
     key: Option<K>,
 ) -> Result<(), AllocError>
-    requires { (q : K) → unwrap_or (get K.eq counts.old q) 0 < 1000000000 }
+    requires { (q : K) → unwrap_or (get K.eq counts.old q) 0 < HELD_MOST }
     ensures { OnOk result ((q : K) → unwrap_or (get K.eq counts.new q) 0 ≡ (if has_by K.eq q key then unwrap_or (get K.eq counts.old q) 0 + 1 else unwrap_or (get K.eq counts.old q) 0)) }
 {
     let Some(key) = key else {
@@ -67,7 +68,7 @@ pub fn count<B: By>(
     by: &B,
     rows: &[B::Row],
 ) -> Result<HashMap<B::Key, u32>, AllocError>
-    requires { length rows.now ≤ 1000000000 }
+    requires { length rows.now ≤ HELD_MOST }
     ensures { IfOk result (λ counts. (q : B.Key) → unwrap_or (get B.Key.eq counts q) 0 ≡ count_with B.Key.eq (B.key by.now) rows.now q) }
 {
     let mut counts = HashMap::new(alloc);
@@ -99,7 +100,7 @@ impl<R: TableRow> By for ByKey<R> {
 
 /// The first place of each key of the rows of a table.
 pub fn key_places<R: TableRow>(alloc: Global, rows: &[R]) -> Result<HashMap<Key, u32>, AllocError>
-    requires { length rows.now ≤ 1000000000 }
+    requires { length rows.now ≤ HELD_MOST }
     ensures { IfOk result (λ places. AreKeyPlaces R.as_row (get key_eq places) rows.now) }
 {
     places(alloc, &ByKey { of: PhantomData }, rows)

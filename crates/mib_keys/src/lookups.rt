@@ -6,7 +6,7 @@ ghost use Rattle.std.specs.List.{find, filter, slice_get};
 ghost use Rattle.std.specs.Str.{bytes_eq};
 ghost use Rattle.mib_model.specs.Parameters.{parameter};
 ghost use Rattle.mib_model.specs.References.{has_parameter, has_packet, has_points, has_texts, has_polynomial, has_logarithm, has_check};
-ghost use Rattle.mib_model.specs.RowFlaws.{points_in};
+ghost use Rattle.mib_model.specs.CurveFlaws.{points_in};
 ghost use Rattle.mib_keys.specs.Packets.{packet_eq, packet_of};
 ghost use Rattle.mib_keys.specs.Structures.{spot_of, spots_in};
 ghost use Rattle.mib_model.specs.Structures.{structure};

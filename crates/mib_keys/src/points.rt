@@ -5,7 +5,7 @@ ghost use Rattle.std.specs.HashMap.{get};
 ghost use Rattle.std.specs.List.{find};
 ghost use Rattle.std.specs.Str.{bytes_eq};
 ghost use Rattle.std.specs.Option.{option_copied};
-ghost use Rattle.mib_model.specs.RowFlaws.{txp_rules, cap_rules, is_bad_range, is_bad_point};
+ghost use Rattle.mib_model.specs.CurveFlaws.{txp_rules, cap_rules, is_bad_range, is_bad_point};
 ghost use Rattle.mib_model.specs.WholeNumbers.{decimal_whole, whole_number};
 ghost use Rattle.mib_keys.specs.Firsts.{flaw_by};
 ghost use Rattle.mib_keys.specs.Indexes.{first_place};

@@ -2,10 +2,11 @@
 // [SCOS-2000 Database Import ICD, integrity of the lookups.]
 ghost use Rattle.std.specs.Prelude.{◌≡◌, ◌-◌, ◌==◌, ◌&&◌, ◌||◌, int_lt, pos, drop, take, is_some, is_none, Option, Some, None};
 ghost use Rattle.std.specs.Option.{option_copied};
-ghost use Rattle.mib_model.specs.Parameters.{parameter, is_measured, parameter_encoding};
+ghost use Rattle.mib_model.specs.Fixed.{has_layout};
+ghost use Rattle.mib_model.specs.Parameters.{parameter, parameter_encoding};
 ghost use Rattle.mib_model.specs.References.{has_parameter, has_structure, has_curve, if_given};
-ghost use Rattle.mib_model.specs.RowFlaws.{pcf_rules, pid_rules, plf_rules, cur_rules, caf_rules, ocf_rules, ocp_rules, has_selections, is_narrow, is_measured_deduced, has_curve_of};
-ghost use Rattle.mib_model.specs.Structures.{is_deduced};
+ghost use Rattle.mib_model.specs.RowFlaws.{pcf_rules, pid_rules, plf_rules, ocf_rules, ocp_rules, has_selections, is_narrow, is_measured_deduced};
+ghost use Rattle.mib_model.specs.CurveFlaws.{cur_rules, caf_rules, has_curve_of};
 ghost use Rattle.mib_keys.specs.Firsts.{flaw_by};
 
 use crate::flaw::At;
@@ -14,20 +15,6 @@ use crate::types::encoding;
 use mib_model::{
     CafRow, CurRow, Kind, MibCode, MibFault, Name, OcfRow, OcpRow, PcfRow, PidRow, PlfRow,
 };
-
-/// Nature `R`.
-pub fn is_measured(row: &PcfRow) -> bool
-    ensures { result ≡ is_measured row.now }
-{
-    row.natur == b'R'
-}
-
-/// PTC 11.
-pub fn is_deduced(row: &PcfRow) -> bool
-    ensures { result ≡ is_deduced row.now }
-{
-    row.ptc == 11
-}
 
 // A curve of a category.
 fn has_curve(lookups: &Lookups<'_>, categ: u8, name: Name) -> bool
@@ -92,21 +79,21 @@ pub fn pcf_flaw(lookups: &Lookups<'_>, number: u32, row: &PcfRow) -> Option<MibF
         table: Kind::Pcf,
         number,
     };
-    let valid = !is_measured(row) || has_given_parameter(lookups, row.valid);
-    let curve = !is_measured(row) || has_given_curve(lookups, row.categ, row.curtx);
-    let bad_type = is_measured(row) && has_unknown_type(row);
-    let narrow = is_measured(row) && !is_deduced(row) && is_narrow(row);
-    let both = is_measured(row) && row.curtx.is_some() && has_selections(lookups, row.name);
+    let valid = !row.is_measured() || has_given_parameter(lookups, row.valid);
+    let curve = !row.is_measured() || has_given_curve(lookups, row.categ, row.curtx);
+    let bad_type = row.is_measured() && has_unknown_type(row);
+    let narrow = row.is_measured() && !row.is_deduced() && is_narrow(row);
+    let both = row.is_measured() && row.curtx.is_some() && has_selections(lookups, row.name);
     at.missing(&[(8, valid), (12, curve)])
         .or(at.flaw_if(MibCode::BadType, bad_type))
         .or(at.flaw_if(MibCode::Width, narrow))
         .or(at.flaw_if(MibCode::Both, both))
 }
 
-fn has_given_structure(lookups: &Lookups<'_>, tpsd: i32) -> bool
-    ensures { result ≡ (int_lt tpsd (pos 1) || has_structure lookups.now tpsd) }
+fn has_given_structure(lookups: &Lookups<'_>, row: &PidRow) -> bool
+    ensures { result ≡ (has_layout row.now || has_structure lookups.now row.now.tpsd) }
 {
-    tpsd < 1 || lookups.structure_rows(tpsd.unsigned_abs()) != 0
+    row.has_layout() || lookups.structure_rows(row.tpsd.unsigned_abs()) != 0
 }
 
 /// PID: the structure of a packet.
@@ -117,14 +104,14 @@ pub fn pid_flaw(lookups: &Lookups<'_>, number: u32, row: &PidRow) -> Option<MibF
         table: Kind::Pid,
         number,
     };
-    at.missing(&[(9, has_given_structure(lookups, row.tpsd))])
+    at.missing(&[(9, has_given_structure(lookups, row))])
 }
 
 fn is_measured_deduced(row: Option<&PcfRow>) -> bool
     ensures { result ≡ is_measured_deduced (option_copied row.entry) }
 {
     match row {
-        Some(row) => is_measured(row) && is_deduced(row),
+        Some(row) => row.is_measured() && row.is_deduced(),
         None => false,
     }
 }

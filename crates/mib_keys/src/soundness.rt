@@ -8,6 +8,7 @@ ghost use Rattle.mib_model.specs.Soundness.{first_flaw, flaws_of};
 ghost use Rattle.mib_keys.specs.Alike.{AreKeyPlaces, key_eq};
 ghost use Rattle.mib_keys.specs.Answers.{Gives};
 ghost use Rattle.mib_keys.specs.Firsts.{flaw_in, first_in};
+ghost use Rattle.mib_model.specs.declared.limits.TheConstants.{HELD_MOST};
 
 use crate::fault::SoundFault;
 use crate::index::key_places;
@@ -48,7 +49,7 @@ fn rows_flaw<R: Rules>(
     rows: &[R],
 ) -> Option<MibFault>
     requires noted { R.noted (get key_eq places.now) lookups.now }
-    requires few { length rows.now ≤ 1000000000 }
+    requires few { length rows.now ≤ HELD_MOST }
     ensures { result ≡ first_in (flaw_in R.kind R.alike (R.rest lookups.now) (R.listed lookups.now)) 1 rows.now }
 {
     for (place, row) in rows.iter().enumerate() {
@@ -67,7 +68,7 @@ fn table_flaw<R: Rules>(
 ) -> Option<MibFault>
     requires noted { R.noted (get key_eq places.now) lookups.now }
     requires own { rows.now ≡ R.listed lookups.now }
-    requires few { length rows.now ≤ 1000000000 }
+    requires few { length rows.now ≤ HELD_MOST }
     ensures { result ≡ first_of (table_flaws R.kind (twice_by R.alike ∷ R.rest lookups.now) (R.listed lookups.now)) }
 {
     rows_flaw(lookups, places, rows)
@@ -81,7 +82,7 @@ fn keyed_flaw<R: Rules>(
 ) -> Result<Option<MibFault>, AllocError>
     requires noted { (noted : Key → Option ℕ) → AreKeyPlaces R.as_row noted rows.now → R.noted noted lookups.now }
     requires own { rows.now ≡ R.listed lookups.now }
-    requires few { length rows.now ≤ 1000000000 }
+    requires few { length rows.now ≤ HELD_MOST }
     ensures { IfOk result (λ flaw. flaw ≡ first_of (table_flaws R.kind (twice_by R.alike ∷ R.rest lookups.now) (R.listed lookups.now))) }
 {
     let places = key_places(alloc, rows)?;
@@ -142,9 +143,8 @@ fn first_flaw(alloc: Global, book: &Book) -> Result<Option<MibFault>, AllocError
 pub fn sound(alloc: Global, book: &Book) -> Result<(), SoundFault>
     ensures { Gives result book.now }
 {
-    match first_flaw(alloc, book) {
-        Ok(None) => Ok(()),
-        Ok(Some(fault)) => Err(SoundFault::Mib(fault)),
-        Err(_) => Err(SoundFault::Memory),
+    match first_flaw(alloc, book)? {
+        None => Ok(()),
+        Some(fault) => Err(SoundFault::Mib(fault)),
     }
 }

@@ -1,5 +1,6 @@
 -- Counts of 10^-12: of decimals and of raw numbers, and their texts. [This profile.]
 use Rattle.std.specs.Prelude.{ℕ, zero, suc, ◌+◌, ◌-◌, ◌*◌, ◌/◌, ◌%◌, ◌^◌, min, ℤ, pos, negsuc, ◌+ℤ◌, ◌*ℤ◌, nat_abs, int_lt, List, ◌++◌, codes, decimal, nat_le, if◌then◌else◌}
+use Rattle.mib_model.specs.declared.limits.TheConstants.{STEP_BOUND}
 use Rattle.mib_model.specs.declared.number.Dec.{Dec}
 use Rattle.mib_model.specs.Decimals.{with_sign}
 use Rattle.mib_model.specs.Digits.{decimal_of_width}
@@ -10,7 +11,7 @@ half a b = with_sign (int_lt a (pos 0)) ((2 * nat_abs a + b) / (2 * b))
 
 -- a count is held to a magnitude of 10^37
 abbrev pub held : ℤ → ℤ
-held count = if nat_le (10 ^ 37) (nat_abs count) then with_sign (int_lt count (pos 0)) (10 ^ 37) else count
+held count = if nat_le STEP_BOUND (nat_abs count) then with_sign (int_lt count (pos 0)) STEP_BOUND else count
 
 -- m times 10^e, rounded where e is below 0
 abbrev pub times_power : ℤ → ℤ → ℤ

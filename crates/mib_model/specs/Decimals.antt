@@ -1,5 +1,5 @@
 -- Scaled decimals, and the texts that are one. [This profile.]
-use Rattle.std.specs.Prelude.{ℕ, ◌-◌, ℤ, pos, negsuc, ◌+ℤ◌, ◌-ℤ◌, neg_ℤ, int_lt, Bool, List, [], ◌∷◌, ◌++◌, length, take, drop, decimal, nat_le, nat_lt, ◌==◌, ◌&&◌, ◌||◌, not, if◌then◌else◌, Result, Ok, Err}
+use Rattle.std.specs.Prelude.{ℕ, ◌-◌, ℤ, pos, negsuc, ◌+ℤ◌, ◌-ℤ◌, neg_ℤ, int_lt, Bool, List, [], ◌∷◌, ◌++◌, length, take, drop, nat_le, nat_lt, ◌==◌, ◌&&◌, ◌||◌, not, if◌then◌else◌, Result, Ok, Err}
 use Rattle.std.specs.List.{list_any, list_all, before_first, after_first, prefix_len, suffix_len}
 use Rattle.std.specs.Char.{is_ascii_digit}
 use Rattle.mib_model.specs.declared.number.Dec.{Dec}

@@ -8,7 +8,7 @@ use Rattle.mib_model.specs.declared.kind.Kind.TheVariants as kind
 use Rattle.mib_model.specs.declared.rows.Row.{Row}
 use Rattle.mib_model.specs.declared.rows.Row.TheVariants as row
 use Rattle.mib_model.specs.Database.{Database}
-use Rattle.mib_model.specs.DatabaseTexts.{as_pcf, as_pid, as_pic, as_tpcf, as_plf, as_vpd, as_cur, as_caf, as_cap, as_txf, as_txp, as_mcf, as_lgf, as_ocf, as_ocp}
+use Rattle.mib_model.specs.TypedRows.{as_pcf, as_pid, as_pic, as_tpcf, as_plf, as_vpd, as_cur, as_caf, as_cap, as_txf, as_txp, as_mcf, as_lgf, as_ocf, as_ocp}
 use Rattle.mib_model.specs.Keys.{has_key, key_in}
 use Rattle.mib_model.specs.Kinds.{kind_name}
 

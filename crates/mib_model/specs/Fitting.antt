@@ -1,5 +1,5 @@
 -- Which values the columns of a table may have. [This profile.]
-use Rattle.std.specs.Prelude.{◌≡◌, ◌≢◌, ℕ, ◌≤◌, ◌<◌, ◌^◌, ◌≤ℤ◌, nat_abs, true, false, List, [], ◌∷◌, Option, Some, None, Ok, ◌==◌, not}
+use Rattle.std.specs.Prelude.{◌≡◌, ◌≢◌, ℕ, ◌≤◌, ◌<◌, ◌^◌, ◌≤ℤ◌, nat_abs, true, false, List, [], ◌∷◌, Some, None, Ok, ◌==◌, not}
 use Rattle.std.specs.Char.{is_ascii_uppercase}
 use Rattle.std.specs.List.{list_all, list_any}
 use Rattle.mib_model.specs.declared.number.Dec.{Dec}
@@ -7,10 +7,13 @@ use Rattle.mib_model.specs.declared.rows.Bound.{Bound}
 use Rattle.mib_model.specs.declared.rows.Bound.TheVariants as bound
 use Rattle.mib_model.specs.declared.rows.Row.{Row}
 use Rattle.mib_model.specs.declared.rows.Row.TheVariants as row
-use Rattle.mib_model.specs.Columns.{Form, Named, Natural, Integer, Letter, Capital, Decimal, AnyText, Bounding, Content, Column, Must, Optional, Filled, Value, Values}
-use Rattle.mib_model.specs.PacketTables.{pid, pid_values, pic, pic_values, tpcf, tpcf_values, plf, plf_values, vpd, vpd_values}
-use Rattle.mib_model.specs.CurveTables.{cur, cur_values, caf, caf_values, cap, cap_values, txf, txf_values, txp, txp_values, mcf, mcf_values, lgf, lgf_values}
-use Rattle.mib_model.specs.ParameterTables.{pcf, pcf_values, ocf, ocf_values, ocp, ocp_values}
+use Rattle.mib_model.specs.Forms.{Form, Named, Natural, Integer, Letter, Capital, Decimal, AnyText, Bounding, Content}
+use Rattle.mib_model.specs.Columns.{Column, Must, Optional, Filled, Cell, Cells}
+use Rattle.mib_model.specs.PacketTables.{pid, pid_cells, pic, pic_cells, tpcf, tpcf_cells}
+use Rattle.mib_model.specs.LayoutTables.{plf, plf_cells, vpd, vpd_cells}
+use Rattle.mib_model.specs.TextTables.{cur, cur_cells, txf, txf_cells, txp, txp_cells}
+use Rattle.mib_model.specs.CurveTables.{caf, caf_cells, cap, cap_cells, mcf, mcf_cells, lgf, lgf_cells}
+use Rattle.mib_model.specs.ParameterTables.{pcf, pcf_cells, ocf, ocf_cells, ocp, ocp_cells}
 use Rattle.mib_model.specs.Decimals.{dec_of}
 use Rattle.mib_model.specs.Lines.{is_tab}
 use Rattle.mib_model.specs.Names.{is_name, is_text}
@@ -53,31 +56,31 @@ FitsForm (Bounding true) b = FitsState b
 FitsForm (Bounding false) b = FitsBound b
 
 -- what a row may have in a column: what is written as nothing is what an empty field is
-abbrev pub FitsValue : (column : Column) → Value column → Type 0
-FitsValue (Must number form) content = FitsForm form content
-FitsValue (Optional number form) None = Unit {0}
-FitsValue (Optional number form) (Some content) = FitsForm form content × (content_text form content ≢ [])
-FitsValue (Filled number form empty) content = FitsForm form content × (content_text form content ≡ [] → content ≡ empty)
+abbrev pub FitsCell : (column : Column) → Cell column → Type 0
+FitsCell (Must number form) content = FitsForm form content
+FitsCell (Optional number form) None = Unit {0}
+FitsCell (Optional number form) (Some content) = FitsForm form content × (content_text form content ≢ [])
+FitsCell (Filled number form empty) content = FitsForm form content × (content_text form content ≡ [] → content ≡ empty)
 
 -- what a row may have in all its columns
-abbrev pub FitsValues : (columns : List Column) → Values columns → Type 0
-FitsValues [] values = Unit {0}
-FitsValues (column ∷ columns) values = FitsValue column values.0 × FitsValues columns values.1
+abbrev pub FitsCells : (columns : List Column) → Cells columns → Type 0
+FitsCells [] values = Unit {0}
+FitsCells (column ∷ columns) values = FitsCell column values.0 × FitsCells columns values.1
 
 -- a row that a line can be
 unfoldable pub FitsRow : Row → Type 0
-FitsRow (row.Pcf r) = FitsValues pcf (pcf_values r)
-FitsRow (row.Pid r) = FitsValues pid (pid_values r)
-FitsRow (row.Pic r) = FitsValues pic (pic_values r)
-FitsRow (row.Tpcf r) = FitsValues tpcf (tpcf_values r)
-FitsRow (row.Plf r) = FitsValues plf (plf_values r)
-FitsRow (row.Vpd r) = FitsValues vpd (vpd_values r)
-FitsRow (row.Cur r) = FitsValues cur (cur_values r)
-FitsRow (row.Caf r) = FitsValues caf (caf_values r)
-FitsRow (row.Cap r) = FitsValues cap (cap_values r)
-FitsRow (row.Txf r) = FitsValues txf (txf_values r)
-FitsRow (row.Txp r) = FitsValues txp (txp_values r)
-FitsRow (row.Mcf r) = FitsValues mcf (mcf_values r)
-FitsRow (row.Lgf r) = FitsValues lgf (lgf_values r)
-FitsRow (row.Ocf r) = FitsValues ocf (ocf_values r)
-FitsRow (row.Ocp r) = FitsValues (ocp (is_of_states r.sort)) (ocp_values (is_of_states r.sort) r)
+FitsRow (row.Pcf r) = FitsCells pcf (pcf_cells r)
+FitsRow (row.Pid r) = FitsCells pid (pid_cells r)
+FitsRow (row.Pic r) = FitsCells pic (pic_cells r)
+FitsRow (row.Tpcf r) = FitsCells tpcf (tpcf_cells r)
+FitsRow (row.Plf r) = FitsCells plf (plf_cells r)
+FitsRow (row.Vpd r) = FitsCells vpd (vpd_cells r)
+FitsRow (row.Cur r) = FitsCells cur (cur_cells r)
+FitsRow (row.Caf r) = FitsCells caf (caf_cells r)
+FitsRow (row.Cap r) = FitsCells cap (cap_cells r)
+FitsRow (row.Txf r) = FitsCells txf (txf_cells r)
+FitsRow (row.Txp r) = FitsCells txp (txp_cells r)
+FitsRow (row.Mcf r) = FitsCells mcf (mcf_cells r)
+FitsRow (row.Lgf r) = FitsCells lgf (lgf_cells r)
+FitsRow (row.Ocf r) = FitsCells ocf (ocf_cells r)
+FitsRow (row.Ocp r) = FitsCells (ocp (is_of_states r.sort)) (ocp_cells (is_of_states r.sort) r)

@@ -1,7 +1,8 @@
 -- The values of a packet of fixed layout. [SCOS-2000 Database Import ICD, plf; the order, the occurrences and the ends are this profile's.]
-use Rattle.std.specs.Prelude.{ℕ, ◌+◌, ◌*◌, Bool, List, [], ◌∷◌, map, length, take, drop, filter, ◌==◌, if◌then◌else◌, Option, Some, None}
+use Rattle.std.specs.Prelude.{ℕ, pos, int_lt, ◌+◌, ◌*◌, Bool, List, [], ◌∷◌, map, length, take, drop, filter, ◌==◌, if◌then◌else◌, Option, Some, None}
 use Rattle.std.specs.List.{flat_map, range_with_len, take_while}
 use Rattle.mib_model.specs.declared.rows.PlfRow.{PlfRow}
+use Rattle.mib_model.specs.declared.rows.PidRow.{PidRow}
 use Rattle.mib_model.specs.declared.packet.Ended.{Ended}
 use Rattle.mib_model.specs.declared.packet.Ended.TheVariants.{Whole, Short, Many}
 use Rattle.mib_model.specs.declared.packet.Value.{Value}
@@ -9,10 +10,15 @@ use Rattle.mib_model.specs.Bits.{raw_number, is_inside}
 use Rattle.mib_model.specs.Database.{Database}
 use Rattle.mib_model.specs.Encodings.{Encoding}
 use Rattle.mib_model.specs.Parameters.{parameter, measured_encoding}
+use Rattle.mib_model.specs.declared.limits.TheConstants.{MOST_VALUES}
 
 -- the most values of a packet
 abbrev pub most_values : ℕ
-most_values = 8192
+most_values = MOST_VALUES
+
+-- a packet has a fixed layout where it names no structure: TPSD below 1
+abbrev pub has_layout : PidRow → Bool
+has_layout row = int_lt row.tpsd (pos 1)
 
 -- where a value of a parameter stands: its first bit, and what its bits are
 pub record Place : Type 0 where

@@ -1,7 +1,7 @@
 -- What a packet is by the tables. [CCSDS 133.0-B, packet version number, packet type and idle packets; the service type and
 -- subtype of ECSS-E-70-41A, telemetry packet data field header; the discriminants of the SCOS-2000 Database Import ICD,
 -- pic and pid, in this profile.]
-use Rattle.std.specs.Prelude.{ℕ, ◌*◌, ℤ, pos, negsuc, Bool, true, false, List, length, slice_index, nat_le, nat_lt, nat_eq, ◌==◌, ◌&&◌, not, if◌then◌else◌, Option, Some, None}
+use Rattle.std.specs.Prelude.{ℕ, ◌*◌, ℤ, pos, negsuc, Bool, true, false, List, length, slice_index, nat_lt, nat_eq, ◌==◌, ◌&&◌, not, if◌then◌else◌, Option, Some, None}
 use Rattle.std.specs.List.{find}
 use Rattle.std.specs.Option.{option_eq, option_or}
 use Rattle.mib_model.specs.declared.rows.PicRow.{PicRow}

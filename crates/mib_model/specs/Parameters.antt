@@ -12,9 +12,13 @@ use Rattle.mib_model.specs.Encodings.{Encoding, encoding_of}
 abbrev pub parameter : List PcfRow → List ℕ → Option PcfRow
 parameter pcfs name = find (λ row. bytes_eq row.name name) pcfs
 
--- a parameter that is measured: nature `R`
+-- the nature of a measured parameter: `R`
+abbrev pub is_measured_nature : ℕ → Bool
+is_measured_nature natur = natur == letter "R"
+
+-- a parameter that is measured
 abbrev pub is_measured : PcfRow → Bool
-is_measured row = row.natur == letter "R"
+is_measured row = is_measured_nature row.natur
 
 -- the octet order that a letter asks for: `L` is Little
 abbrev pub endian_of : ℕ → Endian

@@ -1,5 +1,5 @@
 -- The plans of a database: what each compiled part depends on. [This profile.]
-use Rattle.std.specs.Prelude.{ℕ, pos, Bool, List, [], ◌∷◌, ◌++◌, map, filter, filter_map, Option, Some, None, option_and_then, int_lt, ◌==◌, ◌&&◌, not, if◌then◌else◌}
+use Rattle.std.specs.Prelude.{ℕ, pos, Bool, List, [], ◌∷◌, ◌++◌, map, filter, filter_map, Option, Some, None, option_and_then, ◌==◌, ◌&&◌, not, if◌then◌else◌}
 use Rattle.std.specs.List.{list_any}
 use Rattle.std.specs.Cmp.Lexicographic.{slice_cmp}
 use Rattle.std.specs.Ordering.{nat_cmp, is_le}
@@ -16,6 +16,7 @@ use Rattle.mib_model.specs.Carry.{check_of}
 use Rattle.mib_model.specs.Checks.{checks_of}
 use Rattle.mib_model.specs.Curves.{curve_named, selections}
 use Rattle.mib_model.specs.Database.{Database}
+use Rattle.mib_model.specs.Fixed.{has_layout}
 use Rattle.mib_model.specs.Orders.{sorted_by, sorted_by_number}
 use Rattle.mib_model.specs.Parameters.{parameter, is_measured, endian_of}
 use Rattle.mib_model.specs.Structures.{structure, is_deduced}
@@ -57,10 +58,6 @@ unfoldable pub param_plans : Database → List Plan
 param_plans db = map (param_plan db) (sorted_by (λ x y. may_precede x.name y.name) (filter has_plan db.pcf))
 
 -- ---- plans of fixed layouts
-
--- a packet has a layout where it names no structure
-abbrev pub has_layout : PidRow → Bool
-has_layout row = int_lt row.tpsd (pos 1)
 
 -- the rows of places of a packet
 abbrev pub layout_rows : Database → ℕ → List PlfRow

@@ -11,6 +11,7 @@ use Rattle.mib_model.specs.declared.rows.Row.{Row}
 use Rattle.mib_model.specs.Attempts.{◌>>=◌}
 use Rattle.mib_model.specs.Lines.{lines, fields}
 use Rattle.mib_model.specs.RowTexts.{row_of, key_of}
+use Rattle.mib_model.specs.declared.limits.TheConstants.{ROW_MOST, ROWS_MOST, TABLE_MOST}
 
 -- a fault of a table and a row
 abbrev pub fault_at : Kind → ℕ → LineFault → MibFault
@@ -25,12 +26,16 @@ in_row table number (Err fault) = Err (fault_at table number fault)
 abbrev pub whole_fault : {Made : Type 0} → Kind → ℕ → MibCode → Result Made MibFault
 whole_fault table number code = Err (fault_at table number (record { column = 0; code = code }))
 
+-- what is made of a line's fields, where the line is the table's row of this number
+abbrev pub line_at : {Made : Type 0} → (List (List ℕ) → Result Made LineFault) → Kind → ℕ → List ℕ → Result Made MibFault
+line_at read table number line =
+    if nat_lt ROW_MOST (length line) then whole_fault table number LineLong
+    else if nat_lt ROWS_MOST number then whole_fault table number Rows
+    else in_row table number (read (fields line))
+
 -- the row that a line is, which is the table's row of this number
 unfoldable pub row_at : Kind → ℕ → List ℕ → Result Row MibFault
-row_at table number line =
-    if nat_lt 4096 (length line) then whole_fault table number LineLong
-    else if nat_lt 100000 number then whole_fault table number Rows
-    else in_row table number (row_of table (fields line))
+row_at table number line = line_at (row_of table) table number line
 
 -- what is read of lines one by one, the first of which has this number, or the first fault
 unfoldable pub rows_from : {Made : Type 0} → (ℕ → List ℕ → Result Made MibFault) → ℕ → List (List ℕ) → Result (List Made) MibFault
@@ -47,7 +52,7 @@ is_marked text = starts_with nat_eq text (0xEF ∷ 0xBB ∷ 0xBF ∷ [])
 -- the rows of a table's text, or the first fault
 unfoldable pub table_of : Kind → List ℕ → Result (List Row) MibFault
 table_of table text =
-    if nat_lt 67108864 (length text) then whole_fault table 0 Big
+    if nat_lt TABLE_MOST (length text) then whole_fault table 0 Big
     else if is_marked text then whole_fault table 0 Mark
     else rows_from (row_at table) 1 (lines text)
 

@@ -8,10 +8,12 @@ use Rattle.mib_model.specs.declared.line_fault.LineFault.{LineFault}
 use Rattle.mib_model.specs.declared.rows.Row.{Row}
 use Rattle.mib_model.specs.declared.rows.Row.TheVariants as row
 use Rattle.mib_model.specs.Attempts.{made_into}
-use Rattle.mib_model.specs.Columns.{made_by, key_made_by}
-use Rattle.mib_model.specs.PacketTables.{pid, pid_row, pid_values, pid_key, pic, pic_row, pic_values, pic_key, tpcf, tpcf_row, tpcf_values, tpcf_key, plf, plf_row, plf_values, plf_key, vpd, vpd_row, vpd_values, vpd_key}
-use Rattle.mib_model.specs.CurveTables.{cur, cur_row, cur_values, cur_key, caf, caf_row, caf_values, caf_key, cap, cap_row, cap_values, cap_key, txf, txf_row, txf_values, txf_key, txp, txp_row, txp_values, txp_key, mcf, mcf_row, mcf_values, mcf_key, lgf, lgf_row, lgf_values, lgf_key}
-use Rattle.mib_model.specs.ParameterTables.{pcf, pcf_row, pcf_values, pcf_key, ocf, ocf_row, ocf_values, ocf_key, ocp, ocp_row, ocp_values, ocp_key}
+use Rattle.mib_model.specs.ColumnRows.{made_by, key_made_by}
+use Rattle.mib_model.specs.PacketTables.{pid, pid_row, pid_cells, pid_key, pic, pic_row, pic_cells, pic_key, tpcf, tpcf_row, tpcf_cells, tpcf_key}
+use Rattle.mib_model.specs.LayoutTables.{plf, plf_row, plf_cells, plf_key, vpd, vpd_row, vpd_cells, vpd_key}
+use Rattle.mib_model.specs.TextTables.{cur, cur_row, cur_cells, cur_key, txf, txf_row, txf_cells, txf_key, txp, txp_row, txp_cells, txp_key}
+use Rattle.mib_model.specs.CurveTables.{caf, caf_row, caf_cells, caf_key, cap, cap_row, cap_cells, cap_key, mcf, mcf_row, mcf_cells, mcf_key, lgf, lgf_row, lgf_cells, lgf_key}
+use Rattle.mib_model.specs.ParameterTables.{pcf, pcf_row, pcf_cells, pcf_key, ocf, ocf_row, ocf_cells, ocf_key, ocp, ocp_row, ocp_cells, ocp_key}
 use Rattle.mib_model.specs.Lines.{field_at, trimmed}
 use Rattle.mib_model.specs.Writing.{line_by}
 
@@ -66,21 +68,21 @@ key_of kind.Ocp fields = key_made_by ocp_key (λ (name, (place, end)). key.Ocp n
 
 -- the line of a row
 unfoldable pub line_of : Row → List ℕ
-line_of (row.Pcf r) = line_by pcf (pcf_values r)
-line_of (row.Pid r) = line_by pid (pid_values r)
-line_of (row.Pic r) = line_by pic (pic_values r)
-line_of (row.Tpcf r) = line_by tpcf (tpcf_values r)
-line_of (row.Plf r) = line_by plf (plf_values r)
-line_of (row.Vpd r) = line_by vpd (vpd_values r)
-line_of (row.Cur r) = line_by cur (cur_values r)
-line_of (row.Caf r) = line_by caf (caf_values r)
-line_of (row.Cap r) = line_by cap (cap_values r)
-line_of (row.Txf r) = line_by txf (txf_values r)
-line_of (row.Txp r) = line_by txp (txp_values r)
-line_of (row.Mcf r) = line_by mcf (mcf_values r)
-line_of (row.Lgf r) = line_by lgf (lgf_values r)
-line_of (row.Ocf r) = line_by ocf (ocf_values r)
-line_of (row.Ocp r) = line_by (ocp (is_of_states r.sort)) (ocp_values (is_of_states r.sort) r)
+line_of (row.Pcf r) = line_by pcf (pcf_cells r)
+line_of (row.Pid r) = line_by pid (pid_cells r)
+line_of (row.Pic r) = line_by pic (pic_cells r)
+line_of (row.Tpcf r) = line_by tpcf (tpcf_cells r)
+line_of (row.Plf r) = line_by plf (plf_cells r)
+line_of (row.Vpd r) = line_by vpd (vpd_cells r)
+line_of (row.Cur r) = line_by cur (cur_cells r)
+line_of (row.Caf r) = line_by caf (caf_cells r)
+line_of (row.Cap r) = line_by cap (cap_cells r)
+line_of (row.Txf r) = line_by txf (txf_cells r)
+line_of (row.Txp r) = line_by txp (txp_cells r)
+line_of (row.Mcf r) = line_by mcf (mcf_cells r)
+line_of (row.Lgf r) = line_by lgf (lgf_cells r)
+line_of (row.Ocf r) = line_by ocf (ocf_cells r)
+line_of (row.Ocp r) = line_by (ocp (is_of_states r.sort)) (ocp_cells (is_of_states r.sort) r)
 
 -- the table of a row
 abbrev pub kind_in : Row → Kind

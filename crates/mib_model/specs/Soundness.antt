@@ -10,7 +10,8 @@ use Rattle.mib_model.specs.Flaws.{table_flaws, twice}
 use Rattle.mib_model.specs.GroupFlaws.{vpd_rules}
 use Rattle.mib_model.specs.Kinds.{kinds}
 use Rattle.mib_model.specs.Points.{first_of}
-use Rattle.mib_model.specs.RowFlaws.{pcf_rules, pid_rules, plf_rules, cur_rules, caf_rules, cap_rules, txp_rules, ocf_rules, ocp_rules}
+use Rattle.mib_model.specs.RowFlaws.{pcf_rules, pid_rules, plf_rules, ocf_rules, ocp_rules}
+use Rattle.mib_model.specs.CurveFlaws.{cur_rules, caf_rules, cap_rules, txp_rules}
 
 -- the flaws of a table, by row and code
 abbrev pub flaws_of : Database → Kind → List MibFault

@@ -1,5 +1,5 @@
 -- Rows that ask for what decoding doesn't do yet: they are refused, so that nothing is printed that isn't whole. [This profile.]
-use Rattle.std.specs.Prelude.{◌+◌, Bool, true, List, Option, option_map, is_some, position, int_lt, pos, ◌&&◌, ◌||◌, not}
+use Rattle.std.specs.Prelude.{◌+◌, Bool, true, List, Option, option_map, is_some, position, ◌&&◌, ◌||◌, not}
 use Rattle.std.specs.Option.{option_or}
 use Rattle.mib_model.specs.declared.fault.MibCode.TheVariants.{Unbuilt}
 use Rattle.mib_model.specs.declared.fault.MibFault.{MibFault}
@@ -9,6 +9,7 @@ use Rattle.mib_model.specs.declared.rows.PcfRow.{PcfRow}
 use Rattle.mib_model.specs.declared.rows.PidRow.{PidRow}
 use Rattle.mib_model.specs.Database.{Database}
 use Rattle.mib_model.specs.Parameters.{is_measured}
+use Rattle.mib_model.specs.Fixed.{has_layout}
 
 -- a measured parameter with a curve or a condition
 abbrev pub is_unbuilt_pcf : PcfRow → Bool
@@ -16,7 +17,7 @@ is_unbuilt_pcf row = is_measured row && (is_some row.curtx || is_some row.valid)
 
 -- whether a packet is of variable structure
 abbrev pub is_unbuilt_pid : PidRow → Bool
-is_unbuilt_pid row = not (int_lt row.tpsd (pos 1))
+is_unbuilt_pid row = not (has_layout row)
 
 -- the fault of the first row of a table that isn't built
 abbrev pub unbuilt_in : {R : Type 0} → Kind → (R → Bool) → List R → Option MibFault

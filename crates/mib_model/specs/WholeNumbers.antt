@@ -7,14 +7,15 @@ use Rattle.mib_model.specs.declared.number.DecFault.{DecFault}
 use Rattle.mib_model.specs.Decimals.{dec_of}
 use Rattle.mib_model.specs.Letters.{letter}
 use Rattle.mib_model.specs.Lines.{trimmed}
+use Rattle.mib_model.specs.declared.limits.TheConstants.{RAW_LEAST, RAW_MOST}
 
 -- the least raw number: -2^63
 abbrev pub least_raw : ℤ
-least_raw = negsuc (2 ^ 63 - 1)
+least_raw = RAW_LEAST
 
 -- the greatest raw number: 2^64 - 1
 abbrev pub greatest_raw : ℤ
-greatest_raw = pos (2 ^ 64 - 1)
+greatest_raw = RAW_MOST
 
 -- a number, where it is a raw number
 abbrev pub if_raw : ℤ → Option ℤ

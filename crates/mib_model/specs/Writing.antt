@@ -4,7 +4,8 @@ use Rattle.std.specs.Fmt.{signed_decimal}
 use Rattle.mib_model.specs.declared.number.Dec.{Dec}
 use Rattle.mib_model.specs.declared.rows.Bound.{Bound}
 use Rattle.mib_model.specs.declared.rows.Bound.TheVariants as bound
-use Rattle.mib_model.specs.Columns.{Form, Named, Natural, Integer, Letter, Capital, Decimal, AnyText, Bounding, Content, Column, Must, Optional, Filled, number_in, Value, Values}
+use Rattle.mib_model.specs.Forms.{Form, Named, Natural, Integer, Letter, Capital, Decimal, AnyText, Bounding, Content}
+use Rattle.mib_model.specs.Columns.{Column, Must, Optional, Filled, number_in, Cell, Cells}
 
 -- the text of a decimal: its digits, E and its exponent
 unfoldable pub decimal_text : Dec → List ℕ
@@ -33,17 +34,17 @@ option_text form None = []
 option_text form (Some content) = content_text form content
 
 -- the text of what a row has in a column
-abbrev pub value_text : (column : Column) → Value column → List ℕ
-value_text (Must number form) value = content_text form value
-value_text (Optional number form) value = option_text form value
-value_text (Filled number form empty) value = content_text form value
+abbrev pub cell_text : (column : Column) → Cell column → List ℕ
+cell_text (Must number form) value = content_text form value
+cell_text (Optional number form) value = option_text form value
+cell_text (Filled number form empty) value = content_text form value
 
 -- a line that stands in a column, and the values of further columns behind it, each behind the tabs up to its column
-abbrev pub line_onto : List ℕ → ℕ → (columns : List Column) → Values columns → List ℕ
+abbrev pub line_onto : List ℕ → ℕ → (columns : List Column) → Cells columns → List ℕ
 line_onto line at [] values = line
 line_onto line at (column ∷ columns) values =
-    line_onto (line ++ replicate (number_in column - at) 9 ++ value_text column values.0) (number_in column) columns values.1
+    line_onto (line ++ replicate (number_in column - at) 9 ++ cell_text column values.0) (number_in column) columns values.1
 
 -- the line of the values of these columns
-abbrev pub line_by : (columns : List Column) → Values columns → List ℕ
+abbrev pub line_by : (columns : List Column) → Cells columns → List ℕ
 line_by columns values = line_onto [] 1 columns values

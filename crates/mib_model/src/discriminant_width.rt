@@ -1,6 +1,7 @@
 ghost use Rattle.std.specs.Prelude.{◌≡◌, ◌≤◌, nat_eq};
 ghost use Rattle.std.specs.Cmp.{partial_equiv_from_equiv};
 ghost use Rattle.std.proofs.lemmas.Cmp.{nat_eq_equiv};
+ghost use Rattle.mib_model.specs.declared.limits.TheConstants.{DISCRIMINANT_BITS};
 
 use std::marker::Model;
 
@@ -12,12 +13,13 @@ pub struct DiscriminantWidth {
 
 impl Model for DiscriminantWidth {
     ghost use Rattle.std.specs.Prelude.{ℕ, ◌≤◌};
+    ghost use Rattle.mib_model.specs.declared.limits.TheConstants.{DISCRIMINANT_BITS};
 
     ghost Value = { ℕ };
 
     ghost view = { λ width. width.bits };
 
-    ghost invariant = { λ width. width.bits ≤ 64 };
+    ghost invariant = { λ width. width.bits ≤ DISCRIMINANT_BITS };
 
     ghost inverse = { λ bits. record { bits = bits } };
 }
@@ -25,7 +27,7 @@ impl Model for DiscriminantWidth {
 impl DiscriminantWidth {
     /// A width of so many bits.
     pub fn new(bits: u8) -> DiscriminantWidth
-        requires { bits ≤ 64 }
+        requires { bits ≤ DISCRIMINANT_BITS }
         ensures { result ≡ bits }
     {
         DiscriminantWidth { bits }
@@ -34,7 +36,7 @@ impl DiscriminantWidth {
     /// Its number of bits.
     pub fn bits(self) -> u8
         ensures value { result ≡ self }
-        ensures most { result ≤ 64 }
+        ensures most { result ≤ DISCRIMINANT_BITS }
     {
         self.bits
     }

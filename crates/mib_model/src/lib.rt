@@ -14,10 +14,12 @@ mod discriminant_width;
 mod fault;
 mod key;
 mod kind;
+mod limits;
 mod line;
 mod line_fault;
 mod meaning;
 mod name;
+mod nature;
 mod number;
 mod octets;
 mod packet;
@@ -38,6 +40,11 @@ pub use discriminant_width::DiscriminantWidth;
 pub use fault::{MibCode, MibFault};
 pub use key::Key;
 pub use kind::{KINDS, Kind};
+pub use limits::{
+    BIT_LAST, DISCRIMINANT_BITS, DISCRIMINANT_MOST, HELD_MOST, ID_MOST, MOST_VALUES, NAME_SIZE,
+    OCTET_LAST, OCTET_MOST, OFFSET_LEAST, OFFSET_MOST, RAW_LEAST, RAW_MOST, RESULT_BOUND, ROW_MOST,
+    ROWS_MOST, STEP_BOUND, TABLE_MOST, TEXT_SIZE, TPSD_MOST, WIDTH_MOST, WORD_MOST,
+};
 pub use line::Line;
 pub use line_fault::LineFault;
 pub use meaning::{MadeFor, Rows};
@@ -54,4 +61,4 @@ pub use rows::{
 pub use shape::{Endian, Order, Shape, Sort};
 pub use steps::Steps;
 pub use table_row::TableRow;
-pub use tables::Tables;
+pub use tables::{TableRows, Tables};

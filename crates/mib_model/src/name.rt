@@ -7,7 +7,9 @@ ghost use Rattle.std.specs.Str.{bytes_eq};
 ghost use Rattle.std.proofs.Common.{rules};
 ghost use Rattle.mib_model.specs.Hashes.{hashed, hashed_alike};
 ghost use Rattle.mib_model.specs.Names.{is_name, is_visible, name_of, text_of};
+ghost use Rattle.mib_model.specs.declared.limits.TheConstants.{TEXT_SIZE};
 
+use crate::limits::{NAME_SIZE, TEXT_SIZE};
 use crate::octets::Octets;
 use std::cmp::Ordering;
 use std::hash::{Hash, Hasher};
@@ -16,7 +18,7 @@ use std::marker::Model;
 /// A name of the database: 1 to 32 octets, each from 21 to 7E in hexadecimal. Contracts see its octets.
 #[derive(Clone, Copy)]
 pub struct Name {
-    octets: Octets<32>,
+    octets: Octets<NAME_SIZE>,
 }
 
 impl Model for Name {
@@ -45,7 +47,7 @@ impl Name {
     pub fn new(octets: &[u8]) -> Option<Name>
         ensures { result ≡ name_of octets.now }
     {
-        if octets.is_empty() || octets.len() > 32 || !all_visible(octets) {
+        if octets.is_empty() || octets.len() > NAME_SIZE || !all_visible(octets) {
             return None;
         }
         Some(Name {
@@ -114,7 +116,7 @@ impl Ord for Name {
 /// A text of the database: at most 64 octets of any value. Contracts see its octets.
 #[derive(Clone, Copy)]
 pub struct Text {
-    octets: Octets<64>,
+    octets: Octets<TEXT_SIZE>,
 }
 
 impl Model for Text {
@@ -135,7 +137,7 @@ impl Text {
     pub fn new(octets: &[u8]) -> Option<Text>
         ensures { result ≡ text_of octets.now }
     {
-        if octets.len() > 64 {
+        if octets.len() > TEXT_SIZE {
             return None;
         }
         Some(Text {
@@ -146,7 +148,7 @@ impl Text {
     /// Its octets.
     pub fn bytes(&self) -> &[u8]
         ensures bytes { result.now ≡ self.now }
-        ensures fits { length result.now ≤ 64 }
+        ensures fits { length result.now ≤ TEXT_SIZE }
     {
         self.octets.bytes()
     }

@@ -5,7 +5,7 @@ ghost use Rattle.mib_model.specs.declared.kind.Kind.{Kind};
 ghost use Rattle.mib_model.specs.declared.kind.Kind.TheVariants as kind;
 ghost use Rattle.mib_model.specs.declared.rows.Row.{Row};
 ghost use Rattle.mib_model.specs.declared.rows.Row.TheVariants as row;
-ghost use Rattle.mib_model.specs.DatabaseTexts as rows;
+ghost use Rattle.mib_model.specs.TypedRows as rows;
 
 use crate::kind::Kind;
 use crate::rows::{

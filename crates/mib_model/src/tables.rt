@@ -22,3 +22,23 @@ pub struct Tables {
     pub ocf: Vec<OcfRow>,
     pub ocp: Vec<OcpRow>,
 }
+
+/// The rows of one table, in the order of its file. Contracts see them by `kind_held` and `rows_held`.
+#[derive(Drop)]
+pub enum TableRows {
+    Pcf(Vec<PcfRow>),
+    Pid(Vec<PidRow>),
+    Pic(Vec<PicRow>),
+    Tpcf(Vec<TpcfRow>),
+    Plf(Vec<PlfRow>),
+    Vpd(Vec<VpdRow>),
+    Cur(Vec<CurRow>),
+    Caf(Vec<CafRow>),
+    Cap(Vec<CapRow>),
+    Txf(Vec<TxfRow>),
+    Txp(Vec<TxpRow>),
+    Mcf(Vec<McfRow>),
+    Lgf(Vec<LgfRow>),
+    Ocf(Vec<OcfRow>),
+    Ocp(Vec<OcpRow>),
+}

@@ -8,11 +8,12 @@ use Rattle.std.proofs.lemmas.Bool.Decides.{nat_tests}
 use Rattle.std.proofs.lemmas.Int.{ints}
 use Rattle.mib_model.specs.declared.rows.Bound.TheVariants as bound
 use Rattle.mib_model.specs.declared.number.Dec.{Dec}
-use Rattle.mib_model.specs.Columns.{Form, Named, Natural, Integer, Letter, Capital, Decimal, AnyText, Bounding, Content, Column, Must, Optional, Filled, Value, counted, content_of, value_of}
-use Rattle.mib_model.specs.Fitting.{IsDecimal, FitsForm, FitsValue}
+use Rattle.mib_model.specs.Forms.{Form, Named, Natural, Integer, Letter, Capital, Decimal, AnyText, Bounding, Content, counted, content_of}
+use Rattle.mib_model.specs.Columns.{Column, Must, Optional, Filled, Cell, cell_of}
+use Rattle.mib_model.specs.Fitting.{IsDecimal, FitsForm, FitsCell}
 use Rattle.mib_model.specs.Lines.{trimmed}
 use Rattle.mib_model.specs.Names.{is_visible}
-use Rattle.mib_model.specs.Writing.{decimal_text, content_text, value_text}
+use Rattle.mib_model.specs.Writing.{decimal_text, content_text, cell_text}
 use Rattle.mib_rows.proofs.PlainFacts.{IsPlain, IsWhole, whole, and_left, and_right, trimmed-plain, plain-decimal, plain-signed, plain-append}
 use Rattle.mib_rows.proofs.NumberFacts.{number-again}
 
@@ -164,14 +165,14 @@ content-again (Bounding false) number (bound.Number d) form fits read = rw fits.
 content-again (Bounding false) number (bound.Words octets) form fits read = absurd fits
 
 filled-again : (number : ℕ) (form : Form) (empty content : Content form) (text : List ℕ) → counted form text ≡ text → (text ≡ [] → content ≡ empty)
-    → (text ≢ [] → content_of form number text ≡ Ok content) → value_of (Filled number form empty) text ≡ Ok content
-unfolding value_of
+    → (text ≢ [] → content_of form number text ≡ Ok content) → cell_of (Filled number form empty) text ≡ Ok content
+unfolding cell_of
 filled-again number form empty content [] same default read = rw same (ap Ok (sym (default refl)))
 filled-again number form empty content (c ∷ text) same default read = rw same (read (λ none. cc))
 
 optional-again : (number : ℕ) (form : Form) (content : Content form) (text : List ℕ) → counted form text ≡ text → text ≢ []
-    → content_of form number text ≡ Ok content → value_of (Optional number form) text ≡ Ok (Some content)
-unfolding value_of
+    → content_of form number text ≡ Ok content → cell_of (Optional number form) text ≡ Ok (Some content)
+unfolding cell_of
 optional-again number form content [] same some read = absurd (some refl)
 optional-again number form content (c ∷ text) same some read = rw (same, read) refl
 
@@ -187,8 +188,8 @@ nothing (Letter letters) = refl
 nothing Capital = refl
 nothing Decimal = refl
 
-pub value-again : (column : Column) (value : Value column) → IsColumn column → FitsValue column value → value_of column (value_text column value) ≡ Ok value
-unfolding value_of
+pub value-again : (column : Column) (value : Cell column) → IsColumn column → FitsCell column value → cell_of column (cell_text column value) ≡ Ok value
+unfolding cell_of
 value-again (Must number form) content is fits = rw (counted-again form content is.0 fits) (content-again form number content is.0 fits (read_if_must form content is.1))
 value-again (Optional number form) None is fits = rw (nothing form) refl
 value-again (Optional number form) (Some content) is fits = optional-again number form content (content_text form content) (counted-again form content is fits.0) fits.1
@@ -196,7 +197,7 @@ value-again (Optional number form) (Some content) is fits = optional-again numbe
 value-again (Filled number form empty) content is fits = filled-again number form empty content (content_text form content) (counted-again form content is fits.0) fits.1
     (λ some. content-again form number content is fits.0 (read_if_some form content some))
 
-pub value_whole : (column : Column) (value : Value column) → IsColumn column → FitsValue column value → IsWhole (value_text column value)
+pub value_whole : (column : Column) (value : Cell column) → IsColumn column → FitsCell column value → IsWhole (cell_text column value)
 value_whole (Must number form) content is fits = content_whole form content is.0 fits
 value_whole (Optional number form) None is fits = record { each = refl }
 value_whole (Optional number form) (Some content) is fits = content_whole form content is fits.0

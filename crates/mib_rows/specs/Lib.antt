@@ -1,3 +1,4 @@
 pub mod Answers
 pub mod Left
+pub mod RowsRead
 pub mod Laws

@@ -1,6 +1,7 @@
 // The lines of the tables of calibration.
 ghost use Rattle.std.specs.Prelude.{◌≡◌, IfOk};
-ghost use Rattle.mib_model.specs.CurveTables.{cur, cur_values, caf, caf_values, cap, cap_values, txf, txf_values, txp, txp_values, mcf, mcf_values, lgf, lgf_values};
+ghost use Rattle.mib_model.specs.TextTables.{cur, cur_cells, txf, txf_cells, txp, txp_cells};
+ghost use Rattle.mib_model.specs.CurveTables.{caf, caf_cells, cap, cap_cells, mcf, mcf_cells, lgf, lgf_cells};
 ghost use Rattle.mib_model.specs.Writing.{line_by};
 
 use crate::line_writer::LineWriter;
@@ -8,7 +9,7 @@ use mib_model::{CafRow, CapRow, CurRow, LgfRow, McfRow, TxfRow, TxpRow};
 use std::alloc::{AllocError, Global};
 
 pub fn cur(alloc: Global, row: &CurRow) -> Result<Vec<u8>, AllocError>
-    ensures { IfOk result (λ line. line.items ≡ line_by cur (cur_values row.now)) }
+    ensures { IfOk result (λ line. line.items ≡ line_by cur (cur_cells row.now)) }
 {
     let mut out = LineWriter::new(alloc);
     out.name(1, &row.pname)?;
@@ -20,7 +21,7 @@ pub fn cur(alloc: Global, row: &CurRow) -> Result<Vec<u8>, AllocError>
 }
 
 pub fn caf(alloc: Global, row: &CafRow) -> Result<Vec<u8>, AllocError>
-    ensures { IfOk result (λ line. line.items ≡ line_by caf (caf_values row.now)) }
+    ensures { IfOk result (λ line. line.items ≡ line_by caf (caf_cells row.now)) }
 {
     let mut out = LineWriter::new(alloc);
     out.name(1, &row.numbr)?;
@@ -32,7 +33,7 @@ pub fn caf(alloc: Global, row: &CafRow) -> Result<Vec<u8>, AllocError>
 }
 
 pub fn cap(alloc: Global, row: &CapRow) -> Result<Vec<u8>, AllocError>
-    ensures { IfOk result (λ line. line.items ≡ line_by cap (cap_values row.now)) }
+    ensures { IfOk result (λ line. line.items ≡ line_by cap (cap_cells row.now)) }
 {
     let mut out = LineWriter::new(alloc);
     out.name(1, &row.numbr)?;
@@ -42,7 +43,7 @@ pub fn cap(alloc: Global, row: &CapRow) -> Result<Vec<u8>, AllocError>
 }
 
 pub fn txf(alloc: Global, row: &TxfRow) -> Result<Vec<u8>, AllocError>
-    ensures { IfOk result (λ line. line.items ≡ line_by txf (txf_values row.now)) }
+    ensures { IfOk result (λ line. line.items ≡ line_by txf (txf_cells row.now)) }
 {
     let mut out = LineWriter::new(alloc);
     out.name(1, &row.numbr)?;
@@ -51,7 +52,7 @@ pub fn txf(alloc: Global, row: &TxfRow) -> Result<Vec<u8>, AllocError>
 }
 
 pub fn txp(alloc: Global, row: &TxpRow) -> Result<Vec<u8>, AllocError>
-    ensures { IfOk result (λ line. line.items ≡ line_by txp (txp_values row.now)) }
+    ensures { IfOk result (λ line. line.items ≡ line_by txp (txp_cells row.now)) }
 {
     let mut out = LineWriter::new(alloc);
     out.name(1, &row.numbr)?;
@@ -62,7 +63,7 @@ pub fn txp(alloc: Global, row: &TxpRow) -> Result<Vec<u8>, AllocError>
 }
 
 pub fn mcf(alloc: Global, row: &McfRow) -> Result<Vec<u8>, AllocError>
-    ensures { IfOk result (λ line. line.items ≡ line_by mcf (mcf_values row.now)) }
+    ensures { IfOk result (λ line. line.items ≡ line_by mcf (mcf_cells row.now)) }
 {
     let mut out = LineWriter::new(alloc);
     out.name(1, &row.ident)?;
@@ -75,7 +76,7 @@ pub fn mcf(alloc: Global, row: &McfRow) -> Result<Vec<u8>, AllocError>
 }
 
 pub fn lgf(alloc: Global, row: &LgfRow) -> Result<Vec<u8>, AllocError>
-    ensures { IfOk result (λ line. line.items ≡ line_by lgf (lgf_values row.now)) }
+    ensures { IfOk result (λ line. line.items ≡ line_by lgf (lgf_cells row.now)) }
 {
     let mut out = LineWriter::new(alloc);
     out.name(1, &row.ident)?;

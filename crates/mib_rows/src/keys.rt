@@ -1,11 +1,13 @@
 // The keys of the tables: their fields stand one behind the other, each in the form of its own column.
 ghost use Rattle.std.specs.Prelude.{◌≡◌, ◌∷◌, []};
-ghost use Rattle.mib_model.specs.Columns.{key_made_by, Must, Named};
+ghost use Rattle.mib_model.specs.ColumnRows.{key_made_by};
+ghost use Rattle.mib_model.specs.Columns.{Must};
+ghost use Rattle.mib_model.specs.Forms.{Named};
 ghost use Rattle.mib_model.specs.RowTexts.{key_of};
 
 use crate::field::{fault, name, natural, natural_or_none, text};
 use crate::fields::Fields;
-use mib_model::{Key, Kind, LineFault, MibCode, Name};
+use mib_model::{ID_MOST, Key, Kind, LineFault, MibCode, Name, OCTET_MOST, TPSD_MOST, WORD_MOST};
 
 // A key that is one name, in the first column.
 fn one_name(row: &Fields) -> Result<Name, LineFault>
@@ -25,7 +27,7 @@ fn pid(row: &Fields) -> Result<Key, LineFault>
         return Err(fault(0, MibCode::FewFields));
     }
     Ok(Key::Pid {
-        spid: natural(row.field(1), 6, 1, 4_294_967_295)? as u32,
+        spid: natural(row.field(1), 6, 1, ID_MOST)? as u32,
     })
 }
 
@@ -37,9 +39,9 @@ fn pic(row: &Fields) -> Result<Key, LineFault>
         return Err(fault(0, MibCode::FewFields));
     }
     Ok(Key::Pic {
-        service: natural(row.field(1), 1, 0, 255)? as u8,
-        subtype: natural(row.field(2), 2, 0, 255)? as u8,
-        apid: natural_or_none(row.field(3), 7, 0, 65_535)?.map(|apid| apid as u16),
+        service: natural(row.field(1), 1, 0, OCTET_MOST)? as u8,
+        subtype: natural(row.field(2), 2, 0, OCTET_MOST)? as u8,
+        apid: natural_or_none(row.field(3), 7, 0, WORD_MOST)?.map(|apid| apid as u16),
     })
 }
 
@@ -51,7 +53,7 @@ fn tpcf(row: &Fields) -> Result<Key, LineFault>
         return Err(fault(0, MibCode::FewFields));
     }
     Ok(Key::Tpcf {
-        spid: natural(row.field(1), 1, 1, 4_294_967_295)? as u32,
+        spid: natural(row.field(1), 1, 1, ID_MOST)? as u32,
     })
 }
 
@@ -64,7 +66,7 @@ fn plf(row: &Fields) -> Result<Key, LineFault>
     }
     Ok(Key::Plf {
         name: name(row.field(1), 1)?,
-        spid: natural(row.field(2), 2, 1, 4_294_967_295)? as u32,
+        spid: natural(row.field(2), 2, 1, ID_MOST)? as u32,
     })
 }
 
@@ -76,8 +78,8 @@ fn vpd(row: &Fields) -> Result<Key, LineFault>
         return Err(fault(0, MibCode::FewFields));
     }
     Ok(Key::Vpd {
-        tpsd: natural(row.field(1), 1, 1, 2_147_483_647)? as u32,
-        pos: natural(row.field(2), 2, 0, 65_535)? as u16,
+        tpsd: natural(row.field(1), 1, 1, TPSD_MOST)? as u32,
+        pos: natural(row.field(2), 2, 0, WORD_MOST)? as u16,
     })
 }
 
@@ -90,7 +92,7 @@ fn cur(row: &Fields) -> Result<Key, LineFault>
     }
     Ok(Key::Cur {
         pname: name(row.field(1), 1)?,
-        pos: natural(row.field(2), 2, 0, 65_535)? as u16,
+        pos: natural(row.field(2), 2, 0, WORD_MOST)? as u16,
     })
 }
 
@@ -129,7 +131,7 @@ fn ocp(row: &Fields) -> Result<Key, LineFault>
     }
     Ok(Key::Ocp {
         name: name(row.field(1), 1)?,
-        pos: natural(row.field(2), 2, 0, 65_535)? as u16,
+        pos: natural(row.field(2), 2, 0, WORD_MOST)? as u16,
     })
 }
 

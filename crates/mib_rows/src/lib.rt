@@ -21,6 +21,7 @@ mod read_fault;
 mod row;
 mod rows;
 mod table;
+mod table_fault;
 mod write;
 
 pub use laws::written_is_read;

@@ -1,7 +1,7 @@
 // A line that is being written.
 ghost use Rattle.std.specs.Prelude.{◌≡◌, ◌≤◌, ◌-◌, ◌++◌, ◌∷◌, [], replicate, decimal, OnOk};
 ghost use Rattle.std.specs.Fmt.{signed_decimal};
-ghost use Rattle.mib_model.specs.Columns.{Named, Natural, AnyText};
+ghost use Rattle.mib_model.specs.Forms.{Named, Natural, AnyText};
 ghost use Rattle.mib_model.specs.Writing.{decimal_text, bound_text, option_text};
 
 use itoa::Buffer;

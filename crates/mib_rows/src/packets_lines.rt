@@ -1,6 +1,7 @@
 // The lines of the tables of packets.
 ghost use Rattle.std.specs.Prelude.{◌≡◌, IfOk};
-ghost use Rattle.mib_model.specs.PacketTables.{pid, pid_values, pic, pic_values, tpcf, tpcf_values, plf, plf_values, vpd, vpd_values};
+ghost use Rattle.mib_model.specs.PacketTables.{pid, pid_cells, pic, pic_cells, tpcf, tpcf_cells};
+ghost use Rattle.mib_model.specs.LayoutTables.{plf, plf_cells, vpd, vpd_cells};
 ghost use Rattle.mib_model.specs.Writing.{line_by};
 
 use crate::line_writer::LineWriter;
@@ -8,7 +9,7 @@ use mib_model::{PicRow, PidRow, PlfRow, TpcfRow, VpdRow};
 use std::alloc::{AllocError, Global};
 
 pub fn pid(alloc: Global, row: &PidRow) -> Result<Vec<u8>, AllocError>
-    ensures { IfOk result (λ line. line.items ≡ line_by pid (pid_values row.now)) }
+    ensures { IfOk result (λ line. line.items ≡ line_by pid (pid_cells row.now)) }
 {
     let mut out = LineWriter::new(alloc);
     out.natural(1, u64::from(row.service))?;
@@ -23,7 +24,7 @@ pub fn pid(alloc: Global, row: &PidRow) -> Result<Vec<u8>, AllocError>
 }
 
 pub fn pic(alloc: Global, row: &PicRow) -> Result<Vec<u8>, AllocError>
-    ensures { IfOk result (λ line. line.items ≡ line_by pic (pic_values row.now)) }
+    ensures { IfOk result (λ line. line.items ≡ line_by pic (pic_cells row.now)) }
 {
     let mut out = LineWriter::new(alloc);
     out.natural(1, u64::from(row.service))?;
@@ -37,7 +38,7 @@ pub fn pic(alloc: Global, row: &PicRow) -> Result<Vec<u8>, AllocError>
 }
 
 pub fn tpcf(alloc: Global, row: &TpcfRow) -> Result<Vec<u8>, AllocError>
-    ensures { IfOk result (λ line. line.items ≡ line_by tpcf (tpcf_values row.now)) }
+    ensures { IfOk result (λ line. line.items ≡ line_by tpcf (tpcf_cells row.now)) }
 {
     let mut out = LineWriter::new(alloc);
     out.natural(1, u64::from(row.spid))?;
@@ -46,7 +47,7 @@ pub fn tpcf(alloc: Global, row: &TpcfRow) -> Result<Vec<u8>, AllocError>
 }
 
 pub fn plf(alloc: Global, row: &PlfRow) -> Result<Vec<u8>, AllocError>
-    ensures { IfOk result (λ line. line.items ≡ line_by plf (plf_values row.now)) }
+    ensures { IfOk result (λ line. line.items ≡ line_by plf (plf_cells row.now)) }
 {
     let mut out = LineWriter::new(alloc);
     out.name(1, &row.name)?;
@@ -59,7 +60,7 @@ pub fn plf(alloc: Global, row: &PlfRow) -> Result<Vec<u8>, AllocError>
 }
 
 pub fn vpd(alloc: Global, row: &VpdRow) -> Result<Vec<u8>, AllocError>
-    ensures { IfOk result (λ line. line.items ≡ line_by vpd (vpd_values row.now)) }
+    ensures { IfOk result (λ line. line.items ≡ line_by vpd (vpd_cells row.now)) }
 {
     let mut out = LineWriter::new(alloc);
     out.natural(1, u64::from(row.tpsd))?;

@@ -1,6 +1,6 @@
 // The lines of the tables of parameters and their checks.
 ghost use Rattle.std.specs.Prelude.{◌≡◌, IfOk};
-ghost use Rattle.mib_model.specs.ParameterTables.{pcf, pcf_values, ocf, ocf_values, ocp, ocp_values};
+ghost use Rattle.mib_model.specs.ParameterTables.{pcf, pcf_cells, ocf, ocf_cells, ocp, ocp_cells};
 ghost use Rattle.mib_model.specs.Writing.{line_by};
 ghost use Rattle.mib_model.specs.RowTexts.{is_of_states};
 
@@ -9,7 +9,7 @@ use mib_model::{OcfRow, OcpRow, PcfRow};
 use std::alloc::{AllocError, Global};
 
 pub fn pcf(alloc: Global, row: &PcfRow) -> Result<Vec<u8>, AllocError>
-    ensures { IfOk result (λ line. line.items ≡ line_by pcf (pcf_values row.now)) }
+    ensures { IfOk result (λ line. line.items ≡ line_by pcf (pcf_cells row.now)) }
 {
     let mut out = LineWriter::new(alloc);
     out.name(1, &row.name)?;
@@ -28,7 +28,7 @@ pub fn pcf(alloc: Global, row: &PcfRow) -> Result<Vec<u8>, AllocError>
 }
 
 pub fn ocf(alloc: Global, row: &OcfRow) -> Result<Vec<u8>, AllocError>
-    ensures { IfOk result (λ line. line.items ≡ line_by ocf (ocf_values row.now)) }
+    ensures { IfOk result (λ line. line.items ≡ line_by ocf (ocf_cells row.now)) }
 {
     let mut out = LineWriter::new(alloc);
     out.name(1, &row.name)?;
@@ -39,7 +39,7 @@ pub fn ocf(alloc: Global, row: &OcfRow) -> Result<Vec<u8>, AllocError>
 }
 
 pub fn ocp(alloc: Global, row: &OcpRow) -> Result<Vec<u8>, AllocError>
-    ensures { IfOk result (λ line. line.items ≡ line_by (ocp (is_of_states row.now.sort)) (ocp_values (is_of_states row.now.sort) row.now)) }
+    ensures { IfOk result (λ line. line.items ≡ line_by (ocp (is_of_states row.now.sort)) (ocp_cells (is_of_states row.now.sort) row.now)) }
 {
     let mut out = LineWriter::new(alloc);
     out.name(1, &row.name)?;

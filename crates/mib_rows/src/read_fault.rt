@@ -1,4 +1,8 @@
+ghost use Rattle.std.specs.Prelude.{◌≡◌};
+ghost use Rattle.mib_rows.specs.declared.read_fault.ReadFault.TheVariants as faults;
+
 use mib_model::MibFault;
+use std::alloc::{AllocError, AllocFailed};
 use thiserror::Error;
 
 /// Why rows could not be read.
@@ -9,4 +13,28 @@ pub enum ReadFault {
     Mib(MibFault),
     #[error("out of memory")]
     Memory,
+}
+
+impl From<MibFault> for ReadFault {
+    ghost from_gives = { λ fault made. made ≡ faults.Mib fault };
+
+    fn from(fault: MibFault) -> ReadFault {
+        ReadFault::Mib(fault)
+    }
+}
+
+impl From<AllocError> for ReadFault {
+    ghost from_gives = { λ _ made. made ≡ faults.Memory };
+
+    fn from(_: AllocError) -> ReadFault {
+        ReadFault::Memory
+    }
+}
+
+impl<T: Drop> From<AllocFailed<T>> for ReadFault {
+    ghost from_gives = { λ _ made. made ≡ faults.Memory };
+
+    fn from(_: AllocFailed<T>) -> ReadFault {
+        ReadFault::Memory
+    }
 }

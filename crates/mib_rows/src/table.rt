@@ -1,63 +1,18 @@
 // The rows of a table's text.
-ghost use Rattle.std.specs.Prelude.{◌≡◌};
-ghost use Rattle.mib_model.specs.Reading.{fault_at, row_at, table_of, is_marked, row_read, key_read};
+ghost use Rattle.std.specs.Prelude.{◌≡◌, IfOk, map};
+ghost use Rattle.mib_model.specs.Reading.{table_of, is_marked, row_read, key_read};
+ghost use Rattle.mib_model.specs.TableLists.{kind_held, rows_held};
 ghost use Rattle.mib_rows.specs.Answers.{Gives};
 
 use crate::field::fault;
 use crate::fields::Fields;
 use crate::keys::key;
 use crate::read_fault::ReadFault;
-use crate::row::row;
-use crate::rows::{ROWS_MOST, ReadsRows, rows};
-use mib_model::{Key, Kind, LineFault, MibCode, MibFault, Row};
+use crate::row::{ReadRow, row};
+use crate::rows::rows;
+use crate::table_fault::fault_in_row;
+use mib_model::{Key, Kind, MibCode, Row, TABLE_MOST, TableRows};
 use std::alloc::Global;
-
-// The octets of the greatest text and of the longest row.
-const TEXT_MOST: usize = 67_108_864;
-
-const ROW_MOST: u16 = 4_096;
-
-/// A fault of a table and a row.
-pub fn fault_in_row(table: Kind, row: u32, fault: LineFault) -> MibFault
-    ensures { result ≡ fault_at table row fault }
-{
-    MibFault {
-        table,
-        row,
-        column: fault.column,
-        first: 0,
-        code: fault.code,
-    }
-}
-
-// What reads the rows of a table.
-#[derive(Drop)]
-struct TableReader {
-    kind: Kind,
-}
-
-impl ReadsRows for TableReader {
-    type Row = Row;
-
-    ghost reads = { λ reader. row_at reader.kind };
-
-    #[tactic(auto, unfolding(mib_model::specs::Reading::row_at))]
-    fn read(&self, number: u32, line: &Fields) -> Result<Row, ReadFault> {
-        let kind = self.kind;
-        if line.are_longer(ROW_MOST) {
-            let long = fault(0, MibCode::LineLong);
-            return Err(ReadFault::Mib(fault_in_row(kind, number, long)));
-        }
-        if number > ROWS_MOST {
-            let more = fault(0, MibCode::Rows);
-            return Err(ReadFault::Mib(fault_in_row(kind, number, more)));
-        }
-        match row(kind, line) {
-            Ok(row) => Ok(row),
-            Err(e) => Err(ReadFault::Mib(fault_in_row(kind, number, e))),
-        }
-    }
-}
 
 fn begins_with_mark(text: &[u8]) -> bool
     ensures { result ≡ is_marked text.now }
@@ -65,20 +20,44 @@ fn begins_with_mark(text: &[u8]) -> bool
     text.starts_with(b"\xEF\xBB\xBF")
 }
 
-/// The rows of a table's text, in their order.
+// The rows of one table's text, in their order.
 #[tactic(auto, unfolding(mib_model::specs::Reading::table_of))]
-pub fn read_table(alloc: Global, kind: Kind, text: &[u8]) -> Result<Vec<Row>, ReadFault>
-    ensures { Gives (λ rows. rows.items) result (table_of kind text.now) }
+fn table<R: ReadRow>(alloc: Global, text: &[u8]) -> Result<Vec<R>, ReadFault>
+    ensures { Gives (λ rows. map R.as_row rows.items) result (table_of R.kind text.now) }
 {
-    if text.len() > TEXT_MOST {
+    if text.len() > TABLE_MOST {
         let big = fault(0, MibCode::Big);
-        return Err(ReadFault::Mib(fault_in_row(kind, 0, big)));
+        return Err(ReadFault::Mib(fault_in_row(R::kind(), 0, big)));
     }
     if begins_with_mark(text) {
         let mark = fault(0, MibCode::Mark);
-        return Err(ReadFault::Mib(fault_in_row(kind, 0, mark)));
+        return Err(ReadFault::Mib(fault_in_row(R::kind(), 0, mark)));
     }
-    rows(alloc, &TableReader { kind }, text)
+    rows(alloc, text)
+}
+
+/// The rows of a table's text, in their order.
+pub fn read_table(alloc: Global, kind: Kind, text: &[u8]) -> Result<TableRows, ReadFault>
+    ensures rows { Gives rows_held result (table_of kind text.now) }
+    ensures kind { IfOk result (λ rows. kind_held rows ≡ kind) }
+{
+    match kind {
+        Kind::Pcf => Ok(TableRows::Pcf(table(alloc, text)?)),
+        Kind::Pid => Ok(TableRows::Pid(table(alloc, text)?)),
+        Kind::Pic => Ok(TableRows::Pic(table(alloc, text)?)),
+        Kind::Tpcf => Ok(TableRows::Tpcf(table(alloc, text)?)),
+        Kind::Plf => Ok(TableRows::Plf(table(alloc, text)?)),
+        Kind::Vpd => Ok(TableRows::Vpd(table(alloc, text)?)),
+        Kind::Cur => Ok(TableRows::Cur(table(alloc, text)?)),
+        Kind::Caf => Ok(TableRows::Caf(table(alloc, text)?)),
+        Kind::Cap => Ok(TableRows::Cap(table(alloc, text)?)),
+        Kind::Txf => Ok(TableRows::Txf(table(alloc, text)?)),
+        Kind::Txp => Ok(TableRows::Txp(table(alloc, text)?)),
+        Kind::Mcf => Ok(TableRows::Mcf(table(alloc, text)?)),
+        Kind::Lgf => Ok(TableRows::Lgf(table(alloc, text)?)),
+        Kind::Ocf => Ok(TableRows::Ocf(table(alloc, text)?)),
+        Kind::Ocp => Ok(TableRows::Ocp(table(alloc, text)?)),
+    }
 }
 
 /// The row that a line apart from a text is. Its faults have the row 0 and a code from FewFields to BadName.
@@ -86,9 +65,7 @@ pub fn read_table(alloc: Global, kind: Kind, text: &[u8]) -> Result<Vec<Row>, Re
 pub fn read_row(alloc: Global, kind: Kind, line: &[u8]) -> Result<Row, ReadFault>
     ensures { Gives (λ row. row) result (row_read kind line.now) }
 {
-    let Ok(fields) = Fields::cut(alloc, line) else {
-        return Err(ReadFault::Memory);
-    };
+    let fields = Fields::cut(alloc, line)?;
     match row(kind, &fields) {
         Ok(row) => Ok(row),
         Err(e) => Err(ReadFault::Mib(fault_in_row(kind, 0, e))),
@@ -101,9 +78,7 @@ pub fn read_row(alloc: Global, kind: Kind, line: &[u8]) -> Result<Row, ReadFault
 pub fn read_key(alloc: Global, kind: Kind, line: &[u8]) -> Result<Key, ReadFault>
     ensures { Gives (λ key. key) result (key_read kind line.now) }
 {
-    let Ok(fields) = Fields::cut(alloc, line) else {
-        return Err(ReadFault::Memory);
-    };
+    let fields = Fields::cut(alloc, line)?;
     match key(kind, &fields) {
         Ok(key) => Ok(key),
         Err(e) => Err(ReadFault::Mib(fault_in_row(kind, 0, e))),

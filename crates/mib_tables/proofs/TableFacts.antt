@@ -56,8 +56,3 @@ module _ {R : Type 0} (one : R → Row) (own : Row → Option R) (gives : (r : R
   taken_there xs key i at =
       let e : map one (remove xs i) ≡ remove (map one xs) i = map-append one (take i xs) (drop (suc i) xs) ∙ rw (take-map one i xs, drop-map one (suc i) xs) refl in
       sym (back (remove xs i)) ∙ ap (filter_map own) (e ∙ ap (taken_at (map one xs)) (place_in xs key (Some i) at))
-
--- the rows of a table among one more row of any table
-pub own-more : {R : Type 0} (own : Row → Option R) (rows : List Row) (i : ℕ) (r : Row) → i < length rows → r ≡ get_or rows i r → filter_map own (take (i + 1) rows) ≡ filter_map own (take i rows) ++ cons_option (own r) []
-own-more own rows i r below is =
-    ap (filter_map own) (take_more rows i r below ∙ ap (λ (x : Row). take i rows ++ x ∷ []) (sym is)) ∙ filter_map-append own (take i rows) (r ∷ [])

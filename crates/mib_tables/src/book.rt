@@ -3,13 +3,15 @@ ghost use Rattle.mib_model.specs.Database.{database_of, no_rows};
 ghost use Rattle.mib_model.specs.Drafts.{is_held, put_in, rows_of, with_rows, without_key};
 ghost use Rattle.mib_model.specs.Keys.{key_in};
 ghost use Rattle.mib_model.specs.RowTexts.{kind_in};
+ghost use Rattle.mib_model.specs.TableLists.{kind_held, rows_held};
+ghost use Rattle.mib_model.specs.declared.limits.TheConstants.{HELD_MOST};
 ghost use Rattle.mib_tables.specs.Kinds.{kind_of_key};
 ghost use Rattle.mib_tables.specs.Puts.{put_made};
 
-use crate::table::{HELD_MOST, NoRow, Put, Table};
+use crate::table::{NoRow, Put, Table};
 use mib_model::{
     CafRow, CapRow, CurRow, Key, Kind, LgfRow, McfRow, OcfRow, OcpRow, PcfRow, PicRow, PidRow,
-    PlfRow, Row, Tables, TpcfRow, TxfRow, TxpRow, VpdRow,
+    PlfRow, Row, TableRows, Tables, TpcfRow, TxfRow, TxpRow, VpdRow,
 };
 use std::alloc::{AllocError, Global};
 use std::marker::Model;
@@ -44,7 +46,7 @@ impl Model for Book {
 }
 
 impl Book {
-    /// The rows of tables; more than 1,000,000,000 in one of them are want of memory.
+    /// The rows of tables; more than `HELD_MOST` in one of them are want of memory.
     pub fn new(alloc: Global, tables: Tables) -> Result<Book, AllocError>
         ensures { IfOk result (λ book. book ≡ database_of tables) }
     {
@@ -92,33 +94,32 @@ impl Book {
         }
     }
 
-    /// Gives a table these rows in place of its own; more than 1,000,000,000 are want of memory.
-    pub fn fill(&mut self, kind: Kind, rows: &[Row]) -> Result<(), AllocError>
-        ensures rows { OnOk result (self.new ≡ with_rows self.old kind rows.now) }
+    /// Gives a table these rows in place of its own; more than `HELD_MOST` are want of memory.
+    pub fn fill(&mut self, rows: TableRows) -> Result<(), AllocError>
+        ensures rows { OnOk result (self.new ≡ with_rows self.old (kind_held rows) (rows_held rows)) }
         ensures kept { OnErr result (self.new ≡ self.old) }
     {
-        let alloc = self.alloc;
-        match kind {
-            Kind::Pcf => self.pcf.fill(alloc, rows),
-            Kind::Pid => self.pid.fill(alloc, rows),
-            Kind::Pic => self.pic.fill(alloc, rows),
-            Kind::Tpcf => self.tpcf.fill(alloc, rows),
-            Kind::Plf => self.plf.fill(alloc, rows),
-            Kind::Vpd => self.vpd.fill(alloc, rows),
-            Kind::Cur => self.cur.fill(alloc, rows),
-            Kind::Caf => self.caf.fill(alloc, rows),
-            Kind::Cap => self.cap.fill(alloc, rows),
-            Kind::Txf => self.txf.fill(alloc, rows),
-            Kind::Txp => self.txp.fill(alloc, rows),
-            Kind::Mcf => self.mcf.fill(alloc, rows),
-            Kind::Lgf => self.lgf.fill(alloc, rows),
-            Kind::Ocf => self.ocf.fill(alloc, rows),
-            Kind::Ocp => self.ocp.fill(alloc, rows),
+        match rows {
+            TableRows::Pcf(rows) => self.pcf.fill(rows),
+            TableRows::Pid(rows) => self.pid.fill(rows),
+            TableRows::Pic(rows) => self.pic.fill(rows),
+            TableRows::Tpcf(rows) => self.tpcf.fill(rows),
+            TableRows::Plf(rows) => self.plf.fill(rows),
+            TableRows::Vpd(rows) => self.vpd.fill(rows),
+            TableRows::Cur(rows) => self.cur.fill(rows),
+            TableRows::Caf(rows) => self.caf.fill(rows),
+            TableRows::Cap(rows) => self.cap.fill(rows),
+            TableRows::Txf(rows) => self.txf.fill(rows),
+            TableRows::Txp(rows) => self.txp.fill(rows),
+            TableRows::Mcf(rows) => self.mcf.fill(rows),
+            TableRows::Lgf(rows) => self.lgf.fill(rows),
+            TableRows::Ocf(rows) => self.ocf.fill(rows),
+            TableRows::Ocp(rows) => self.ocp.fill(rows),
         }
     }
 
     /// Puts a row in the place of the first row of its table that has its key, or behind all others. A table of
-    /// 1,000,000,000 rows takes no more: want of memory.
+    /// `HELD_MOST` rows takes no more: want of memory.
     #[tactic(auto, unfolding(mib_model::specs::Drafts::rows_of))]
     pub fn put(&mut self, row: Row) -> Result<Put, AllocError>
         ensures rows { let table = kind_in row in OnOk result (self.new ≡ with_rows self.old table (put_in row (rows_of self.old table))) }

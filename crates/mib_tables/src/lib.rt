@@ -10,4 +10,4 @@ mod table;
 mod tests;
 
 pub use book::Book;
-pub use table::{HELD_MOST, NoRow, Put};
+pub use table::{NoRow, Put};

@@ -1,16 +1,13 @@
 // The rows of one table.
-ghost use Rattle.std.specs.Prelude.{◌≡◌, ◌≤◌, ◌++◌, [], IfOk, OnErr, OnOk, filter_map, length, map, position, is_ok};
-ghost use Rattle.std.specs.List.{cons_option};
+ghost use Rattle.std.specs.Prelude.{◌≡◌, ◌≤◌, [], IfOk, OnErr, OnOk, filter_map, length, map, position, is_ok};
 ghost use Rattle.mib_model.specs.Drafts.{put_in, without_key, is_held};
 ghost use Rattle.mib_model.specs.Keys.{has_key, key_in, same_key};
+ghost use Rattle.mib_model.specs.declared.limits.TheConstants.{HELD_MOST};
 ghost use Rattle.mib_tables.specs.Puts.{put_made};
 
-use mib_model::{Key, Row, TableRow};
+use mib_model::{HELD_MOST, Key, TableRow};
 use std::alloc::{AllocError, Global};
 use std::marker::Model;
-
-/// The greatest number of rows that a table in memory holds; a text has fewer.
-pub const HELD_MOST: usize = 1_000_000_000;
 
 /// What `put` did.
 #[derive(Clone, Copy, Debug, PartialEq, Eq)]
@@ -25,7 +22,7 @@ pub enum Put {
 #[derive(Clone, Copy, Debug, PartialEq, Eq)]
 pub struct NoRow;
 
-/// The rows of a table, at most 1,000,000,000. Contracts see the list of them.
+/// The rows of a table, at most `HELD_MOST`. Contracts see the list of them.
 #[derive(Drop)]
 pub struct Table<R: TableRow> {
     rows: Vec<R>,
@@ -33,12 +30,13 @@ pub struct Table<R: TableRow> {
 
 impl<R: TableRow> Model for Table<R> {
     ghost use Rattle.std.specs.Prelude.{◌≤◌, List, length};
+    ghost use Rattle.mib_model.specs.declared.limits.TheConstants.{HELD_MOST};
 
     ghost Value = { List R };
 
     ghost view = { λ table. table.rows.items };
 
-    ghost invariant = { λ table. length table.rows.items ≤ 1000000000 };
+    ghost invariant = { λ table. length table.rows.items ≤ HELD_MOST };
 }
 
 // Whether two keys are the same.
@@ -62,30 +60,6 @@ fn place_of<R: TableRow>(rows: &[R], key: &Key) -> Option<usize>
     rows.iter().position(|row| has(row, key))
 }
 
-// Appends a row, where there is one.
-fn push_own<R: TableRow>(own: &mut Vec<R>, row: Option<R>) -> Result<(), AllocError>
-    ensures { OnOk result (own.new.items ≡ own.old.items ++ cons_option row []) }
-{
-    match row {
-        Some(row) => {
-            own.push(row)?;
-            Ok(())
-        }
-        None => Ok(()),
-    }
-}
-
-// The rows of one table among rows of any table.
-fn own_rows<R: TableRow>(alloc: Global, rows: &[Row]) -> Result<Vec<R>, AllocError>
-    ensures { IfOk result (λ own. own.items ≡ filter_map R.from_row rows.now) }
-{
-    let mut own = Vec::with_capacity(alloc, rows.len())?;
-    for row in rows {
-        push_own(&mut own, R::from_row(row))?;
-    }
-    Ok(own)
-}
-
 impl<R: TableRow> Table<R> {
     /// A table with no rows.
     pub fn empty(alloc: Global) -> Self
@@ -96,7 +70,7 @@ impl<R: TableRow> Table<R> {
         }
     }
 
-    /// A table of these rows; more than 1,000,000,000 are want of memory.
+    /// A table of these rows; more than `HELD_MOST` are want of memory.
     pub fn new(rows: Vec<R>) -> Result<Self, AllocError>
         ensures { IfOk result (λ table. table ≡ rows.items) }
     {
@@ -123,12 +97,12 @@ impl<R: TableRow> Table<R> {
         Table::new(rows)
     }
 
-    /// Takes those of some rows that are of this table in place of its own; more than 1,000,000,000 are want of memory.
-    pub fn fill(&mut self, alloc: Global, rows: &[Row]) -> Result<(), AllocError>
-        ensures rows { OnOk result (self.new ≡ filter_map R.from_row rows.now) }
+    /// Takes some rows in place of its own; more than `HELD_MOST` are want of memory.
+    pub fn fill(&mut self, rows: Vec<R>) -> Result<(), AllocError>
+        ensures rows { OnOk result (self.new ≡ filter_map R.from_row (map R.as_row rows.items)) }
         ensures kept { OnErr result (self.new ≡ self.old) }
     {
-        *self = Table::new(own_rows(alloc, rows)?)?;
+        *self = Table::new(rows)?;
         Ok(())
     }
 

@@ -1,5 +1,7 @@
 use super::*;
-use mib_model::{DiscriminantWidth, KINDS, Key, Kind, PicRow, PidRow, Row, Tables, TpcfRow};
+use mib_model::{
+    DiscriminantWidth, KINDS, Key, Kind, PicRow, PidRow, Row, TableRows, Tables, TpcfRow,
+};
 use std::test::Fail;
 
 // Stands for a place that moves its argument to a thread, and lets others see it.
@@ -89,7 +91,8 @@ fn a_row_takes_the_place_of_its_key_or_comes_last(rt: HostRuntime) -> Result<(),
 #[test]
 fn of_two_rows_with_a_key_the_first_is_replaced_and_goes(rt: HostRuntime) -> Result<(), Fail> {
     let mut book = Book::empty(rt.alloc());
-    book.fill(Kind::Pid, &[pid(1, 10), pid(2, 20), pid(1, 30)])?;
+    let rows = vec![in rt.alloc(); packet(1, 10), packet(2, 20), packet(1, 30)]?;
+    book.fill(TableRows::Pid(rows))?;
     let key = Key::Pid { spid: 1 };
     assert!(rt; has_pids(&book, &[(1, 10), (2, 20), (1, 30)]), "filled");
     assert_eq!(rt; book.put(pid(1, 11))?, Put::Replaced);

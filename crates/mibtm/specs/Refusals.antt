@@ -1,9 +1,24 @@
 -- Why the tables of a folder are not to be had. [This profile.]
 use Rattle.std.specs.Prelude.{◌≡◌, ℕ, Result, Err, ⊤}
 use Rattle.session.specs.Causes.{Failed}
+use Rattle.session.specs.declared.load_fault.LoadFault.{LoadFault}
+use Rattle.session.specs.declared.load_fault.LoadFault.TheVariants as loads
+use Rattle.mib_keys.specs.declared.fault.SoundFault.{SoundFault}
+use Rattle.mib_keys.specs.declared.fault.SoundFault.TheVariants as sounds
 use Rattle.mib_model.specs.declared.fault.MibFault.{MibFault}
 use Rattle.mibtm.specs.declared.load.Refusal.{Refusal}
 use Rattle.mibtm.specs.declared.load.Refusal.TheVariants as refusal
+
+-- the refusal that a fault of a load is
+abbrev pub refusal_of : LoadFault → Refusal
+refusal_of (loads.Mib fault) = refusal.Mib fault
+refusal_of loads.Failed = refusal.Failed
+refusal_of loads.Memory = refusal.Memory
+
+-- the refusal that a flaw of the tables is
+abbrev pub refusal_of_flaw : SoundFault → Refusal
+refusal_of_flaw (sounds.Mib fault) = refusal.Mib fault
+refusal_of_flaw sounds.Memory = refusal.Memory
 
 -- tables are refused with just the fault that reading them gives
 abbrev pub Refuses : {Made : Type 0} → Refusal → Result Made MibFault → Type 0

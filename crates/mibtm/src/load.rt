@@ -2,7 +2,7 @@
 ghost use Rattle.std.specs.Prelude.{◌≡◌, ◌≢◌, IfOk, IfErr, OnOk, IfSome, Ok};
 ghost use Rattle.mib_model.specs.Soundness.{IsSound};
 ghost use Rattle.session.specs.Sources.{database_in};
-ghost use Rattle.mibtm.specs.Refusals.{HasRefusalCause, Refuses};
+ghost use Rattle.mibtm.specs.Refusals.{HasRefusalCause, Refuses, refusal_of, refusal_of_flaw};
 ghost use Rattle.mibtm.specs.Sources.{if_sound, sound_in};
 
 use mib_keys::{SoundFault, sound};
@@ -20,6 +20,29 @@ pub(crate) enum Refusal {
     Memory,
 }
 
+impl From<LoadFault> for Refusal {
+    ghost from_gives = { λ fault made. made ≡ refusal_of fault };
+
+    fn from(fault: LoadFault) -> Refusal {
+        match fault {
+            LoadFault::Mib(fault) => Refusal::Mib(fault),
+            LoadFault::Failed => Refusal::Failed,
+            LoadFault::Memory => Refusal::Memory,
+        }
+    }
+}
+
+impl From<SoundFault> for Refusal {
+    ghost from_gives = { λ fault made. made ≡ refusal_of_flaw fault };
+
+    fn from(fault: SoundFault) -> Refusal {
+        match fault {
+            SoundFault::Mib(fault) => Refusal::Mib(fault),
+            SoundFault::Memory => Refusal::Memory,
+        }
+    }
+}
+
 // The tables of a folder, whether they are sound or not.
 fn load_book<T: Shelf>(alloc: Global, folder: &str, tables: &mut T) -> Result<Book, Refusal>
     ensures told { IfOk result (λ book. IfSome (T.holds tables.old) (λ files. database_in files folder.now ≡ Ok book)) }
@@ -27,12 +50,7 @@ fn load_book<T: Shelf>(alloc: Global, folder: &str, tables: &mut T) -> Result<Bo
     ensures ok { OnOk result (T.faults tables.new ≡ T.faults tables.old) }
     ensures cause { IfErr result (λ refusal. HasRefusalCause refusal (T.faults tables.old) (T.faults tables.new)) }
 {
-    match load(alloc, folder, tables) {
-        Ok(book) => Ok(book),
-        Err(LoadFault::Mib(fault)) => Err(Refusal::Mib(fault)),
-        Err(LoadFault::Failed) => Err(Refusal::Failed),
-        Err(LoadFault::Memory) => Err(Refusal::Memory),
-    }
+    Ok(load(alloc, folder, tables)?)
 }
 
 // A book, where it is sound.
@@ -42,11 +60,8 @@ fn accept(alloc: Global, book: Book) -> Result<Book, Refusal>
     ensures refused { IfErr result (λ refusal. Refuses refusal (if_sound book)) }
     ensures cause { IfErr result (λ refusal. refusal ≢ Refusal.Failed) }
 {
-    match sound(alloc, &book) {
-        Ok(()) => Ok(book),
-        Err(SoundFault::Mib(fault)) => Err(Refusal::Mib(fault)),
-        Err(SoundFault::Memory) => Err(Refusal::Memory),
-    }
+    sound(alloc, &book)?;
+    Ok(book)
 }
 
 /// The sound tables of a folder. They are refused at the first fault: each table is read in its order, and then their

@@ -18,7 +18,7 @@ fn unbuilt_pcf(rows: &[PcfRow]) -> Option<usize>
 fn is_unbuilt_pcf(row: &PcfRow) -> bool
     ensures { result ≡ Spec.is_unbuilt_pcf row.now }
 {
-    row.natur == b'R' && (row.curtx.is_some() || row.valid.is_some())
+    row.is_measured() && (row.curtx.is_some() || row.valid.is_some())
 }
 
 // The place of the first packet of variable structure.
@@ -26,7 +26,7 @@ fn unbuilt_pid(rows: &[PidRow]) -> Option<usize>
     ensures place { result ≡ position Spec.is_unbuilt_pid rows.now }
     ensures within { IfSome result (λ i. i < length rows.now) }
 {
-    rows.iter().position(|row| row.tpsd >= 1)
+    rows.iter().position(|row| row.has_structure())
 }
 
 // The place of the first row of any.

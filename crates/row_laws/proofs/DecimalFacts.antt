@@ -16,7 +16,7 @@ use Rattle.std.proofs.lemmas.Fmt.{decimal_digit, decimal_by_steps, decimal_nonem
 use Rattle.mib_model.specs.declared.number.Dec.{Dec}
 use Rattle.mib_model.specs.declared.number.DecFault.{DecFault}
 use Rattle.mib_model.specs.declared.number.DecFault.TheVariants.{Form, Digits, Exponent}
-use Rattle.mib_model.specs.Columns.{zero_decimal}
+use Rattle.mib_model.specs.Forms.{zero_decimal}
 use Rattle.mib_model.specs.Decimals.{is_minus, is_sign, is_point, is_exponent_mark, is_zero_digit, unsigned_part, has_minus, with_sign, mantissa, exponent_part, whole_digits, fraction_digits, has_exponent_form, exponent_value, has_decimal_form, without_leading, without_trailing, scaled, scaled_from, dec_of}
 use Rattle.mib_model.specs.Digits.{digits_value, are_digits}
 use Rattle.mib_model.specs.Fitting.{IsDecimal}

@@ -14,9 +14,11 @@ use Rattle.mib_model.specs.declared.rows.Bound.TheVariants as bound
 use Rattle.mib_model.specs.declared.number.Dec.{Dec}
 use Rattle.mib_model.specs.declared.number.DecFault.{DecFault}
 use Rattle.mib_model.specs.Attempts.{◌>>=◌, made_into}
-use Rattle.mib_model.specs.Columns.{Form, Named, Natural, Integer, Letter, Capital, Decimal, AnyText, Bounding, Content, Column, Must, Optional, Filled, number_in, Value, Values, fault_in, decimal_in, counted, content_of, or_empty, value_of, row_by, made_by, last_must}
+use Rattle.mib_model.specs.Forms.{Form, Named, Natural, Integer, Letter, Capital, Decimal, AnyText, Bounding, Content, fault_in, decimal_in, counted, content_of}
+use Rattle.mib_model.specs.Columns.{Column, Must, Optional, Filled, number_in, Cell, Cells, or_empty, cell_of}
+use Rattle.mib_model.specs.ColumnRows.{row_by, made_by, last_must}
 use Rattle.mib_model.specs.Decimals.{dec_of}
-use Rattle.mib_model.specs.Fitting.{IsDecimal, FitsForm, FitsValue, FitsValues, FitsText}
+use Rattle.mib_model.specs.Fitting.{IsDecimal, FitsForm, FitsCell, FitsCells, FitsText}
 use Rattle.mib_model.specs.Lines.{fields, field_at, is_tab, without_front, trimmed}
 use Rattle.mib_model.specs.Names.{is_name, is_text, name_of, text_of}
 use Rattle.mib_model.specs.Numbers.{number_of, signed_of, size, code_of, letter_by, capital_of}
@@ -209,7 +211,7 @@ no_content : {A : Type 0} (content : A) → none_of ≡ Some content → ⊥
 no_content content same = cc
 
 optional_fits : (number : ℕ) (form : Form) (octets : List ℕ) (value : Option (Content form)) → IsForm form → IsWhole octets
-    → or_empty octets None (made_into Some (content_of form number octets)) ≡ Ok value → FitsValue (Optional number form) value
+    → or_empty octets None (made_into Some (content_of form number octets)) ≡ Ok value → FitsCell (Optional number form) value
 optional_fits number form [] None is free reads = tt
 optional_fits number form [] (Some content) is free reads =
     let same : none_of {A = Content form} ≡ Some content = ok_is {A = Option (Content form)} (Ok None) None (Some content) refl reads in
@@ -225,7 +227,7 @@ optional_fits number form (c ∷ octets) (Some content) is free reads =
     same_some x y same = cc
 
 filled_fits : (number : ℕ) (form : Form) (empty : Content form) (octets : List ℕ) (value : Content form) → IsForm form → FitsForm form empty → IsWhole octets
-    → or_empty octets empty (content_of form number octets) ≡ Ok value → FitsValue (Filled number form empty) value
+    → or_empty octets empty (content_of form number octets) ≡ Ok value → FitsCell (Filled number form empty) value
 filled_fits number form empty [] value is default free reads =
     let same : empty ≡ value = ok_is {A = Content form} (Ok empty) empty value refl reads in
     subst (λ (v : Content form). FitsForm form v × (content_text form v ≡ [] → v ≡ empty)) same (default, λ none. refl)
@@ -243,8 +245,8 @@ abbrev pub DefaultsFit : List Column → Type 0
 DefaultsFit [] = Unit {0}
 DefaultsFit (column ∷ columns) = DefaultFits column × DefaultsFit columns
 
-value-fits : (column : Column) (field : List ℕ) (value : Value column) → IsColumn column → DefaultFits column → IsWhole field → value_of column field ≡ Ok value → FitsValue column value
-unfolding value_of
+value-fits : (column : Column) (field : List ℕ) (value : Cell column) → IsColumn column → DefaultFits column → IsWhole field → cell_of column field ≡ Ok value → FitsCell column value
+unfolding cell_of
 value-fits (Must number form) field value is default free reads = (content-fits form number (counted form field) value is.0 (counted_whole form field free) reads).fits
 value-fits (Optional number form) field value is default free reads = optional_fits number form (counted form field) value is (counted_whole form field free) reads
 value-fits (Filled number form empty) field value is default free reads = filled_fits number form empty (counted form field) value is default (counted_whole form field free) reads
@@ -254,21 +256,21 @@ abbrev err_of : {A : Type 0} → LineFault → Result A LineFault
 err_of fault = Err fault
 
 -- each value is what its field is in its column
-abbrev pub AreRead : List (List ℕ) → (columns : List Column) → Values columns → Type 0
+abbrev pub AreRead : List (List ℕ) → (columns : List Column) → Cells columns → Type 0
 AreRead row [] values = Unit {0}
-AreRead row (column ∷ columns) values = (value_of column (field_at row (number_in column)) ≡ Ok values.0) × AreRead row columns values.1
+AreRead row (column ∷ columns) values = (cell_of column (field_at row (number_in column)) ≡ Ok values.0) × AreRead row columns values.1
 
 -- the values of a line that is read as something
-pub record IsMadeOf {Made : Type 0} (columns : List Column) (make : Values columns → Made) (line : List ℕ) (made : Made) : Type 0 where
-  pub values : Values columns
+pub record IsMadeOf {Made : Type 0} (columns : List Column) (make : Cells columns → Made) (line : List ℕ) (made : Made) : Type 0 where
+  pub values : Cells columns
   pub is : make values ≡ made
-  pub fit : FitsValues columns values
+  pub fit : FitsCells columns values
   pub are_read : AreRead (fields line) columns values
 
 -- one more column in front
-row_by-step : {Made : Type 0} (column : Column) (columns : List Column) (make : Values (column ∷ columns) → Made) (line : List ℕ) (made : Made) (read : Result (Value column) LineFault)
-    → IsColumn column → DefaultFits column → read ≡ value_of column (field_at (fields line) (number_in column))
-    → ((value : Value column) → row_by columns (λ vs. make (value, vs)) (fields line) ≡ Ok made → IsMadeOf columns (λ vs. make (value, vs)) line made)
+row_by-step : {Made : Type 0} (column : Column) (columns : List Column) (make : Cells (column ∷ columns) → Made) (line : List ℕ) (made : Made) (read : Result (Cell column) LineFault)
+    → IsColumn column → DefaultFits column → read ≡ cell_of column (field_at (fields line) (number_in column))
+    → ((value : Cell column) → row_by columns (λ vs. make (value, vs)) (fields line) ≡ Ok made → IsMadeOf columns (λ vs. make (value, vs)) line made)
     → (read >>= λ value. row_by columns (λ vs. make (value, vs)) (fields line)) ≡ Ok made
     → IsMadeOf (column ∷ columns) make line made
 row_by-step column columns make line made (Ok value) is default read rest reads =
@@ -280,11 +282,11 @@ row_by-step column columns make line made (Err fault) is default read rest reads
     not_ok : {A : Type 0} (fault : LineFault) (made : A) → err_of fault ≡ Ok made → ⊥
     not_ok fault made reads = cc
 
-row_by-fits : {Made : Type 0} (columns : List Column) (make : Values columns → Made) (line : List ℕ) (made : Made) → AreColumns columns → DefaultsFit columns
+row_by-fits : {Made : Type 0} (columns : List Column) (make : Cells columns → Made) (line : List ℕ) (made : Made) → AreColumns columns → DefaultsFit columns
     → row_by columns make (fields line) ≡ Ok made → IsMadeOf columns make line made
 row_by-fits [] make line made are defaults reads = record { values = tt; is = ok_is (Ok (make tt)) (make tt) made refl reads; fit = tt; are_read = tt }
 row_by-fits (column ∷ columns) make line made are defaults reads =
-    row_by-step column columns make line made (value_of column (field_at (fields line) (number_in column))) are.0 defaults.0 refl
+    row_by-step column columns make line made (cell_of column (field_at (fields line) (number_in column))) are.0 defaults.0 refl
     (λ value more. row_by-fits columns (λ vs. make (value, vs)) line made are.1 defaults.1 more) reads
 
 made_by-step : {Made : Type 0} (few : Bool) (read : Result Made LineFault) (made : Made) → cond few (err_of (fault_in 0 FewFields)) read ≡ Ok made → read ≡ Ok made
@@ -292,7 +294,7 @@ made_by-step true read made reads = cc
 made_by-step false read made reads = reads
 
 -- the same of a whole line
-pub made_by-fits : {Made : Type 0} (columns : List Column) (make : Values columns → Made) (line : List ℕ) (made : Made) → AreColumns columns → DefaultsFit columns
+pub made_by-fits : {Made : Type 0} (columns : List Column) (make : Cells columns → Made) (line : List ℕ) (made : Made) → AreColumns columns → DefaultsFit columns
     → made_by columns make (fields line) ≡ Ok made → IsMadeOf columns make line made
 made_by-fits columns make line made are defaults reads =
     row_by-fits columns make line made are defaults (made_by-step (nat_lt (length (fields line)) (last_must columns)) (row_by columns make (fields line)) made reads)

@@ -9,8 +9,9 @@ use Rattle.std.proofs.lemmas.Slice.Eq.{bytes_eq-Decides}
 use Rattle.mib_model.specs.declared.number.Dec.{Dec}
 use Rattle.mib_model.specs.declared.rows.Bound.{Bound}
 use Rattle.mib_model.specs.declared.rows.Bound.TheVariants as bound
-use Rattle.mib_model.specs.Columns.{Form, Named, Natural, Integer, Letter, Capital, Decimal, AnyText, Bounding, Content, Column, Must, Optional, Filled, Value, Values}
-use Rattle.mib_model.specs.Sameness.{same_decimal, same_bound, same_content, same_value, same_values}
+use Rattle.mib_model.specs.Forms.{Form, Named, Natural, Integer, Letter, Capital, Decimal, AnyText, Bounding, Content}
+use Rattle.mib_model.specs.Columns.{Column, Must, Optional, Filled, Cell, Cells}
+use Rattle.mib_model.specs.Sameness.{same_decimal, same_bound, same_content, same_cell, same_cells}
 
 same_decimal-Decides : (x y : Dec) → Decides (same_decimal x y) (x ≡ y)
 same_decimal-Decides x y = Decides-like (same_decimal x y) (λ (p : (x.m ≡ y.m) × (x.e ≡ y.e)). both x y p.0 p.1) (λ (p : x ≡ y). (ap (λ (d : Dec). d.m) p, ap (λ (d : Dec). d.e) p))
@@ -46,18 +47,18 @@ some_Decides same each None (Some y) = (λ e. cc, λ e. cc)
 some_Decides same each (Some x) None = (λ e. cc, λ e. cc)
 some_Decides same each (Some x) (Some y) = Decides-like (same x y) (λ (p : x ≡ y). ap Some p) (λ (p : Some x ≡ Some y). cc) (each x y)
 
-same_value-Decides : (column : Column) (x y : Value column) → Decides (same_value column x y) (x ≡ y)
+same_value-Decides : (column : Column) (x y : Cell column) → Decides (same_cell column x y) (x ≡ y)
 same_value-Decides (Must number form) x y = same_content-Decides form x y
 same_value-Decides (Optional number form) x y = some_Decides (same_content form) (same_content-Decides form) x y
 same_value-Decides (Filled number form empty) x y = same_content-Decides form x y
 
 -- the test of the values of all columns
-pub same_values-Decides : (columns : List Column) (x y : Values columns) → Decides (same_values columns x y) (x ≡ y)
-unfolding same_values
+pub same_values-Decides : (columns : List Column) (x y : Cells columns) → Decides (same_cells columns x y) (x ≡ y)
+unfolding same_cells
 same_values-Decides [] x y = (λ e. refl, λ e. refl)
 same_values-Decides (column ∷ []) x y =
-    Decides-like (same_value column x.0 y.0) (λ (p : x.0 ≡ y.0). λ i. (p i, tt)) (λ (p : x ≡ y). ap (λ (v : Values (column ∷ [])). v.0) p) (same_value-Decides column x.0 y.0)
+    Decides-like (same_cell column x.0 y.0) (λ (p : x.0 ≡ y.0). λ i. (p i, tt)) (λ (p : x ≡ y). ap (λ (v : Cells (column ∷ [])). v.0) p) (same_value-Decides column x.0 y.0)
 same_values-Decides (column ∷ next ∷ columns) x y =
-    Decides-like (same_value column x.0 y.0 && same_values (next ∷ columns) x.1 y.1) (λ (p : (x.0 ≡ y.0) × (x.1 ≡ y.1)). λ i. (p.0 i, p.1 i))
-    (λ (p : x ≡ y). (ap (λ (v : Values (column ∷ next ∷ columns)). v.0) p, ap (λ (v : Values (column ∷ next ∷ columns)). v.1) p))
-    (Decides-and (same_value column x.0 y.0) (same_values (next ∷ columns) x.1 y.1) (same_value-Decides column x.0 y.0) (same_values-Decides (next ∷ columns) x.1 y.1))
+    Decides-like (same_cell column x.0 y.0 && same_cells (next ∷ columns) x.1 y.1) (λ (p : (x.0 ≡ y.0) × (x.1 ≡ y.1)). λ i. (p.0 i, p.1 i))
+    (λ (p : x ≡ y). (ap (λ (v : Cells (column ∷ next ∷ columns)). v.0) p, ap (λ (v : Cells (column ∷ next ∷ columns)). v.1) p))
+    (Decides-and (same_cell column x.0 y.0) (same_cells (next ∷ columns) x.1 y.1) (same_value-Decides column x.0 y.0) (same_values-Decides (next ∷ columns) x.1 y.1))

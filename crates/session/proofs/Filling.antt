@@ -7,7 +7,8 @@ use Rattle.mib_model.specs.declared.kind.Kind.{Kind}
 use Rattle.mib_model.specs.declared.kind.Kind.TheVariants as kind
 use Rattle.mib_model.specs.declared.rows.Row.{Row}
 use Rattle.mib_model.specs.Database.{no_rows}
-use Rattle.mib_model.specs.DatabaseTexts.{database_read, database_by, first_fault, rows_in}
+use Rattle.mib_model.specs.DatabaseTexts.{database_read, first_fault, rows_in}
+use Rattle.mib_model.specs.TypedRows.{database_by}
 use Rattle.mib_model.specs.Drafts.{with_rows}
 use Rattle.mib_model.specs.Kinds.{kinds}
 use Rattle.mib_model.specs.Reading.{table_of}

@@ -1,6 +1,8 @@
 -- Which fault comes with which count of faults. [This profile.]
 use Rattle.std.specs.Prelude.{◌≡◌, ℕ, ◌≤◌, ⊤}
 use Rattle.tm_io.specs.Causes.{Rose}
+use Rattle.mib_rows.specs.declared.read_fault.ReadFault.{ReadFault}
+use Rattle.mib_rows.specs.declared.read_fault.ReadFault.TheVariants as reads
 use Rattle.session.specs.declared.load_fault.LoadFault.{LoadFault}
 use Rattle.session.specs.declared.load_fault.LoadFault.TheVariants as faults
 
@@ -12,6 +14,11 @@ Failed before now = (before ≤ now) × Rose before now
 abbrev pub HasLoadCause : LoadFault → ℕ → ℕ → Type 0
 HasLoadCause faults.Failed before now = Failed before now
 HasLoadCause other before now = now ≡ before
+
+-- the fault of a load that a fault of reading is
+abbrev pub load_fault : ReadFault → LoadFault
+load_fault (reads.Mib fault) = faults.Mib fault
+load_fault reads.Memory = faults.Memory
 
 -- the faults that reading a file may end with
 abbrev pub IsReadStop : LoadFault → Type 0

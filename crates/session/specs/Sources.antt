@@ -1,5 +1,5 @@
 -- The database that the files of a folder hold. [This profile.]
-use Rattle.std.specs.Prelude.{◌≡◌, ℕ, List, [], ◌++◌, codes, take, Option, unwrap_or, Result, Ok, Err, ⊤}
+use Rattle.std.specs.Prelude.{◌≡◌, ℕ, ◌+◌, List, [], ◌++◌, codes, take, Option, unwrap_or, Result, Ok, Err, ⊤}
 use Rattle.mib_model.specs.declared.database.Database.{Database}
 use Rattle.mib_model.specs.declared.fault.MibFault.{MibFault}
 use Rattle.mib_model.specs.declared.kind.Kind.{Kind}
@@ -10,6 +10,7 @@ use Rattle.mib_model.specs.Kinds.{kind_name}
 use Rattle.mib_model.specs.Reading.{table_of}
 use Rattle.session.specs.declared.load_fault.LoadFault.{LoadFault}
 use Rattle.session.specs.declared.load_fault.LoadFault.TheVariants as faults
+use Rattle.mib_model.specs.declared.limits.TheConstants.{TABLE_MOST}
 
 -- the octets of the file of each name that a shelf holds
 abbrev pub Files : Type 0
@@ -25,7 +26,7 @@ octets_of files name = unwrap_or (files name) []
 
 -- as much of a file as is read: one octet more than the text of a table may have
 unfoldable pub part_read : List ℕ → List ℕ
-part_read octets = take 67108865 octets
+part_read octets = take (TABLE_MOST + 1) octets
 
 -- the text of a table
 abbrev pub table_text : Files → List ℕ → Kind → List ℕ

@@ -1,13 +1,14 @@
 // The tables of a folder, read in their order.
 ghost use Rattle.std.specs.Prelude.{◌≡◌, string_bytes, IfOk, IfErr, OnOk, IfSome, Ok};
 ghost use Rattle.mib_model.specs.Reading.{table_of};
+ghost use Rattle.mib_model.specs.TableLists.{kind_held, rows_held};
 ghost use Rattle.session.specs.Causes.{HasLoadCause, IsTextStop};
 ghost use Rattle.session.specs.Sources.{Fills, Refuses, database_in, read_in, table_file};
 
 use crate::load_fault::LoadFault;
 use crate::text_file::read_file;
-use mib_model::{KINDS, Kind, Row};
-use mib_rows::{ReadFault, read_table};
+use mib_model::{KINDS, Kind, TableRows};
+use mib_rows::read_table;
 use mib_tables::Book;
 use std::alloc::{AllocError, Global};
 use tm_io::Shelf;
@@ -24,16 +25,13 @@ fn file_name(alloc: Global, folder: &str, table: Kind) -> Result<String, AllocEr
 }
 
 // The rows of a table's text.
-fn read_rows(alloc: Global, table: Kind, text: &[u8]) -> Result<Vec<Row>, LoadFault>
-    ensures told { IfOk result (λ rows. table_of table text.now ≡ Ok rows.items) }
+fn read_rows(alloc: Global, table: Kind, text: &[u8]) -> Result<TableRows, LoadFault>
+    ensures told { IfOk result (λ rows. table_of table text.now ≡ Ok (rows_held rows)) }
+    ensures kind { IfOk result (λ rows. kind_held rows ≡ table) }
     ensures refused { IfErr result (λ fault. Refuses fault (table_of table text.now)) }
     ensures stop { IfErr result IsTextStop }
 {
-    match read_table(alloc, table, text) {
-        Ok(rows) => Ok(rows),
-        Err(ReadFault::Mib(fault)) => Err(LoadFault::Mib(fault)),
-        Err(ReadFault::Memory) => Err(LoadFault::Memory),
-    }
+    Ok(read_table(alloc, table, text)?)
 }
 
 // Gives a table of a book the rows that its file in a folder has.
@@ -50,15 +48,11 @@ fn load_table<T: Shelf>(
     ensures cause { IfErr result (λ fault. HasLoadCause fault (T.faults tables.old) (T.faults tables.new)) }
     ensures holds { T.holds tables.new ≡ T.holds tables.old }
 {
-    let Ok(name) = file_name(alloc, folder, table) else {
-        return Err(LoadFault::Memory);
-    };
+    let name = file_name(alloc, folder, table)?;
     let text = read_file(alloc, tables, name.as_str())?;
     let rows = read_rows(alloc, table, &text)?;
-    match book.fill(table, &rows) {
-        Ok(()) => Ok(()),
-        Err(_) => Err(LoadFault::Memory),
-    }
+    book.fill(rows)?;
+    Ok(())
 }
 
 /// The rows of the tables of a folder: each table is read from the file of its name with `.dat` behind it, and one

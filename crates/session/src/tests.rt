@@ -1,13 +1,10 @@
 use crate::{LoadFault, load};
-use mib_model::{Kind, MibCode, MibFault};
+use mib_model::{Kind, MibCode, MibFault, TABLE_MOST};
 use std::alloc::Global;
 use std::test::Fail;
 use tm_io::{MemFile, MemShelf};
 
 const PCF: &[u8] = b"T1\t\t\t\t3\t12\t\t\t\tN\tR\n";
-
-// The most octets of a table's text.
-const TEXT_MOST: usize = 67_108_864;
 
 // The most octets of a description beside 9 others, in a row of at most 4,096.
 const DESCRIPTION_MOST: usize = 4_087;
@@ -141,16 +138,16 @@ fn empty_lines(alloc: Global, count: usize) -> Result<Vec<u8>, Fail> {
 #[test]
 fn a_text_has_at_most_67_108_864_octets(rt: HostRuntime) -> Result<(), Fail> {
     let alloc = rt.alloc();
-    let full = empty_lines(alloc, TEXT_MOST)?;
+    let full = empty_lines(alloc, TABLE_MOST)?;
     let book = load(alloc, "mib", &mut folder(alloc, "mib/vpd.dat", full)?)?;
     assert_eq!(rt; book.count(Kind::Vpd), 0);
-    let over = empty_lines(alloc, TEXT_MOST + 1)?;
+    let over = empty_lines(alloc, TABLE_MOST + 1)?;
     assert_eq!(rt;
         load(alloc, "mib", &mut folder(alloc, "mib/vpd.dat", over)?).err(),
         fault(Kind::Vpd, 0, MibCode::Big)
     );
     let mut marked = Vec::from_slice(alloc, b"\xEF\xBB\xBF")?;
-    marked.extend_from_slice(&empty_lines(alloc, TEXT_MOST)?)?;
+    marked.extend_from_slice(&empty_lines(alloc, TABLE_MOST)?)?;
     assert_eq!(rt;
         load(alloc, "mib", &mut folder(alloc, "mib/vpd.dat", marked)?).err(),
         fault(Kind::Vpd, 0, MibCode::Big)

@@ -4,11 +4,12 @@ ghost use Rattle.session.specs.Causes.{HasLoadCause, IsReadStop};
 ghost use Rattle.session.specs.Sources.{octets_of, part_read};
 
 use crate::load_fault::LoadFault;
+use mib_model::TABLE_MOST;
 use std::alloc::{AllocError, Global};
 use tm_io::{Shelf, Source};
 
 // The most octets of a text that are read: one more than a table may have.
-const READ_MOST: usize = 67_108_865;
+const READ_MOST: usize = TABLE_MOST + 1;
 
 // The octets that are read at once.
 const CHUNK_SIZE: usize = 65_536;
@@ -36,15 +37,11 @@ fn read_into<S: Source>(
 {
     while text.len() < READ_MOST {
         let size = chunk.len().min(READ_MOST - text.len());
-        let Ok(count) = source.read(&mut chunk[..size]) else {
-            return Err(LoadFault::Failed);
-        };
+        let count = source.read(&mut chunk[..size])?;
         if count == 0 {
             return Ok(());
         }
-        if text.extend_from_slice(&chunk[..count]).is_err() {
-            return Err(LoadFault::Memory);
-        }
+        text.extend_from_slice(&chunk[..count])?;
     }
     Ok(())
 }
@@ -57,9 +54,7 @@ fn read_whole<S: Source>(alloc: Global, source: &mut S) -> Result<Vec<u8>, LoadF
     ensures stop { IfErr result IsReadStop }
     ensures holds { S.holds source.new ≡ S.holds source.old }
 {
-    let Ok(mut chunk) = buffer(alloc, CHUNK_SIZE) else {
-        return Err(LoadFault::Memory);
-    };
+    let mut chunk = buffer(alloc, CHUNK_SIZE)?;
     let mut text = Vec::new(alloc);
     read_into(source, &mut chunk, &mut text)?;
     Ok(text)
@@ -73,9 +68,9 @@ pub fn read_file<T: Shelf>(alloc: Global, shelf: &mut T, name: &str) -> Result<V
     ensures stop { IfErr result IsReadStop }
     ensures holds { T.holds shelf.new ≡ T.holds shelf.old }
 {
-    match shelf.aim(name) {
-        Ok(true) => read_whole(alloc, shelf),
-        Ok(false) => Ok(Vec::new(alloc)),
-        Err(_) => Err(LoadFault::Failed),
+    let found = shelf.aim(name)?;
+    if !found {
+        return Ok(Vec::new(alloc));
     }
+    read_whole(alloc, shelf)
 }

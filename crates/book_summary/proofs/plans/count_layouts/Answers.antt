@@ -1,7 +1,7 @@
 use Rattle.std.proofs.Common.{rules, tests}
 use Rattle.std.proofs.lemmas.Iterator.{YieldsList-from_slice}
 use Rattle.std.proofs.lemmas.Iterator.Consumers.{YieldsList-from_filter, count_from_yields_List}
-use Rattle.mib_model.specs.Plans.{has_layout}
+use Rattle.mib_model.specs.Fixed.{has_layout}
 use Rattle.book_summary.proofs.plans.count_layouts.Goals as goal
 
 pub returns-clause-count : goal.returns-clause-count

@@ -2,7 +2,8 @@ use Rattle.std.proofs.Common.{◌∙◌, List, ap, length, filter, map}
 use Rattle.mib_model.specs.declared.rows.PcfRow.{PcfRow}
 use Rattle.mib_model.specs.declared.rows.PidRow.{PidRow}
 use Rattle.mib_model.specs.declared.rows.VpdRow.{VpdRow}
-use Rattle.mib_model.specs.Plans.{distinct, has_plan, has_layout}
+use Rattle.mib_model.specs.Plans.{distinct, has_plan}
+use Rattle.mib_model.specs.Fixed.{has_layout}
 use Rattle.book_summary.proofs.PlanFacts.{plan-count}
 use Rattle.book_summary.proofs.plans.count_plans.Goals as goal
 

@@ -2,7 +2,7 @@ use Rattle.std.proofs.Common.{◌≡◌, ◌∙◌, ◌-◌, ap, take}
 use Rattle.std.specs.List.{find}
 use Rattle.std.specs.Str.{bytes_eq}
 use Rattle.mib_model.specs.declared.rows.CafRow.{CafRow}
-use Rattle.mib_model.specs.RowFlaws.{is_bad_point}
+use Rattle.mib_model.specs.CurveFlaws.{is_bad_point}
 use Rattle.mib_keys.specs.Indexes.{first_place}
 use Rattle.mib_keys.specs.Points.{point_eq, point_in, is_repeated_point}
 use Rattle.mib_keys.proofs.PointFacts.{point-bad}

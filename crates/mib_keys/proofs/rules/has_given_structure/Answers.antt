@@ -3,9 +3,10 @@ use Rattle.mib_model.specs.declared.rows.VpdRow.{VpdRow}
 use Rattle.mib_keys.proofs.AnyFacts.{structure-there}
 use Rattle.mib_keys.proofs.rules.has_given_structure.Goals as goal
 
-pub returns-else-tpsd-lt1 : goal.returns-else-tpsd-lt1
-returns-else-tpsd-lt1 c =
+pub returns-else-has_layout : goal.returns-else-has_layout
+returns-else-has_layout c =
     let vpd = c.args.lookups.now.vpd in
-    let low : int_lt c.args.tpsd (pos 1) ≡ false = search rules in
-    let number : c.unsigned_abs.result ≡ nat_abs c.args.tpsd = search rules in
-    structure-there vpd c.args.tpsd c.structure_rows.result low (c.structure_rows.ensures ∙ ap (λ n. length (filter (λ (row : VpdRow). nat_eq row.tpsd n) vpd)) number)
+    let tpsd = c.args.row.now.tpsd in
+    let low : int_lt tpsd (pos 1) ≡ false = search rules in
+    let number : c.unsigned_abs.result ≡ nat_abs tpsd = search rules in
+    structure-there vpd tpsd c.structure_rows.result low (c.structure_rows.ensures ∙ ap (λ n. length (filter (λ (row : VpdRow). nat_eq row.tpsd n) vpd)) number)

@@ -12,7 +12,8 @@ use Rattle.mib_model.specs.declared.rows.OcfRow.{OcfRow}
 use Rattle.mib_model.specs.declared.rows.Row.TheVariants as row
 use Rattle.mib_model.specs.GroupFlaws.{vpd_rules}
 use Rattle.mib_model.specs.Keys.{same_key}
-use Rattle.mib_model.specs.RowFlaws.{same_packet, pcf_rules, pid_rules, plf_rules, cur_rules, caf_rules, cap_rules, txp_rules, ocf_rules, ocp_rules}
+use Rattle.mib_model.specs.RowFlaws.{same_packet, pcf_rules, pid_rules, plf_rules, ocf_rules, ocp_rules}
+use Rattle.mib_model.specs.CurveFlaws.{cur_rules, caf_rules, cap_rules, txp_rules}
 use Rattle.mib_keys.specs.Alike.{is_like_packet}
 use Rattle.mib_keys.proofs.FlawFacts.{alike-agree, keys-agree, packets-agree, ok-agree}
 use Rattle.mib_keys.proofs.soundness.kind_flaw.Goals as goal

@@ -8,8 +8,8 @@ returns-then-count-eq0-clause-told g c =
     let count = c.if-count-eq0.true in
     let some : 0 < length c.read.new.buf =
     omega (arith, c.read.auto.buf, length-take c.min-size.result c.loop-text.chunk, c.min-size.ensures, c.len-in-loop-text.ensures, c.len.ensures, c.loop-text-test.true, c.loop-text.invariant.room) in
-    let same = rw count at c.in-Ok.ensures.bytes.0 in
-    read_to_end _ _ c.loop-text.text.items (taken_none _ _ _ _ c.loop-text.invariant.octets same) (c.in-Ok.ensures.bytes.1 count some) few
+    let same = rw count at c.in_ok-count.ensures.bytes.0 in
+    read_to_end _ _ c.loop-text.text.items (taken_none _ _ _ _ c.loop-text.invariant.octets same) (c.in_ok-count.ensures.bytes.1 count some) few
 
 pub returns-clause-told : goal.returns-clause-told
 returns-clause-told g c =
