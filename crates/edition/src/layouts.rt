@@ -38,7 +38,7 @@ fn note<L: Ledger>(
     ensures { OnOk result ((spid : ℕ) → get nat_eq layouts.new spid ≡ option_or (get nat_eq layouts.old spid)
         (if is_layout_row spid row then Some (layout_slice sources.now row) else None)) }
 {
-    if row.has_structure() || layouts.contains_key(&row.spid) {
+    if !row.has_layout() || layouts.contains_key(&row.spid) {
         return Ok(());
     }
     let layout = compile(alloc, sources, &row, steps)?;

@@ -26,7 +26,7 @@ fn unbuilt_pid(rows: &[PidRow]) -> Option<usize>
     ensures place { result ≡ position Spec.is_unbuilt_pid rows.now }
     ensures within { IfSome result (λ i. i < length rows.now) }
 {
-    rows.iter().position(|row| row.has_structure())
+    rows.iter().position(|row| !row.has_layout())
 }
 
 // The place of the first row of any.
