@@ -1,2 +1,1 @@
 pub mod TailViews
-pub mod Spellings

@@ -1,8 +1,7 @@
 // Octets in quotes and in hexadecimal digits.
-ghost use Rattle.std.specs.Prelude.{◌≡◌, ◌≤◌, ◌<◌, ◌+◌, ◌*◌, ◌^◌, ◌++◌, length};
+ghost use Rattle.std.specs.Prelude.{◌≡◌, ◌≤◌, ◌<◌, ◌+◌, ◌*◌, ◌^◌, ◌++◌, ◌∷◌, List, ℕ, codes, length};
 ghost use Rattle.std.specs.List.{flat_map};
 ghost use Rattle.mib_model.specs.RawTexts as Spec;
-ghost use Rattle.record_text.specs.Spellings.{spelled};
 ghost use Rattle.record_text.specs.declared.lines.TheConstants.{LINES_ROOM};
 
 use crate::field::{field, whole_octets};
@@ -45,76 +44,88 @@ fn stands_as_itself(octet: u8) -> bool
     (0x20..=0x7E).contains(&octet) && octet != b'"' && octet != b'\\'
 }
 
-// Appends an octet as it stands in quotes.
-fn add_quoted_octet(octet: u8, out: &mut Lines)
+// Appends an octet that doesn't stand as itself, by its digits.
+fn add_escaped(octet: u8, out: &mut Lines)
     requires { length out.old + 4 ≤ LINES_ROOM }
-    ensures text { out.new ≡ out.old ++ Spec.quoted_octet octet }
-    ensures room { length out.new ≤ length out.old + 4 }
+    ensures text { out.new ≡ out.old ++ Spec.backslash ∷ codes "x" ++ Spec.hex_text 2 octet }
+    ensures room { length out.new ≡ length out.old + 4 }
 {
-    if stands_as_itself(octet) {
-        out.push(octet);
-    } else {
-        out.add(b"\\x");
+    out.add(b"\\x");
+    add_hex_octet(octet, out);
+}
+
+/// How an octet is written.
+pub(crate) trait Spelling {
+    ghost spelled: { ℕ → List ℕ };
+
+    fn add(octet: u8, out: &mut Lines)
+        requires { length out.old + 4 ≤ LINES_ROOM }
+        ensures text { out.new ≡ out.old ++ spelled octet }
+        ensures room { length out.new ≤ length out.old + 4 };
+}
+
+/// As two hexadecimal digits.
+pub(crate) struct Digits;
+
+impl Spelling for Digits {
+    ghost spelled = { Spec.hex_text 2 };
+
+    fn add(octet: u8, out: &mut Lines) {
         add_hex_octet(octet, out);
     }
 }
 
-/// How octets are written.
-#[derive(Clone, Copy)]
-pub(crate) enum Spelling {
-    /// Each as two hexadecimal digits.
-    Digits,
-    /// Each as it stands in quotes.
-    Quoted,
-}
+/// As it stands in quotes.
+pub(crate) struct Quoted;
 
-// Appends an octet.
-fn add_octet(spelling: Spelling, octet: u8, out: &mut Lines)
-    requires { length out.old + 4 ≤ LINES_ROOM }
-    ensures text { out.new ≡ out.old ++ spelled spelling octet }
-    ensures room { length out.new ≤ length out.old + 4 }
-{
-    match spelling {
-        Spelling::Digits => add_hex_octet(octet, out),
-        Spelling::Quoted => add_quoted_octet(octet, out),
+impl Spelling for Quoted {
+    ghost spelled = { Spec.quoted_octet };
+
+    #[inline(always)]
+    fn add(octet: u8, out: &mut Lines) {
+        if stands_as_itself(octet) {
+            out.push(octet);
+        } else {
+            add_escaped(octet, out);
+        }
     }
 }
 
 // Appends octets.
-fn add_octets(spelling: Spelling, octets: &[u8], out: &mut Lines)
+fn add_octets<S: Spelling>(octets: &[u8], out: &mut Lines)
     requires { length out.old + 4 * length octets.now ≤ LINES_ROOM }
-    ensures text { out.new ≡ out.old ++ flat_map (spelled spelling) octets.now }
+    ensures text { out.new ≡ out.old ++ flat_map S.spelled octets.now }
     ensures room { length out.new ≤ length out.old + 4 * length octets.now }
 {
     for octet in octets {
-        add_octet(spelling, *octet, out);
+        S::add(*octet, out);
     }
 }
 
 // Appends so many octets from a bit on.
-fn add_shifted(spelling: Spelling, packet: &[u8], at: u64, count: u16, out: &mut Lines)
+fn add_shifted<S: Spelling>(packet: &[u8], at: u64, count: u16, out: &mut Lines)
     requires count { count ≤ 1024 }
     requires inside { at + 8 * count ≤ 8 * length packet.now }
     requires room { length out.old + 4 * count ≤ LINES_ROOM }
-    ensures text { out.new ≡ out.old ++ flat_map (spelled spelling) (Spec.octets_at packet.now at count) }
+    ensures text { out.new ≡ out.old ++ flat_map S.spelled (Spec.octets_at packet.now at count) }
     ensures room { length out.new ≤ length out.old + 4 * count }
 {
     for k in 0..count {
-        add_octet(spelling, field(packet, at, 8 * k, 8) as u8, out);
+        S::add(field(packet, at, 8 * k, 8) as u8, out);
     }
 }
 
 /// Appends so many octets from a bit on, from the packet itself where that bit is an octet's first.
-pub(crate) fn add_octets_at(spelling: Spelling, packet: &[u8], at: u64, count: u16, out: &mut Lines)
+pub(crate) fn add_octets_at<S: Spelling>(packet: &[u8], at: u64, count: u16, out: &mut Lines)
     requires count { count ≤ 1024 }
     requires inside { at + 8 * count ≤ 8 * length packet.now }
     requires room { length out.old + 4 * count ≤ LINES_ROOM }
-    ensures text { out.new ≡ out.old ++ flat_map (spelled spelling) (Spec.octets_at packet.now at count) }
+    ensures text { out.new ≡ out.old ++ flat_map S.spelled (Spec.octets_at packet.now at count) }
     ensures room { length out.new ≤ length out.old + 4 * count }
 {
     match whole_octets(packet, at, count) {
-        Some(octets) => add_octets(spelling, octets, out),
-        None => add_shifted(spelling, packet, at, count, out),
+        Some(octets) => add_octets::<S>(octets, out),
+        None => add_shifted::<S>(packet, at, count, out),
     }
 }
 
@@ -126,6 +137,6 @@ pub(crate) fn add_quoted(octets: &[u8], out: &mut Lines)
     ensures room { length out.new ≤ length out.old + (4 * length octets.now + 2) }
 {
     out.push(b'"');
-    add_octets(Spelling::Quoted, octets, out);
+    add_octets::<Quoted>(octets, out);
     out.push(b'"');
 }

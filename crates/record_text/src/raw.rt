@@ -8,7 +8,7 @@ ghost use Rattle.record_text.specs.declared.raw.TheConstants.{RAW_ROOM};
 
 use crate::field::field;
 use crate::lines::Lines;
-use crate::octets::{Spelling, add_hex_number, add_octets_at};
+use crate::octets::{Digits, Quoted, add_hex_number, add_octets_at};
 use bit_field::number;
 use mib_model::{Shape, Sort, Value};
 
@@ -47,7 +47,7 @@ fn add_hex_field(packet: &[u8], at: u64, count: u16, out: &mut Lines)
     ensures room { length out.new ≤ length out.old + RAW_ROOM }
 {
     out.add(b"HEX:");
-    add_octets_at(Spelling::Digits, packet, at, count, out);
+    add_octets_at::<Digits>(packet, at, count, out);
 }
 
 // Appends so many octets from a bit on, in quotes.
@@ -60,7 +60,7 @@ fn add_quoted_field(packet: &[u8], at: u64, count: u16, out: &mut Lines)
     ensures room { length out.new ≤ length out.old + RAW_ROOM }
 {
     out.push(b'"');
-    add_octets_at(Spelling::Quoted, packet, at, count, out);
+    add_octets_at::<Quoted>(packet, at, count, out);
     out.push(b'"');
 }
 

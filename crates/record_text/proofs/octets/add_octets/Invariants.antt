@@ -1,10 +1,9 @@
 use Rattle.std.proofs.Common.{◌≡◌, ◌≤◌, ◌+◌, ◌*◌, ◌++◌, take, length}
 use Rattle.std.specs.List.{flat_map}
-use Rattle.record_text.specs.Spellings.{spelled}
 use Rattle.record_text.proofs.octets.add_octets.Given as goal
 
 abbrev pub invariant-loop-octet : goal.invariant-loop-octet
-invariant-loop-octet l = record {
-  text : l.out ≡ l.initial.out ++ flat_map (spelled l.spelling) (take l.octet-index l.octets);
+invariant-loop-octet g l = record {
+  text : l.out ≡ l.initial.out ++ flat_map g.S.Spelling.spelled (take l.octet-index l.octets);
   room : length l.out ≤ length l.initial.out + 4 * l.octet-index;
 }

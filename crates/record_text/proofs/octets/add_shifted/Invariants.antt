@@ -1,11 +1,10 @@
 use Rattle.std.proofs.Common.{◌≡◌, ◌≤◌, ◌+◌, ◌*◌, ◌++◌, length}
 use Rattle.std.specs.List.{flat_map}
 use Rattle.mib_model.specs.RawTexts.{octets_at}
-use Rattle.record_text.specs.Spellings.{spelled}
 use Rattle.record_text.proofs.octets.add_shifted.Given as goal
 
 abbrev pub invariant-loop-k : goal.invariant-loop-k
-invariant-loop-k l = record {
-  text : l.out ≡ l.initial.out ++ flat_map (spelled l.spelling) (octets_at l.packet l.at l.k);
+invariant-loop-k g l = record {
+  text : l.out ≡ l.initial.out ++ flat_map g.S.Spelling.spelled (octets_at l.packet l.at l.k);
   room : length l.out ≤ length l.initial.out + 4 * l.k;
 }
