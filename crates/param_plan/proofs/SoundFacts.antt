@@ -1,6 +1,5 @@
 -- In a sound database the points of a curve stand at different x.
-use Rattle.std.proofs.Common.{◌≡◌, ◌≢◌, ◌∙◌, ℕ, ℤ, ◌<◌, Bool, true, false, not, cond, ◌&&◌, ◌||◌, List, [], ◌∷◌, ◌++◌, Option, Some, None, All, length, map, filter, filter_map, find, drop, get_or, nat_eq, option_map, refl, sym, ap, subst, arith}
-use Rattle.std.proofs.lemmas.Bool.{eqb-true}
+use Rattle.std.proofs.Common.{◌≡◌, ◌≢◌, ◌∙◌, ℕ, ℤ, Bool, true, false, not, cond, ◌&&◌, List, [], ◌∷◌, ◌++◌, Option, Some, None, All, map, filter, filter_map, find, drop, nat_eq, option_map, refl, sym, ap}
 use Rattle.std.proofs.lemmas.List.Elements.{All-cons, All-nil}
 use Rattle.std.specs.Cmp.Lexicographic.{bytes_decides}
 use Rattle.std.specs.Cmp.{signed_Decides}
@@ -16,15 +15,13 @@ use Rattle.mib_model.specs.declared.plan.CurveRows.{CurveRows}
 use Rattle.mib_model.specs.declared.plan.CurveRows.TheVariants.{Points, Texts, Poly, Log}
 use Rattle.mib_model.specs.declared.rows.CafRow.{CafRow}
 use Rattle.mib_model.specs.declared.rows.CapRow.{CapRow}
-use Rattle.mib_model.specs.declared.rows.CurRow.{CurRow}
-use Rattle.mib_model.specs.declared.rows.PcfRow.{PcfRow}
 use Rattle.mib_model.specs.Curves.{curve_named, is_real_format, log_named, points_named, poly_named, selections, texts_named}
 use Rattle.mib_model.specs.Flaws.{flaw_if, table_flaws}
 use Rattle.mib_model.specs.Kinds.{kinds}
 use Rattle.mib_model.specs.Letters.{letter}
-use Rattle.mib_model.specs.Plans.{curve_names, curves_for}
+use Rattle.mib_model.specs.Plans.{curve_names}
 use Rattle.mib_model.specs.Points.{Knot, knot_of}
-use Rattle.mib_model.specs.RowFlaws.{cap_rules, is_bad_point, is_bad_x, is_same_x}
+use Rattle.mib_model.specs.RowFlaws.{cap_rules, is_bad_point, is_bad_x}
 use Rattle.mib_model.specs.Soundness.{IsSound, flaws, flaws_of}
 use Rattle.mib_model.specs.WholeNumbers.{whole_number}
 use Rattle.mib_laws.proofs.SoundStructures.{append-none, rows-sound, EachRow, NoFlaw}
