@@ -9,7 +9,7 @@ pub mod DeskFacts
 mod Nesting
 mod WalkFacts
 mod Sorting
-mod SoundStructures
+pub mod SoundStructures
 mod LimitFacts
 mod Ends
 pub mod SliceFacts

@@ -26,7 +26,7 @@ use Rattle.mib_laws.proofs.Nesting.{Fits, Nested, Good, good-rows}
 use Rattle.mib_laws.proofs.Sorting.{Ascending, Different, all-sorted, sorted-ascending, count-sorted, count-before, by_pos}
 
 -- nothing among parts where nothing is in the whole
-append-none : {X : Type 0} (xs ys : List X) → xs ++ ys ≡ [] → (xs ≡ []) × (ys ≡ [])
+pub append-none : {X : Type 0} (xs ys : List X) → xs ++ ys ≡ [] → (xs ≡ []) × (ys ≡ [])
 append-none [] ys h = (refl, h)
 append-none (x ∷ xs) ys h = absurd (omega (arith, ap length h))
 
@@ -35,12 +35,12 @@ cons-none None xs h = (refl, h)
 cons-none (Some x) xs h = absurd (omega (arith, ap length h))
 
 -- what holds of each row with the rows before it
-pub EachRow : {R : Type 0} → (List R → R → Type 0) → List R → List R → Type 0
+unfoldable pub EachRow : {R : Type 0} → (List R → R → Type 0) → List R → List R → Type 0
 EachRow P earlier [] = Unit {0}
 EachRow P earlier (r ∷ rs) = P earlier r × EachRow P (earlier ++ r ∷ []) rs
 
 -- no rule of some finds a flaw in a row
-pub NoFlaw : {R : Type 0} → List (Rule R) → List R → R → Type 0
+unfoldable pub NoFlaw : {R : Type 0} → List (Rule R) → List R → R → Type 0
 NoFlaw [] earlier r = Unit {0}
 NoFlaw (rule ∷ rules) earlier r = (rule earlier r ≡ None) × NoFlaw rules earlier r
 

@@ -9,7 +9,7 @@ use Rattle.curve_plan.specs.declared.rows.CurveRows.{CurveRows as Own}
 use Rattle.curve_plan.specs.Rows.{rows_of}
 use Rattle.param_plan.specs.declared.choice.Choice.{Choice}
 use Rattle.param_plan.specs.Choices.{choice_of, is_chosen, only_choice, choices_in}
-use Rattle.param_plan.specs.Slices.{curve_beside, curve_by}
+use Rattle.param_plan.specs.Slices.{curve_by}
 
 beside-same : (memory : Memory) (pairs : List (CurRow × Option CurveRows))
     → option_and_then (λ choice. choice.curve) (find (is_chosen memory) (map choice_of pairs)) ≡ option_and_then (λ pair. pair.1) (find (λ pair. holds memory pair.0.rlchk pair.0.valpar) pairs)

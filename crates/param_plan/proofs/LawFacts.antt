@@ -1,12 +1,12 @@
 -- Slices and the tables that they are cut out of.
-use Rattle.std.proofs.Common.{◌≡◌, ◌∙◌, ℕ, Bool, true, false, cond, List, [], ◌∷◌, Option, Some, None, option_map, option_and_then, find, zip, map, refl}
+use Rattle.std.proofs.Common.{◌≡◌, ℕ, Bool, true, false, cond, List, [], ◌∷◌, Option, Some, None, option_map, option_and_then, find, zip, map, refl}
 use Rattle.std.specs.Option.{option_or}
 use Rattle.mib_model.specs.declared.plan.CurveRows.{CurveRows}
 use Rattle.mib_model.specs.declared.rows.CurRow.{CurRow}
 use Rattle.mib_model.specs.Curves.{curve_named, curve_of, selections}
 use Rattle.mib_model.specs.Kept.{Memory, holds}
 use Rattle.mib_model.specs.Plans.{curve_names}
-use Rattle.param_plan.specs.Laws.{SlicesAreOfPlans, SlicesHaveCurves}
+use Rattle.param_plan.specs.Laws.{SlicesHaveCurves}
 use Rattle.param_plan.specs.Slices.{curve_beside, curve_by}
 
 beside-named : (named : List ℕ → Option CurveRows) (memory : Memory) (curs : List CurRow)

@@ -2,3 +2,4 @@ pub mod ChoiceFacts
 mod NameFacts
 pub mod PlanFacts
 pub mod LawFacts
+pub mod SoundFacts

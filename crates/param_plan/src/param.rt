@@ -53,10 +53,7 @@ fn checks_of(
 }
 
 // The curves and the checks of a parameter.
-fn parts_of(
-    alloc: Global,
-    rows: &ParamRows,
-) -> Result<(Vec<Choice>, Option<Checks>), AllocError>
+fn parts_of(alloc: Global, rows: &ParamRows) -> Result<(Vec<Choice>, Option<Checks>), AllocError>
     requires { All IsApart (slice_of rows.now).curves }
     ensures choices { IfOk result (λ parts. parts.0.items ≡ choices_in rows.now.pcf.curtx rows.now.curs.items (slice_of rows.now).curves) }
     ensures checks { IfOk result (λ parts. parts.1 ≡ checks_in (slice_of rows.now)) }

@@ -1,4 +1,4 @@
-use Rattle.std.proofs.Common.{◌≡◌, All, List, Option, option_map, sym, subst}
+use Rattle.std.proofs.Common.{All, List, Option, option_map, sym, subst}
 use Rattle.curve_plan.specs.declared.rows.CurveRows.{CurveRows}
 use Rattle.curve_plan.specs.Rows.{rows_of}
 use Rattle.param_plan.specs.Choices.{IsApart}

@@ -1,4 +1,4 @@
-use Rattle.std.proofs.Common.{◌≡◌, ◌∙◌, ap, option_and_then, find}
+use Rattle.std.proofs.Common.{◌∙◌, ap, option_and_then, find}
 use Rattle.param_plan.specs.declared.choice.Choice.{Choice}
 use Rattle.std.proofs.Common.{List}
 use Rattle.param_plan.specs.Choices.{is_chosen}

@@ -1,4 +1,4 @@
-use Rattle.std.proofs.Common.{◌≡◌, ◌∙◌, ◌<◌, ℕ, Equal, Less, Greater, List, Bool, ap, sym, subst, rules, option_map, Some, None, map, find, length, get_or, Global}
+use Rattle.std.proofs.Common.{◌≡◌, ◌∙◌, ◌<◌, ℕ, Equal, Less, List, ap, sym, subst, rules, option_map, Some, find, length, get_or, Global}
 use Rattle.std.proofs.lemmas.List.Sorted.{answers_always}
 use Rattle.std.specs.Arc.{arc_value}
 use Rattle.std.specs.Cmp.Lexicographic.{slice_cmp}
@@ -25,7 +25,7 @@ returns-in-Ok c =
     let by_key = c.in-Ok.ensures.position key (answers_always _ _ _ (λ f a r g called. search rules)) in
     let is : get_or plans at x ≡ x = sym c.index.ensures in
     let same : slice_cmp nat_cmp (key x) name ≡ Equal =
-      subst (λ y. slice_cmp nat_cmp (key y) name ≡ Equal) is (subst (λ (xs : List (Arc ParamSlice Global)). slice_cmp nat_cmp (key (get_or xs at x)) name ≡ Equal) c.deref.ensures.value (by_key x)) in
+    subst (λ y. slice_cmp nat_cmp (key y) name ≡ Equal) is (subst (λ (xs : List (Arc ParamSlice Global)). slice_cmp nat_cmp (key (get_or xs at x)) name ≡ Equal) c.deref.ensures.value (by_key x)) in
     let found = named-found key name plans rise at x below is same in
     ap Some c.deref-in-Ok.ensures ∙ (ap (option_map arc_value) (sym found) ∙ (sym (find-map arc_value (λ slice. bytes_eq slice.pcf.name name) plans) ∙
     ap (find (λ (slice : ParamSlice). bytes_eq slice.pcf.name name)) c.self.view_is))
