@@ -4,7 +4,8 @@
     bench/generate.py FOLDER
 
 Below FOLDER come `rows_N`, a sound folder of N rows for each N of ROWS, `nested_N`, one structure of N rows whose groups
-are nested to half its depth, for each N of NESTED, and `fixed` with `fixed.feed`, PACKETS packets of two values of 16
+are nested to half its depth, for each N of NESTED, `mission`, a sound folder whose tables are as large as a mission's,
+most of them places of parameters, and `fixed` with `fixed.feed`, PACKETS packets of two values of 16
 bits by three tables. What is there already is kept.
 """
 import os
@@ -78,6 +79,31 @@ def nested_tables(count):
     }
 
 
+def mission_tables():
+    """Sound tables of the sizes that a mission's have: 20,000 parameters at 69,000 places in 1,500 packets, a third of
+    them checked, and 300 curves of each kind."""
+    parameters, packets, curves = 20_000, 1_500, 300
+    each = range(parameters)
+    return {
+        "pcf": [(parameter(i), "a parameter", i, "", 3, 12, "", "", "", "S" if i % 7 == 0 else "N", "R",
+                 f"T{i % curves:07d}" if i % 7 == 0 else curve(i % curves) if i % 3 == 1 else "") for i in each],
+        "pid": [(3, 25, i % 2047, i // 2047, 0, i + 1, "a packet", "", -1, 10) for i in range(packets)],
+        "pic": [(i, 25, 10, 16, -1, 0) for i in range(7)],
+        "tpcf": [(i + 1, f"packet {i + 1}") for i in range(packets)],
+        "plf": [(parameter(i * 7 % parameters), i // 46 + 1, 16 + i % 46 * 2, 0) for i in range(46 * packets)],
+        "vpd": [(i // 5 + 1, i % 5, parameter(i % parameters)) for i in range(1_300)],
+        "cur": [(parameter(i * 7 + 3), 1, parameter(i), 1, curve(i % curves)) for i in range(450) if (i * 7 + 3) % 3 != 1 and (i * 7 + 3) % 7],
+        "caf": [(curve(i), "", "R", "U", "D", "", "", "P" if i % 2 else "F") for i in range(curves)],
+        "cap": [(curve(i // 9), i % 9 * 10, f"{i}.5") for i in range(9 * curves)],
+        "txf": [(f"T{i:07d}", "", "U") for i in range(curves)],
+        "txp": [(f"T{i // 5:07d}", i % 5 * 10, i % 5 * 10 + 9, f"STATE {i % 5}") for i in range(5 * curves)],
+        "mcf": [(f"M{i:07d}", "", "1.5", "0.25") for i in range(curves)],
+        "lgf": [(f"L{i:07d}",) for i in range(curves)],
+        "ocf": [(parameter(i * 3), 2, "", "U") for i in range(6_600)],
+        "ocp": [(parameter(i // 2 * 3), i % 2 + 1, "SH"[i % 2], -10 * (i % 2), 1000) for i in range(13_200)],
+    }
+
+
 def fixed_tables():
     """Eight packets of two values each."""
     return {
@@ -108,6 +134,9 @@ def main():
         folder = os.path.join(top, f"nested_{count}")
         if not os.path.isdir(folder):
             write_tables(folder, nested_tables(count))
+    mission = os.path.join(top, "mission")
+    if not os.path.isdir(mission):
+        write_tables(mission, mission_tables(), random.Random(2))
     feed = os.path.join(top, "fixed.feed")
     if not os.path.isfile(feed):
         write_tables(os.path.join(top, "fixed"), fixed_tables())

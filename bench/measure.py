@@ -4,8 +4,9 @@
     bench/measure.py FOLDER PROGRAM [PROGRAM..]
 
 Makes in FOLDER what bench/generate.py makes, where it isn't there, and runs the programs in turn, REPEATS rounds: the
-best time from start to end and the greatest resident set count. Further programs have to have the same command line;
-their columns are followed by the time as a multiple of theirs. What they print has to be the same.
+best time from start to end and the greatest resident set count; a set below some 18 MB is the script's own. Further
+programs have to have the same command line; their columns are followed by the time as a multiple of theirs. What they
+print has to be the same.
 """
 import hashlib
 import os
@@ -22,6 +23,7 @@ def cases(top):
     """Pairs of a name and the words of a call."""
     for count in generate.ROWS:
         yield f"check, {count:,} rows", ["check", os.path.join(top, f"rows_{count}")]
+    yield "check, as large as a mission's", ["check", os.path.join(top, "mission")]
     for count in generate.NESTED:
         yield f"check, a structure of {count:,} rows", ["check", os.path.join(top, f"nested_{count}")]
     yield f"decode, {generate.PACKETS:,} packets", ["decode", os.path.join(top, "fixed"), os.path.join(top, "fixed.feed")]

@@ -1,9 +1,8 @@
 -- The rows of one table among rows of any table: put and taken out by their keys.
-use Rattle.std.proofs.Common.{◌≡◌, ℕ, suc, ◌+◌, Bool, true, false, cond, not, ◌||◌, List, [], ◌∷◌, ◌++◌, map, set, take, drop, filter_map, length, get_or, ◌<◌, Option, Some, None, is_some, refl, ap, sym, ◌∙◌}
-use Rattle.std.specs.List.{position, position_from, prefix_len, list_any, remove, cons_option}
+use Rattle.std.proofs.Common.{◌≡◌, ℕ, suc, ◌+◌, Bool, true, false, cond, not, ◌||◌, List, [], ◌∷◌, ◌++◌, map, set, take, drop, filter_map, Option, Some, None, is_some, refl, ap, sym, ◌∙◌}
+use Rattle.std.specs.List.{position, position_from, prefix_len, list_any, remove}
 use Rattle.std.proofs.lemmas.Iterator.Adapters.{position_from-zero}
-use Rattle.std.proofs.lemmas.List.Elements.{filter_map-append}
-use Rattle.std.proofs.lemmas.List.{take_more, map-set, map-append, length-map, take-map, drop-map}
+use Rattle.std.proofs.lemmas.List.{map-set, map-append, length-map, take-map, drop-map}
 use Rattle.mib_model.specs.declared.key.Key.{Key}
 use Rattle.mib_model.specs.declared.rows.Row.{Row}
 use Rattle.mib_model.specs.Drafts.{put_in, put_at, without_key, taken_at, is_held}

@@ -1,4 +1,3 @@
-use Rattle.mib_model.specs.Lines.{lines}
 use Rattle.mib_rows.proofs.TableFacts.{table-given}
 use Rattle.mib_rows.proofs.table.table.Goals as goal
 

@@ -1,4 +1,4 @@
-use Rattle.std.proofs.Common.{ap, ◌∙◌, Some, None}
+use Rattle.std.proofs.Common.{ap, Some, None}
 use Rattle.mib_model.specs.Keys.{key_in}
 use Rattle.mib_tables.specs.Puts.{put_made}
 use Rattle.mib_tables.proofs.TableFacts.{put_there, put_behind, held_by}
