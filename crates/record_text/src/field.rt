@@ -1,5 +1,5 @@
 // The fields of a value's bits.
-ghost use Rattle.std.specs.Prelude.{◌≡◌, ◌≤◌, ◌<◌, ◌+◌, ◌*◌, ◌^◌, length, IfSome};
+ghost use Rattle.std.specs.Prelude.{◌≡◌, ◌≤◌, ◌<◌, ◌+◌, ◌*◌, ◌%◌, ◌^◌, ◌≢◌, length, IfSome, IfNone};
 ghost use Rattle.mib_model.specs.Bits.{bits};
 ghost use Rattle.mib_model.specs.RawTexts.{octets_at};
 
@@ -16,11 +16,12 @@ pub(crate) fn field(packet: &[u8], at: u64, offset: u16, width: u8) -> u64
     unsigned(from_octet, at % 8 + u64::from(offset), width).unwrap_or(0)
 }
 
-/// So many octets from a bit on, where that bit is an octet's first.
+/// So many octets from a bit on, where that bit is an octet's first, and else `None`.
 pub(crate) fn whole_octets(packet: &[u8], at: u64, count: u16) -> Option<&[u8]>
     requires { at + 8 * count ≤ 8 * length packet.now }
     ensures octets { IfSome result (λ octets. octets.now ≡ octets_at packet.now at count) }
     ensures count { IfSome result (λ octets. length octets.now ≡ count) }
+    ensures none { IfNone result (at % 8 ≢ 0) }
 {
     if at % 8 != 0 {
         return None;
