@@ -5,12 +5,11 @@ ghost use Rattle.mib_model.specs.TextTables.{cur, cur_row, txf, txf_row, txp, tx
 ghost use Rattle.mib_model.specs.CurveTables.{caf, caf_row, cap, cap_row, mcf, mcf_row, lgf, lgf_row};
 ghost use Rattle.mib_rows.specs.RowsRead.{rows_read};
 
-use crate::field::{decimal, decimal_or_zero, fault, integer, letter_or, name, natural, text};
 use crate::fields::Fields;
 use crate::row::ReadRow;
 use mib_model::{
-    CafRow, CapRow, CurRow, LgfRow, LineFault, McfRow, MibCode, RAW_LEAST, RAW_MOST, TxfRow,
-    TxpRow, WORD_MOST,
+    CafRow, CapRow, CurRow, LgfRow, LineFault, McfRow, RAW_LEAST, RAW_MOST, TxfRow, TxpRow,
+    WORD_MOST,
 };
 
 impl ReadRow for CurRow {
@@ -19,15 +18,13 @@ impl ReadRow for CurRow {
     ghost is_row = { rows_read.of_cur };
 
     fn read(row: &Fields) -> Result<CurRow, LineFault> {
-        if row.are_fewer(5) {
-            return Err(fault(0, MibCode::FewFields));
-        }
+        row.need(5)?;
         Ok(CurRow {
-            pname: name(row.field(1), 1)?,
-            pos: natural(row.field(2), 2, 0, WORD_MOST)? as u16,
-            rlchk: name(row.field(3), 3)?,
-            valpar: integer(row.field(4), 4, RAW_LEAST, RAW_MOST)?,
-            curve: name(row.field(5), 5)?,
+            pname: row.column(1).name()?,
+            pos: row.column(2).natural(0, WORD_MOST)? as u16,
+            rlchk: row.column(3).name()?,
+            valpar: row.column(4).integer(RAW_LEAST, RAW_MOST)?,
+            curve: row.column(5).name()?,
         })
     }
 }
@@ -38,15 +35,13 @@ impl ReadRow for CafRow {
     ghost is_row = { rows_read.of_caf };
 
     fn read(row: &Fields) -> Result<CafRow, LineFault> {
-        if row.are_fewer(1) {
-            return Err(fault(0, MibCode::FewFields));
-        }
+        row.need(1)?;
         Ok(CafRow {
-            numbr: name(row.field(1), 1)?,
-            engfmt: letter_or(row.field(3), 3, b"IUR", b'R')?,
-            rawfmt: letter_or(row.field(4), 4, b"IUR", b'U')?,
-            radix: letter_or(row.field(5), 5, b"DHO", b'D')?,
-            inter: letter_or(row.field(8), 8, b"PF", b'F')?,
+            numbr: row.column(1).name()?,
+            engfmt: row.column(3).letter_or(b"IUR", b'R')?,
+            rawfmt: row.column(4).letter_or(b"IUR", b'U')?,
+            radix: row.column(5).letter_or(b"DHO", b'D')?,
+            inter: row.column(8).letter_or(b"PF", b'F')?,
         })
     }
 }
@@ -57,13 +52,11 @@ impl ReadRow for CapRow {
     ghost is_row = { rows_read.of_cap };
 
     fn read(row: &Fields) -> Result<CapRow, LineFault> {
-        if row.are_fewer(3) {
-            return Err(fault(0, MibCode::FewFields));
-        }
+        row.need(3)?;
         Ok(CapRow {
-            numbr: name(row.field(1), 1)?,
-            xvals: text(row.field(2), 2)?,
-            yvals: decimal(row.field(3), 3)?,
+            numbr: row.column(1).name()?,
+            xvals: row.column(2).text()?,
+            yvals: row.column(3).decimal()?,
         })
     }
 }
@@ -74,12 +67,10 @@ impl ReadRow for TxfRow {
     ghost is_row = { rows_read.of_txf };
 
     fn read(row: &Fields) -> Result<TxfRow, LineFault> {
-        if row.are_fewer(1) {
-            return Err(fault(0, MibCode::FewFields));
-        }
+        row.need(1)?;
         Ok(TxfRow {
-            numbr: name(row.field(1), 1)?,
-            rawfmt: letter_or(row.field(3), 3, b"IUR", b'U')?,
+            numbr: row.column(1).name()?,
+            rawfmt: row.column(3).letter_or(b"IUR", b'U')?,
         })
     }
 }
@@ -90,14 +81,12 @@ impl ReadRow for TxpRow {
     ghost is_row = { rows_read.of_txp };
 
     fn read(row: &Fields) -> Result<TxpRow, LineFault> {
-        if row.are_fewer(4) {
-            return Err(fault(0, MibCode::FewFields));
-        }
+        row.need(4)?;
         Ok(TxpRow {
-            numbr: name(row.field(1), 1)?,
-            low: text(row.field(2), 2)?,
-            high: text(row.field(3), 3)?,
-            altxt: text(row.field(4), 4)?,
+            numbr: row.column(1).name()?,
+            low: row.column(2).text()?,
+            high: row.column(3).text()?,
+            altxt: row.column(4).text()?,
         })
     }
 }
@@ -108,16 +97,14 @@ impl ReadRow for McfRow {
     ghost is_row = { rows_read.of_mcf };
 
     fn read(row: &Fields) -> Result<McfRow, LineFault> {
-        if row.are_fewer(3) {
-            return Err(fault(0, MibCode::FewFields));
-        }
+        row.need(3)?;
         Ok(McfRow {
-            ident: name(row.field(1), 1)?,
-            pol1: decimal(row.field(3), 3)?,
-            pol2: decimal_or_zero(row.field(4), 4)?,
-            pol3: decimal_or_zero(row.field(5), 5)?,
-            pol4: decimal_or_zero(row.field(6), 6)?,
-            pol5: decimal_or_zero(row.field(7), 7)?,
+            ident: row.column(1).name()?,
+            pol1: row.column(3).decimal()?,
+            pol2: row.column(4).decimal_or_zero()?,
+            pol3: row.column(5).decimal_or_zero()?,
+            pol4: row.column(6).decimal_or_zero()?,
+            pol5: row.column(7).decimal_or_zero()?,
         })
     }
 }
@@ -128,11 +115,9 @@ impl ReadRow for LgfRow {
     ghost is_row = { rows_read.of_lgf };
 
     fn read(row: &Fields) -> Result<LgfRow, LineFault> {
-        if row.are_fewer(1) {
-            return Err(fault(0, MibCode::FewFields));
-        }
+        row.need(1)?;
         Ok(LgfRow {
-            ident: name(row.field(1), 1)?,
+            ident: row.column(1).name()?,
         })
     }
 }

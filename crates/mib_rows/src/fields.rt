@@ -1,11 +1,15 @@
-ghost use Rattle.std.specs.Prelude.{◌≡◌, ◌∷◌, ◌+◌, ◌<◌, ◌≤◌, ◌^◌, [], IfOk, IfErr, length, nat_lt, slice_get, true, unwrap_or};
+ghost use Rattle.std.specs.Prelude.{◌≡◌, ◌∷◌, ◌+◌, ◌<◌, ◌≤◌, ◌^◌, [], IfOk, IfErr, length, nat_lt, slice_get, true, false, unwrap_or};
+ghost use Rattle.mib_model.specs.declared.fault.MibCode.TheVariants.{FewFields};
 ghost use Rattle.csv.specs.Records.{fields_of, field_at as cell_in};
+ghost use Rattle.mib_model.specs.Forms.{fault_in};
 ghost use Rattle.mib_model.specs.Lines.{fields, field_at};
 ghost use Rattle.mib_rows.specs.Left.{IsAtRecord, TakesLine, left_in, line_of};
 
+use crate::field::fault;
 use crate::lines::without_return;
 use crate::read_fault::ReadFault;
 use csv::{ByteRecord, Error, Reader, ReaderBuilder, Terminator};
+use mib_model::{LineFault, MibCode};
 use std::alloc::{AllocError, Global};
 use std::io::Read;
 use std::marker::Model;
@@ -35,6 +39,13 @@ fn cell(cells: &ByteRecord, at: usize) -> &[u8]
         Some(cell) => cell,
         None => &[],
     }
+}
+
+/// A field of a line, and the number of its column.
+#[derive(Clone, Copy)]
+pub struct Field<'a> {
+    pub octets: &'a [u8],
+    pub column: u8,
 }
 
 /// The fields of a line, at places that count from 1. Contracts see them as a list.
@@ -112,19 +123,36 @@ impl Fields {
         field
     }
 
-    /// The field at a place: empty where the line has none.
-    pub fn field(&self, place: u8) -> &[u8]
+    /// The field at a place, which stands for a column: empty where the line has none.
+    pub fn part(&self, place: u8, column: u8) -> Field<'_>
         requires { 1 ≤ place }
-        ensures { result.now ≡ field_at self.now place }
+        ensures octets { result.octets.now ≡ field_at self.now place }
+        ensures column { result.column ≡ column }
     {
-        self.nth(usize::from(place) - 1)
+        Field {
+            octets: self.nth(usize::from(place) - 1),
+            column,
+        }
     }
 
-    /// Whether the line has fewer fields than these.
-    pub fn are_fewer(&self, least: u8) -> bool
-        ensures { result ≡ nat_lt (length self.now) least }
+    /// The field of a column: empty where the line has none.
+    pub fn column(&self, number: u8) -> Field<'_>
+        requires { 1 ≤ number }
+        ensures octets { result.octets.now ≡ field_at self.now number }
+        ensures column { result.column ≡ number }
     {
-        self.len() < usize::from(least)
+        self.part(number, number)
+    }
+
+    /// That the line has no fewer fields than these.
+    pub fn need(&self, least: u8) -> Result<(), LineFault>
+        ensures enough { IfOk result (λ _. nat_lt (length self.now) least ≡ false) }
+        ensures few { IfErr result (λ e. (nat_lt (length self.now) least ≡ true) × (e ≡ fault_in 0 FewFields)) }
+    {
+        if self.len() < usize::from(least) {
+            return Err(fault(0, MibCode::FewFields));
+        }
+        Ok(())
     }
 
     /// Whether the line has more octets than these.

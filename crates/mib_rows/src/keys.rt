@@ -5,29 +5,24 @@ ghost use Rattle.mib_model.specs.Columns.{Must};
 ghost use Rattle.mib_model.specs.Forms.{Named};
 ghost use Rattle.mib_model.specs.RowTexts.{key_of};
 
-use crate::field::{fault, name, natural, natural_or_none, text};
 use crate::fields::Fields;
-use mib_model::{ID_MOST, Key, Kind, LineFault, MibCode, Name, OCTET_MOST, TPSD_MOST, WORD_MOST};
+use mib_model::{ID_MOST, Key, Kind, LineFault, Name, OCTET_MOST, TPSD_MOST, WORD_MOST};
 
 // A key that is one name, in the first column.
 fn one_name(row: &Fields) -> Result<Name, LineFault>
     ensures { result ≡ key_made_by (Must 1 Named ∷ []) (λ (name, end). name) row.now }
 {
-    if row.are_fewer(1) {
-        return Err(fault(0, MibCode::FewFields));
-    }
-    name(row.field(1), 1)
+    row.need(1)?;
+    row.column(1).name()
 }
 
 #[tactic(auto, unfolding(mib_model::specs::RowTexts::key_of))]
 fn pid(row: &Fields) -> Result<Key, LineFault>
     ensures { result ≡ key_of Kind.Pid row.now }
 {
-    if row.are_fewer(1) {
-        return Err(fault(0, MibCode::FewFields));
-    }
+    row.need(1)?;
     Ok(Key::Pid {
-        spid: natural(row.field(1), 6, 1, ID_MOST)? as u32,
+        spid: row.part(1, 6).natural(1, ID_MOST)? as u32,
     })
 }
 
@@ -35,13 +30,14 @@ fn pid(row: &Fields) -> Result<Key, LineFault>
 fn pic(row: &Fields) -> Result<Key, LineFault>
     ensures { result ≡ key_of Kind.Pic row.now }
 {
-    if row.are_fewer(2) {
-        return Err(fault(0, MibCode::FewFields));
-    }
+    row.need(2)?;
     Ok(Key::Pic {
-        service: natural(row.field(1), 1, 0, OCTET_MOST)? as u8,
-        subtype: natural(row.field(2), 2, 0, OCTET_MOST)? as u8,
-        apid: natural_or_none(row.field(3), 7, 0, WORD_MOST)?.map(|apid| apid as u16),
+        service: row.column(1).natural(0, OCTET_MOST)? as u8,
+        subtype: row.column(2).natural(0, OCTET_MOST)? as u8,
+        apid: row
+            .part(3, 7)
+            .natural_or_none(0, WORD_MOST)?
+            .map(|apid| apid as u16),
     })
 }
 
@@ -49,11 +45,9 @@ fn pic(row: &Fields) -> Result<Key, LineFault>
 fn tpcf(row: &Fields) -> Result<Key, LineFault>
     ensures { result ≡ key_of Kind.Tpcf row.now }
 {
-    if row.are_fewer(1) {
-        return Err(fault(0, MibCode::FewFields));
-    }
+    row.need(1)?;
     Ok(Key::Tpcf {
-        spid: natural(row.field(1), 1, 1, ID_MOST)? as u32,
+        spid: row.column(1).natural(1, ID_MOST)? as u32,
     })
 }
 
@@ -61,12 +55,10 @@ fn tpcf(row: &Fields) -> Result<Key, LineFault>
 fn plf(row: &Fields) -> Result<Key, LineFault>
     ensures { result ≡ key_of Kind.Plf row.now }
 {
-    if row.are_fewer(2) {
-        return Err(fault(0, MibCode::FewFields));
-    }
+    row.need(2)?;
     Ok(Key::Plf {
-        name: name(row.field(1), 1)?,
-        spid: natural(row.field(2), 2, 1, ID_MOST)? as u32,
+        name: row.column(1).name()?,
+        spid: row.column(2).natural(1, ID_MOST)? as u32,
     })
 }
 
@@ -74,12 +66,10 @@ fn plf(row: &Fields) -> Result<Key, LineFault>
 fn vpd(row: &Fields) -> Result<Key, LineFault>
     ensures { result ≡ key_of Kind.Vpd row.now }
 {
-    if row.are_fewer(2) {
-        return Err(fault(0, MibCode::FewFields));
-    }
+    row.need(2)?;
     Ok(Key::Vpd {
-        tpsd: natural(row.field(1), 1, 1, TPSD_MOST)? as u32,
-        pos: natural(row.field(2), 2, 0, WORD_MOST)? as u16,
+        tpsd: row.column(1).natural(1, TPSD_MOST)? as u32,
+        pos: row.column(2).natural(0, WORD_MOST)? as u16,
     })
 }
 
@@ -87,12 +77,10 @@ fn vpd(row: &Fields) -> Result<Key, LineFault>
 fn cur(row: &Fields) -> Result<Key, LineFault>
     ensures { result ≡ key_of Kind.Cur row.now }
 {
-    if row.are_fewer(2) {
-        return Err(fault(0, MibCode::FewFields));
-    }
+    row.need(2)?;
     Ok(Key::Cur {
-        pname: name(row.field(1), 1)?,
-        pos: natural(row.field(2), 2, 0, WORD_MOST)? as u16,
+        pname: row.column(1).name()?,
+        pos: row.column(2).natural(0, WORD_MOST)? as u16,
     })
 }
 
@@ -100,12 +88,10 @@ fn cur(row: &Fields) -> Result<Key, LineFault>
 fn cap(row: &Fields) -> Result<Key, LineFault>
     ensures { result ≡ key_of Kind.Cap row.now }
 {
-    if row.are_fewer(2) {
-        return Err(fault(0, MibCode::FewFields));
-    }
+    row.need(2)?;
     Ok(Key::Cap {
-        numbr: name(row.field(1), 1)?,
-        xvals: text(row.field(2), 2)?,
+        numbr: row.column(1).name()?,
+        xvals: row.column(2).text()?,
     })
 }
 
@@ -113,12 +99,10 @@ fn cap(row: &Fields) -> Result<Key, LineFault>
 fn txp(row: &Fields) -> Result<Key, LineFault>
     ensures { result ≡ key_of Kind.Txp row.now }
 {
-    if row.are_fewer(2) {
-        return Err(fault(0, MibCode::FewFields));
-    }
+    row.need(2)?;
     Ok(Key::Txp {
-        numbr: name(row.field(1), 1)?,
-        low: text(row.field(2), 2)?,
+        numbr: row.column(1).name()?,
+        low: row.column(2).text()?,
     })
 }
 
@@ -126,12 +110,10 @@ fn txp(row: &Fields) -> Result<Key, LineFault>
 fn ocp(row: &Fields) -> Result<Key, LineFault>
     ensures { result ≡ key_of Kind.Ocp row.now }
 {
-    if row.are_fewer(2) {
-        return Err(fault(0, MibCode::FewFields));
-    }
+    row.need(2)?;
     Ok(Key::Ocp {
-        name: name(row.field(1), 1)?,
-        pos: natural(row.field(2), 2, 0, WORD_MOST)? as u16,
+        name: row.column(1).name()?,
+        pos: row.column(2).natural(0, WORD_MOST)? as u16,
     })
 }
 

@@ -5,15 +5,11 @@ ghost use Rattle.mib_model.specs.PacketTables.{pid, pid_row, pic, pic_row, tpcf,
 ghost use Rattle.mib_model.specs.LayoutTables.{plf, plf_row, vpd, vpd_row};
 ghost use Rattle.mib_rows.specs.RowsRead.{rows_read};
 
-use crate::field::{
-    fault, integer_or, letter_or, name, natural, natural_or, natural_or_none, text_or_none,
-};
 use crate::fields::Fields;
 use crate::row::ReadRow;
 use mib_model::{
-    BIT_LAST, DISCRIMINANT_BITS, DISCRIMINANT_MOST, DiscriminantWidth, ID_MOST, LineFault, MibCode, OCTET_LAST,
-    OCTET_MOST, OFFSET_LEAST, OFFSET_MOST, PicRow, PidRow, PlfRow, TPSD_MOST, TpcfRow, VpdRow,
-    WORD_MOST,
+    BIT_LAST, DISCRIMINANT_BITS, DISCRIMINANT_MOST, DiscriminantWidth, ID_MOST, LineFault, OCTET_LAST, OCTET_MOST,
+    OFFSET_LEAST, OFFSET_MOST, PicRow, PidRow, PlfRow, TPSD_MOST, TpcfRow, VpdRow, WORD_MOST,
 };
 
 impl ReadRow for PidRow {
@@ -22,18 +18,16 @@ impl ReadRow for PidRow {
     ghost is_row = { rows_read.of_pid };
 
     fn read(row: &Fields) -> Result<PidRow, LineFault> {
-        if row.are_fewer(6) {
-            return Err(fault(0, MibCode::FewFields));
-        }
+        row.need(6)?;
         Ok(PidRow {
-            service: natural(row.field(1), 1, 0, OCTET_MOST)? as u8,
-            subtype: natural(row.field(2), 2, 0, OCTET_MOST)? as u8,
-            apid: natural(row.field(3), 3, 0, WORD_MOST)? as u16,
-            pi1_val: natural_or(row.field(4), 4, 0, DISCRIMINANT_MOST, 0)?,
-            pi2_val: natural_or(row.field(5), 5, 0, DISCRIMINANT_MOST, 0)?,
-            spid: natural(row.field(6), 6, 1, ID_MOST)? as u32,
-            tpsd: integer_or(row.field(9), 9, -1, i128::from(TPSD_MOST), -1)? as i32,
-            dfhsize: natural_or(row.field(10), 10, 0, OCTET_MOST, 0)? as u8,
+            service: row.column(1).natural(0, OCTET_MOST)? as u8,
+            subtype: row.column(2).natural(0, OCTET_MOST)? as u8,
+            apid: row.column(3).natural(0, WORD_MOST)? as u16,
+            pi1_val: row.column(4).natural_or(0, DISCRIMINANT_MOST, 0)?,
+            pi2_val: row.column(5).natural_or(0, DISCRIMINANT_MOST, 0)?,
+            spid: row.column(6).natural(1, ID_MOST)? as u32,
+            tpsd: row.column(9).integer_or(-1, i128::from(TPSD_MOST), -1)? as i32,
+            dfhsize: row.column(10).natural_or(0, OCTET_MOST, 0)? as u8,
         })
     }
 }
@@ -44,17 +38,18 @@ impl ReadRow for PicRow {
     ghost is_row = { rows_read.of_pic };
 
     fn read(row: &Fields) -> Result<PicRow, LineFault> {
-        if row.are_fewer(2) {
-            return Err(fault(0, MibCode::FewFields));
-        }
+        row.need(2)?;
         Ok(PicRow {
-            service: natural(row.field(1), 1, 0, OCTET_MOST)? as u8,
-            subtype: natural(row.field(2), 2, 0, OCTET_MOST)? as u8,
-            pi1_off: integer_or(row.field(3), 3, -1, i128::from(OCTET_LAST), -1)? as i32,
-            pi1_wid: DiscriminantWidth::new(natural_or(row.field(4), 4, 0, DISCRIMINANT_BITS, 0)? as u8),
-            pi2_off: integer_or(row.field(5), 5, -1, i128::from(OCTET_LAST), -1)? as i32,
-            pi2_wid: DiscriminantWidth::new(natural_or(row.field(6), 6, 0, DISCRIMINANT_BITS, 0)? as u8),
-            apid: natural_or_none(row.field(7), 7, 0, WORD_MOST)?.map(|apid| apid as u16),
+            service: row.column(1).natural(0, OCTET_MOST)? as u8,
+            subtype: row.column(2).natural(0, OCTET_MOST)? as u8,
+            pi1_off: row.column(3).integer_or(-1, i128::from(OCTET_LAST), -1)? as i32,
+            pi1_wid: DiscriminantWidth::new(row.column(4).natural_or(0, DISCRIMINANT_BITS, 0)? as u8),
+            pi2_off: row.column(5).integer_or(-1, i128::from(OCTET_LAST), -1)? as i32,
+            pi2_wid: DiscriminantWidth::new(row.column(6).natural_or(0, DISCRIMINANT_BITS, 0)? as u8),
+            apid: row
+                .column(7)
+                .natural_or_none(0, WORD_MOST)?
+                .map(|apid| apid as u16),
         })
     }
 }
@@ -65,12 +60,10 @@ impl ReadRow for TpcfRow {
     ghost is_row = { rows_read.of_tpcf };
 
     fn read(row: &Fields) -> Result<TpcfRow, LineFault> {
-        if row.are_fewer(1) {
-            return Err(fault(0, MibCode::FewFields));
-        }
+        row.need(1)?;
         Ok(TpcfRow {
-            spid: natural(row.field(1), 1, 1, ID_MOST)? as u32,
-            name: text_or_none(row.field(2), 2)?,
+            spid: row.column(1).natural(1, ID_MOST)? as u32,
+            name: row.column(2).text_or_none()?,
         })
     }
 }
@@ -81,16 +74,14 @@ impl ReadRow for PlfRow {
     ghost is_row = { rows_read.of_plf };
 
     fn read(row: &Fields) -> Result<PlfRow, LineFault> {
-        if row.are_fewer(4) {
-            return Err(fault(0, MibCode::FewFields));
-        }
+        row.need(4)?;
         Ok(PlfRow {
-            name: name(row.field(1), 1)?,
-            spid: natural(row.field(2), 2, 1, ID_MOST)? as u32,
-            offby: natural(row.field(3), 3, 0, OCTET_LAST)? as u32,
-            offbi: natural(row.field(4), 4, 0, BIT_LAST)? as u8,
-            nbocc: natural_or(row.field(5), 5, 1, WORD_MOST, 1)? as u16,
-            lgocc: natural_or(row.field(6), 6, 0, WORD_MOST, 0)? as u16,
+            name: row.column(1).name()?,
+            spid: row.column(2).natural(1, ID_MOST)? as u32,
+            offby: row.column(3).natural(0, OCTET_LAST)? as u32,
+            offbi: row.column(4).natural(0, BIT_LAST)? as u8,
+            nbocc: row.column(5).natural_or(1, WORD_MOST, 1)? as u16,
+            lgocc: row.column(6).natural_or(0, WORD_MOST, 0)? as u16,
         })
     }
 }
@@ -101,18 +92,16 @@ impl ReadRow for VpdRow {
     ghost is_row = { rows_read.of_vpd };
 
     fn read(row: &Fields) -> Result<VpdRow, LineFault> {
-        if row.are_fewer(3) {
-            return Err(fault(0, MibCode::FewFields));
-        }
+        row.need(3)?;
         Ok(VpdRow {
-            tpsd: natural(row.field(1), 1, 1, TPSD_MOST)? as u32,
-            pos: natural(row.field(2), 2, 0, WORD_MOST)? as u16,
-            name: name(row.field(3), 3)?,
-            grpsize: natural_or(row.field(4), 4, 0, WORD_MOST, 0)? as u16,
-            fixrep: natural_or(row.field(5), 5, 0, WORD_MOST, 0)? as u16,
-            choice: letter_or(row.field(6), 6, b"YN", b'N')?,
-            pidref: letter_or(row.field(7), 7, b"YN", b'N')?,
-            offset: integer_or(row.field(14), 14, OFFSET_LEAST, OFFSET_MOST, 0)? as i32,
+            tpsd: row.column(1).natural(1, TPSD_MOST)? as u32,
+            pos: row.column(2).natural(0, WORD_MOST)? as u16,
+            name: row.column(3).name()?,
+            grpsize: row.column(4).natural_or(0, WORD_MOST, 0)? as u16,
+            fixrep: row.column(5).natural_or(0, WORD_MOST, 0)? as u16,
+            choice: row.column(6).letter_or(b"YN", b'N')?,
+            pidref: row.column(7).letter_or(b"YN", b'N')?,
+            offset: row.column(14).integer_or(OFFSET_LEAST, OFFSET_MOST, 0)? as i32,
         })
     }
 }

@@ -5,16 +5,12 @@ ghost use Rattle.mib_model.specs.RowTexts.{has_states};
 ghost use Rattle.mib_model.specs.ParameterTables.{pcf, pcf_row, ocf, ocf_row, ocp, ocp_row};
 ghost use Rattle.mib_rows.specs.RowsRead.{rows_read};
 
-use crate::field::{
-    bound, capital_or, fault, integer_or, letter, letter_or, name, name_or_none, natural,
-    natural_or, natural_or_none,
-};
 use crate::fields::Fields;
 use crate::row::ReadRow;
 use dec_num::trim;
 use mib_model::{
-    ID_MOST, LineFault, MibCode, OCTET_MOST, OcfRow, OcpRow, PcfRow, RAW_LEAST, RAW_MOST,
-    WIDTH_MOST, WORD_MOST,
+    ID_MOST, LineFault, OCTET_MOST, OcfRow, OcpRow, PcfRow, RAW_LEAST, RAW_MOST, WIDTH_MOST,
+    WORD_MOST,
 };
 
 impl ReadRow for PcfRow {
@@ -23,22 +19,23 @@ impl ReadRow for PcfRow {
     ghost is_row = { rows_read.of_pcf };
 
     fn read(row: &Fields) -> Result<PcfRow, LineFault> {
-        if row.are_fewer(1) {
-            return Err(fault(0, MibCode::FewFields));
-        }
+        row.need(1)?;
         Ok(PcfRow {
-            name: name(row.field(1), 1)?,
-            pid: natural_or_none(row.field(3), 3, 0, ID_MOST)?.map(|pid| pid as u32),
-            ptc: natural_or(row.field(5), 5, 0, OCTET_MOST, 0)? as u8,
-            pfc: natural_or(row.field(6), 6, 0, WORD_MOST, 0)? as u16,
-            width: natural_or(row.field(7), 7, 0, WIDTH_MOST, 0)? as u32,
-            valid: name_or_none(row.field(8), 8)?,
-            categ: letter_or(row.field(10), 10, b"NST", b'N')?,
-            natur: capital_or(row.field(11), 11, b'R')?,
-            curtx: name_or_none(row.field(12), 12)?,
-            decim: natural_or(row.field(15), 15, 0, OCTET_MOST, 0)? as u8,
-            valpar: integer_or(row.field(18), 18, RAW_LEAST, RAW_MOST, 1)?,
-            endian: letter_or(row.field(23), 23, b"BL", b'B')?,
+            name: row.column(1).name()?,
+            pid: row
+                .column(3)
+                .natural_or_none(0, ID_MOST)?
+                .map(|pid| pid as u32),
+            ptc: row.column(5).natural_or(0, OCTET_MOST, 0)? as u8,
+            pfc: row.column(6).natural_or(0, WORD_MOST, 0)? as u16,
+            width: row.column(7).natural_or(0, WIDTH_MOST, 0)? as u32,
+            valid: row.column(8).name_or_none()?,
+            categ: row.column(10).letter_or(b"NST", b'N')?,
+            natur: row.column(11).capital_or(b'R')?,
+            curtx: row.column(12).name_or_none()?,
+            decim: row.column(15).natural_or(0, OCTET_MOST, 0)? as u8,
+            valpar: row.column(18).integer_or(RAW_LEAST, RAW_MOST, 1)?,
+            endian: row.column(23).letter_or(b"BL", b'B')?,
         })
     }
 }
@@ -49,14 +46,12 @@ impl ReadRow for OcfRow {
     ghost is_row = { rows_read.of_ocf };
 
     fn read(row: &Fields) -> Result<OcfRow, LineFault> {
-        if row.are_fewer(4) {
-            return Err(fault(0, MibCode::FewFields));
-        }
+        row.need(4)?;
         Ok(OcfRow {
-            name: name(row.field(1), 1)?,
-            nbchck: natural(row.field(2), 2, 1, OCTET_MOST)? as u8,
-            inter: letter(row.field(4), 4, b"UC")?,
-            codin: letter_or(row.field(5), 5, b"RAI", b'R')?,
+            name: row.column(1).name()?,
+            nbchck: row.column(2).natural(1, OCTET_MOST)? as u8,
+            inter: row.column(4).letter(b"UC")?,
+            codin: row.column(5).letter_or(b"RAI", b'R')?,
         })
     }
 }
@@ -65,7 +60,7 @@ impl ReadRow for OcfRow {
 fn are_states(row: &Fields) -> bool
     ensures { result ≡ has_states row.now }
 {
-    match trim(row.field(3)) {
+    match trim(row.column(3).octets) {
         [letter] => *letter == b'C' || *letter == b'E',
         _ => false,
     }
@@ -77,18 +72,16 @@ impl ReadRow for OcpRow {
     ghost is_row = { rows_read.of_ocp };
 
     fn read(row: &Fields) -> Result<OcpRow, LineFault> {
-        if row.are_fewer(3) {
-            return Err(fault(0, MibCode::FewFields));
-        }
+        row.need(3)?;
         let states = are_states(row);
         Ok(OcpRow {
-            name: name(row.field(1), 1)?,
-            pos: natural(row.field(2), 2, 0, WORD_MOST)? as u16,
-            sort: letter(row.field(3), 3, b"SHDCE")?,
-            lvalu: bound(row.field(4), 4, states)?,
-            hvalu: bound(row.field(5), 5, states)?,
-            rlchk: name_or_none(row.field(6), 6)?,
-            valpar: integer_or(row.field(7), 7, RAW_LEAST, RAW_MOST, 1)?,
+            name: row.column(1).name()?,
+            pos: row.column(2).natural(0, WORD_MOST)? as u16,
+            sort: row.column(3).letter(b"SHDCE")?,
+            lvalu: row.column(4).bound(states)?,
+            hvalu: row.column(5).bound(states)?,
+            rlchk: row.column(6).name_or_none()?,
+            valpar: row.column(7).integer_or(RAW_LEAST, RAW_MOST, 1)?,
         })
     }
 }
