@@ -8,8 +8,9 @@ ghost use Rattle.mib_rows.specs.RowsRead.{rows_read};
 use crate::fields::Fields;
 use crate::row::ReadRow;
 use mib_model::{
-    BIT_LAST, DISCRIMINANT_BITS, DISCRIMINANT_MOST, DiscriminantWidth, ID_MOST, LineFault, OCTET_LAST, OCTET_MOST,
-    OFFSET_LEAST, OFFSET_MOST, PicRow, PidRow, PlfRow, TPSD_MOST, TpcfRow, VpdRow, WORD_MOST,
+    BIT_LAST, DISCRIMINANT_BITS, DISCRIMINANT_MOST, DiscriminantWidth, ID_MOST, LineFault,
+    OCTET_LAST, OCTET_MOST, OFFSET_LEAST, OFFSET_MOST, PicRow, PidRow, PlfRow, TPSD_MOST, TpcfRow,
+    VpdRow, WORD_MOST,
 };
 
 impl ReadRow for PidRow {
@@ -43,9 +44,13 @@ impl ReadRow for PicRow {
             service: row.column(1).natural(0, OCTET_MOST)? as u8,
             subtype: row.column(2).natural(0, OCTET_MOST)? as u8,
             pi1_off: row.column(3).integer_or(-1, i128::from(OCTET_LAST), -1)? as i32,
-            pi1_wid: DiscriminantWidth::new(row.column(4).natural_or(0, DISCRIMINANT_BITS, 0)? as u8),
+            pi1_wid: DiscriminantWidth::new(
+                row.column(4).natural_or(0, DISCRIMINANT_BITS, 0)? as u8,
+            ),
             pi2_off: row.column(5).integer_or(-1, i128::from(OCTET_LAST), -1)? as i32,
-            pi2_wid: DiscriminantWidth::new(row.column(6).natural_or(0, DISCRIMINANT_BITS, 0)? as u8),
+            pi2_wid: DiscriminantWidth::new(
+                row.column(6).natural_or(0, DISCRIMINANT_BITS, 0)? as u8,
+            ),
             apid: row
                 .column(7)
                 .natural_or_none(0, WORD_MOST)?

@@ -1,6 +1,6 @@
-use record_text::code_line;
 use crate::tests::{PACKET, PCF, PID, PLF, call, feed, file, sink};
 use mib_model::{Code, Line};
+use record_text::code_line;
 use std::alloc::Global;
 use std::process::Abort;
 use std::sync::Wait;

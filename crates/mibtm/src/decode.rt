@@ -48,11 +48,7 @@ fn built_edition(alloc: Global, book: Book) -> Result<Edition, Refusal>
 }
 
 // The edition of the tables of a folder.
-fn folder_edition<T: Shelf>(
-    alloc: Global,
-    folder: &str,
-    tables: &mut T,
-) -> Result<Edition, Refusal>
+fn folder_edition<T: Shelf>(alloc: Global, folder: &str, tables: &mut T) -> Result<Edition, Refusal>
     ensures told { IfOk result (λ edition. IfSome (T.holds tables.old) (λ files. built_in files folder.now ≡ Ok edition)) }
     ensures refused { IfErr result (λ code. IfSome (T.holds tables.old) (λ files. Refuses code (built_in files folder.now))) }
     ensures built { IfOk result (λ edition. IsBuilt edition) }

@@ -86,7 +86,13 @@ fn add_lines(
     requires empty { out.old ≡ [] }
     ensures text { out.new ≡ plain_record edition.now number packet.now }
 {
-    head_line(number, header, &half.found, title(edition, &half.found), out);
+    head_line(
+        number,
+        header,
+        &half.found,
+        title(edition, &half.found),
+        out,
+    );
     add_values(values, packet, out);
     ended_line(&half.ended, out);
 }

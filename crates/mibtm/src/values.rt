@@ -14,12 +14,7 @@ use mib_model::{Ended, Value};
 use record_text::{Lines, Tail, value_line};
 
 /// The values of a packet by the layout of its SPID, which there is, and how they end.
-pub(crate) fn fixed(
-    edition: &Edition,
-    spid: u32,
-    packet: &[u8],
-    values: &mut Values,
-) -> Ended
+pub(crate) fn fixed(edition: &Edition, spid: u32, packet: &[u8], values: &mut Values) -> Ended
     requires layout { is_some (layout_of edition.now spid) ≡ true }
     requires slots { length values.old.slots.now ≡ most_values }
     requires used { values.old.used ≡ 0 }
