@@ -10,3 +10,6 @@ mod row_groups;
 
 pub use first_rows::By;
 pub use row_groups::RowGroups;
+
+#[cfg(test)]
+mod tests;
