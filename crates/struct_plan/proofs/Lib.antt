@@ -1,2 +1,6 @@
 pub mod RoundFacts
 pub mod StackFacts
+pub mod NestFacts
+pub mod GroupFacts
+pub mod LeastFacts
+pub mod KnownFacts

@@ -37,7 +37,13 @@ still_to_walk rows at (group ∷ groups) = to_end rows at group ++ still_to_walk
 abbrev pub Enclose : List VpdRow → ℕ → ℕ → List Group → Type 0
 Enclose rows low high [] = high ≤ length rows
 Enclose rows low high (group ∷ groups) =
-    (group.row < low) × (high ≤ end_of rows group) × (pos 0 <ℤ group.left) × Enclose rows group.row (end_of rows group) groups
+    (group.row < low) × (high ≤ end_of rows group) × (0 < size_at rows group.row) × (pos 0 <ℤ group.left) ×
+    Enclose rows group.row (end_of rows group) groups
+
+-- a place within the innermost group, or within the rows or at their end where there is no group
+abbrev pub Ahead : List VpdRow → ℕ → List Group → Type 0
+Ahead rows at [] = at ≤ length rows
+Ahead rows at (group ∷ groups) = at < end_of rows group
 
 -- the groups with the innermost repeated once: it is left out where that was the last time
 abbrev pub once_less : Group → List Group → List Group
@@ -61,7 +67,7 @@ entered_at at size n = if int_lt n (pos 1) then at + 1 + size else at + 1
 abbrev pub entered : ℕ → ℤ → List Group → List Group
 entered at n groups = if int_lt (pos 1) n then record { row = at; left = n -ℤ pos 1 } ∷ groups else groups
 
--- the innermost group, if there is one, is of the rows of a structure, and is still to be repeated
-abbrev pub IsOfRows : List VpdRow → Option Group → Type 0
-IsOfRows rows None = Unit {0}
-IsOfRows rows (Some group) = (group.row < length rows) × (pos 0 <ℤ group.left)
+-- the innermost group, if there is one, is of these rows, and is still to be repeated
+abbrev pub IsOfRows : List VpdRow → List Group → Type 0
+IsOfRows rows [] = Unit {0}
+IsOfRows rows (group ∷ groups) = (group.row < length rows) × (pos 0 <ℤ group.left)

@@ -143,9 +143,5 @@ pub fn entries(
 ) -> Result<Vec<Entry>, AllocError>
     ensures { IfOk result (λ entries. entries.items ≡ map (entry_of types.now) rows.now) }
 {
-    let mut entries = Vec::new(alloc);
-    for row in rows {
-        entries.push(entry_by(row, types))?;
-    }
-    Ok(entries)
+    rows.iter().map(|row| entry_by(row, types)).collect(alloc)
 }

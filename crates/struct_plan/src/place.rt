@@ -83,7 +83,7 @@ impl Place {
         requires slots { length values.now.slots.now ≡ most_values }
         requires used { values.now.used ≤ most_values }
         requires place { IsPlace values.now self.old }
-        requires rows { IsOfRows structure.now.vpds self.old.inner }
+        requires rows { IsOfRows structure.now.vpds (groups values.now self.old) }
         ensures at { self.new.at ≡ settled_at structure.now.vpds self.old.at (groups values.now self.old) }
         ensures groups { groups values.now self.new ≡ settled structure.now.vpds self.old.at (groups values.now self.old) }
         ensures place { IsPlace values.now self.new }

@@ -1,12 +1,21 @@
 // The walk over the rows of structures.
-ghost use Rattle.std.specs.Prelude.{◌≡◌, ◌+◌, ◌*◌, ◌<◌, ◌≤◌, ◌^◌, pos, length};
+ghost use Rattle.std.specs.Prelude.{◌≡◌, ◌≢◌, ◌⊎◌, ◌+◌, ◌-◌, ◌*◌, ◌<◌, ◌≤◌, ◌^◌, ℕ, pos, nat_abs, List, [], ◌∷◌, drop, take, length, option_map, Option, Some, None, IfOk, OnOk};
+ghost use Rattle.mib_model.specs.declared.rows.VpdRow.{VpdRow};
 ghost use Rattle.mib_model.specs.Fixed.{most_values};
-ghost use Rattle.mib_model.specs.Walk.{structure_values};
+ghost use Rattle.mib_model.specs.Structures.{Typed};
+ghost use Rattle.mib_model.specs.Walk.{Extracted, after_value, on_subject, structure_values};
 ghost use Rattle.bit_field.specs.Taken.{taken};
+ghost use Rattle.struct_plan.specs.Courses.{Comes, Given, Gives, GoesOn, IsNear, IsStructure, Leads, value_or_end, walking};
+ghost use Rattle.struct_plan.specs.Entries as Spec;
+ghost use Rattle.struct_plan.specs.Entries.{field_of, then_of};
+ghost use Rattle.struct_plan.specs.Groups.{size_at, still_to_walk, Enclose};
+ghost use Rattle.struct_plan.specs.Places.{groups, IsAmong, IsPlace};
+ghost use Rattle.struct_plan.specs.Stacks.{kept, IsWithin};
 
 use crate::course::Course;
-use crate::entry::{Act, Entry, Field, Subject, Then, field_of};
+use crate::entry::{Act, Field, Subject, Then, field_of};
 use crate::place::Place;
+use crate::stack::Stack;
 use crate::structure::{Structure, Structures};
 use bit_field::{MOST_VALUES, Values, take};
 use mib_model::{Ended, Value};
@@ -20,6 +29,7 @@ pub enum Way {
 
 // What a value is of, where the last reference was to this number.
 fn field_at<S: Structures>(all: &S, subject: Subject, last: i128) -> Option<Field>
+    ensures { result ≡ Spec.field_at (S.tables all.now) last subject }
 {
     match subject {
         Subject::Own(field) => Some(field),
@@ -31,6 +41,8 @@ fn field_at<S: Structures>(all: &S, subject: Subject, last: i128) -> Option<Fiel
 // The value of a parameter at the cursor, or the end before it: there is no room, or its bits aren't in the packet.
 fn value_here(packet: &[u8], cursor: i128, field: Field, used: u32) -> Result<Value, Ended>
     requires packet { length packet.now < 2 ^ 61 }
+    ensures value { result ≡ value_or_end packet.now cursor field used }
+    ensures room { OnOk result (used ≢ most_values) }
 {
     if used == MOST_VALUES {
         return Err(Ended::Many);
@@ -42,8 +54,58 @@ fn value_here(packet: &[u8], cursor: i128, field: Field, used: u32) -> Result<Va
     take(packet, cursor as u64, field.name, field.shape).ok_or(short)
 }
 
+// The bit behind a value.
+fn behind(value: Value, field: Field) -> i128
+    ensures { result ≡ pos (value.at + field.moves) }
+{
+    i128::from(value.at) + i128::from(field.moves)
+}
+
+// Gives the value of a row, or tells the end before it.
+fn give<S: Structures>(
+    all: &S,
+    subject: Subject,
+    packet: &[u8],
+    stack: &mut Stack,
+    course: &mut Course,
+    values: &mut Values,
+) -> Result<i128, Ended>
+    requires packet { length packet.now < 2 ^ 61 }
+    requires slots { length values.old.slots.now ≡ most_values }
+    requires used { values.old.used ≤ most_values }
+    requires within { IsWithin values.old stack.old }
+    ensures given { (end : Extracted) (row : VpdRow) (rest : List VpdRow) (t : Option Typed) →
+        Spec.field_at (S.tables all.now) course.old.last subject ≡ option_map field_of t →
+        Leads (S.tables all.now) packet.now end (on_subject (S.tables all.now) packet.now row rest (walking (row ∷ rest) course.old (taken values.old)) t) →
+        Given (S.tables all.now) packet.now end row rest course.new (taken values.new) result }
+    ensures groups { OnOk result (kept values.new stack.new ≡ take (most_values - values.new.used) (kept values.old stack.old)) }
+    ensures within { OnOk result (IsWithin values.new stack.new) }
+    ensures more { OnOk result (values.new.used ≡ values.old.used + 1) }
+    ensures near { OnOk result (IsNear course.new.cursor 0) }
+    ensures used { values.new.used ≤ most_values }
+    ensures slots { length values.new.slots.now ≡ most_values }
+    ensures borrow { values.new.slots.ghost_name ≡ values.old.slots.ghost_name }
+{
+    let last = course.last;
+    let Some(field) = field_at(all, subject, last) else {
+        return Err(Ended::NoParameter { pid: last });
+    };
+    let value = value_here(packet, course.cursor, field, values.used)?;
+    course.cursor = behind(value, field);
+    stack.give(value, values);
+    Ok(value.raw)
+}
+
 // Goes on behind a value, or tells the structure that it chooses.
-fn go_on(then: Then, raw: i128, size: u16, structure: &Structure, place: &mut Place, course: &mut Course, values: &mut Values) -> Option<Way>
+fn go_on(
+    then: Then,
+    raw: i128,
+    size: u16,
+    structure: &Structure,
+    place: &mut Place,
+    course: &mut Course,
+    values: &mut Values,
+) -> Option<Way>
 {
     match then {
         Then::Choose => return Some(Way::Chosen(raw)),
@@ -58,39 +120,39 @@ fn go_on(then: Then, raw: i128, size: u16, structure: &Structure, place: &mut Pl
     None
 }
 
-// Gives the value of a row, and goes on behind it.
-fn give<S: Structures>(all: &S, subject: Subject, packet: &[u8], place: &mut Place, course: &mut Course, values: &mut Values) -> Result<i128, Ended>
-{
-    let last = course.last;
-    let Some(field) = field_at(all, subject, last) else {
-        return Err(Ended::NoParameter { pid: last });
-    };
-    let value = value_here(packet, course.cursor, field, values.used)?;
-    course.cursor = i128::from(value.at) + i128::from(field.moves);
-    place.stack.give(value, values);
-    Ok(value.raw)
-}
-
 // Walks one row.
-fn walk_row<S: Structures>(all: &S, structure: &Structure, packet: &[u8], place: &mut Place, course: &mut Course, values: &mut Values) -> Option<Way>
+fn walk_row<S: Structures>(
+    all: &S,
+    structure: &Structure,
+    packet: &[u8],
+    place: &mut Place,
+    course: &mut Course,
+    values: &mut Values,
+) -> Option<Way>
 {
-    let at = place.at;
-    let entry = structure.entry(at);
+    let entry = structure.entry(place.at);
+    let size = entry.size;
     course.cursor += i128::from(entry.offset);
     match entry.act {
         Act::Repeat(times) => {
-            place.enter(entry.size, i128::from(times), values);
+            place.enter(size, i128::from(times), values);
             None
         }
-        Act::Give(subject, then) => match give(all, subject, packet, place, course, values) {
+        Act::Give(subject, then) => match give(all, subject, packet, &mut place.stack, course, values) {
             Err(ended) => Some(Way::Ended(ended)),
-            Ok(raw) => go_on(then, raw, entry.size, structure, place, course, values),
-        }
+            Ok(raw) => go_on(then, raw, size, structure, place, course, values),
+        },
     }
 }
 
 // Walks the rows of a structure.
-fn walk_structure<S: Structures>(all: &S, structure: &Structure, packet: &[u8], course: &mut Course, values: &mut Values) -> Way
+fn walk_structure<S: Structures>(
+    all: &S,
+    structure: &Structure,
+    packet: &[u8],
+    course: &mut Course,
+    values: &mut Values,
+) -> Way
 {
     let mut place = Place::new();
     while place.at < structure.len() {
@@ -102,9 +164,18 @@ fn walk_structure<S: Structures>(all: &S, structure: &Structure, packet: &[u8], 
 }
 
 /// The values of a packet of variable structure, and how they end.
-pub fn walk<S: Structures>(all: &S, tpsd: u32, start: u64, packet: &[u8], values: &mut Values) -> Ended
+pub fn walk<S: Structures>(
+    all: &S,
+    tpsd: u32,
+    start: u64,
+    packet: &[u8],
+    values: &mut Values,
+) -> Ended
 {
-    let mut course = Course { cursor: i128::from(start), last: 0 };
+    let mut course = Course {
+        cursor: i128::from(start),
+        last: 0,
+    };
     let mut next = i128::from(tpsd);
     while let Some(structure) = all.structure(next) {
         match walk_structure(all, structure, packet, &mut course, values) {

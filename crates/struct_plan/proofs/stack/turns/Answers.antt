@@ -1,0 +1,1 @@
+use Rattle.struct_plan.proofs.KnownFacts.{innermost-suffice}
