@@ -4,3 +4,5 @@ pub mod NestFacts
 pub mod GroupFacts
 pub mod LeastFacts
 pub mod KnownFacts
+pub mod EntryFacts
+pub mod CourseFacts

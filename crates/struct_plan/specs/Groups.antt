@@ -70,4 +70,4 @@ entered at n groups = if int_lt (pos 1) n then record { row = at; left = n -ℤ 
 -- the innermost group, if there is one, is of these rows, and is still to be repeated
 abbrev pub IsOfRows : List VpdRow → List Group → Type 0
 IsOfRows rows [] = Unit {0}
-IsOfRows rows (group ∷ groups) = (group.row < length rows) × (pos 0 <ℤ group.left)
+IsOfRows rows (group ∷ groups) = (end_of rows group ≤ length rows) × (pos 0 <ℤ group.left)

@@ -1,5 +1,4 @@
-ghost use Rattle.std.specs.Prelude.{◌≡◌, ◌<◌, ◌+◌, length, Option, IfOk, OnOk, OnErr};
-ghost use Rattle.std.specs.List.{slice_index_or};
+ghost use Rattle.std.specs.Prelude.{◌≡◌, ◌<◌, ◌≤◌, List, ◌∷◌, drop, length, Option, IfOk, OnOk, OnErr};
 ghost use Rattle.mib_model.specs.declared.rows.VpdRow.{VpdRow};
 ghost use Rattle.std.specs.Option.{option_copied};
 ghost use Rattle.mib_model.specs.declared.database.Database.{Database};
@@ -71,18 +70,21 @@ impl Structure {
     /// A row.
     pub fn entry(&self, at: usize) -> Entry
         requires { at < length self.now.vpds }
-        ensures { (row : VpdRow) → entry_of self.now.types (slice_index_or self.now.vpds at row) ≡ result }
+        ensures entry { (row : VpdRow) (rows : List VpdRow) → drop at self.now.vpds ≡ row ∷ rows → result ≡ entry_of self.now.types row }
+        ensures size { result.size ≡ Spec.size_at self.now.vpds at }
+        ensures room { length self.now.vpds ≤ usize.MAX }
     {
         self.entries[at]
     }
 
     /// The row behind a group.
     pub fn end_of(&self, group: Group) -> usize
-        requires { group.row < length self.now.vpds }
+        requires { Spec.end_of self.now.vpds group ≤ length self.now.vpds }
         ensures { result ≡ Spec.end_of self.now.vpds group }
     {
         let row = group.row as usize;
-        row + 1 + usize::from(self.entries[row].size)
+        let size = usize::from(self.entry(row).size);
+        row + 1 + size
     }
 }
 

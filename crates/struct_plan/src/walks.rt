@@ -39,9 +39,9 @@ fn field_at<S: Structures>(all: &S, subject: Subject, last: i128) -> Option<Fiel
 }
 
 // The value of a parameter at the cursor, or the end before it: there is no room, or its bits aren't in the packet.
-fn value_here(packet: &[u8], cursor: i128, field: Field, used: u32) -> Result<Value, Ended>
+fn value_here(packet: &[u8], cursor: i128, field: &Field, used: u32) -> Result<Value, Ended>
     requires packet { length packet.now < 2 ^ 61 }
-    ensures value { result ≡ value_or_end packet.now cursor field used }
+    ensures value { result ≡ value_or_end packet.now cursor field.now used }
     ensures room { OnOk result (used ≢ most_values) }
 {
     if used == MOST_VALUES {
@@ -55,8 +55,8 @@ fn value_here(packet: &[u8], cursor: i128, field: Field, used: u32) -> Result<Va
 }
 
 // The bit behind a value.
-fn behind(value: Value, field: Field) -> i128
-    ensures { result ≡ pos (value.at + field.moves) }
+fn behind(value: &Value, field: &Field) -> i128
+    ensures { result ≡ pos (value.now.at + field.now.moves) }
 {
     i128::from(value.at) + i128::from(field.moves)
 }
@@ -90,8 +90,8 @@ fn give<S: Structures>(
     let Some(field) = field_at(all, subject, last) else {
         return Err(Ended::NoParameter { pid: last });
     };
-    let value = value_here(packet, course.cursor, field, values.used)?;
-    course.cursor = behind(value, field);
+    let value = value_here(packet, course.cursor, &field, values.used)?;
+    course.cursor = behind(&value, &field);
     stack.give(value, values);
     Ok(value.raw)
 }

@@ -1,1 +1,1 @@
-use Rattle.struct_plan.proofs.KnownFacts.{innermost-suffice}
+use Rattle.struct_plan.proofs.CourseFacts.{given-value}
