@@ -95,13 +95,13 @@ impl Place {
             return;
         }
         self.at = group.row as usize + 1;
-        self.inner = if group.left == 1 {
-            self.stack.pop(values)
-        } else {
-            Some(Group {
-                row: group.row,
-                left: group.left - 1,
-            })
-        };
+        if group.left == 1 {
+            self.inner = self.stack.pop(values);
+            return;
+        }
+        self.inner = Some(Group {
+            row: group.row,
+            left: group.left - 1,
+        });
     }
 }

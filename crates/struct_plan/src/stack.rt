@@ -132,7 +132,7 @@ impl Stack {
         requires used { values.now.used ≤ most_values }
         requires within { IsWithin values.now self.old }
         ensures groups { popped result (kept values.now self.new) ≡ kept values.now self.old }
-        ensures none { result ≡ None → kept values.now self.new ≡ [] }
+        ensures none { result ≡ None → self.new.count ≡ 0 }
         ensures within { IsWithin values.now self.new }
     {
         if self.count == 0 {
