@@ -6,3 +6,4 @@ pub mod LeastFacts
 pub mod KnownFacts
 pub mod EntryFacts
 pub mod CourseFacts
+pub mod PlaceFacts

@@ -1,5 +1,5 @@
 -- What a walk gives, whatever number of steps it takes. [This profile.]
-use Rattle.std.specs.Prelude.{◌≡◌, ℕ, ◌+◌, ◌*◌, ◌^◌, ◌≤◌, ℤ, pos, ◌+ℤ◌, ◌≤ℤ◌, nat_abs, List, [], ◌∷◌, Option, Some, None, Result, Ok, Err, option_map, ◌==◌, if◌then◌else◌}
+use Rattle.std.specs.Prelude.{◌≡◌, ℕ, ◌+◌, ◌*◌, ◌^◌, ◌<◌, ◌≤◌, ◌⊎◌, ℤ, pos, ◌+ℤ◌, ◌≤ℤ◌, nat_abs, List, [], ◌∷◌, Option, Some, None, Result, Ok, Err, option_map, ◌==◌, if◌then◌else◌}
 use Rattle.mib_model.specs.declared.database.Database.{Database}
 use Rattle.mib_model.specs.declared.packet.Ended.{Ended}
 use Rattle.mib_model.specs.declared.packet.Ended.TheVariants.{Short, Many}
@@ -59,3 +59,12 @@ pub record IsStructure (db : Database) (rows : StructureRows) : Type 0 where
 pub record IsNear (cursor : ℤ) (rows : ℕ) : Type 0 where
   pub low : pos 0 ≤ℤ (cursor +ℤ pos (2 ^ 68 + rows * 2 ^ 32))
   pub high : cursor ≤ℤ pos (2 ^ 68 + rows * 2 ^ 32)
+
+-- a walk that gave a value, or stands further on in the rows
+abbrev pub IsFurther : ℕ → ℕ → ℕ → ℕ → Type 0
+IsFurther used at used' at' = ((used' ≡ used) × (at < at')) ⊎ (used' ≡ used + 1)
+
+-- a walk that gave a value before a choice
+pub record HasChosen (used used' : ℕ) (course : Course) : Type 0 where
+  pub more : used < used'
+  pub near : IsNear course.cursor 0

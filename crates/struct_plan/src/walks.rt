@@ -1,11 +1,12 @@
 // The walk over the rows of structures.
-ghost use Rattle.std.specs.Prelude.{◌≡◌, ◌≢◌, ◌⊎◌, ◌+◌, ◌-◌, ◌*◌, ◌<◌, ◌≤◌, ◌^◌, ℕ, pos, nat_abs, List, [], ◌∷◌, drop, take, length, option_map, Option, Some, None, IfOk, OnOk};
+ghost use Rattle.std.specs.Prelude.{◌≡◌, ◌≢◌, ◌+◌, ◌-◌, ◌*◌, ◌<◌, ◌≤◌, ◌^◌, ℕ, ℤ, pos, List, [], ◌∷◌, drop, take, length, option_map, Option, Some, None, IfOk, OnOk};
+ghost use Rattle.mib_model.specs.declared.database.Database.{Database};
 ghost use Rattle.mib_model.specs.declared.rows.VpdRow.{VpdRow};
 ghost use Rattle.mib_model.specs.Fixed.{most_values};
-ghost use Rattle.mib_model.specs.Structures.{Typed};
+ghost use Rattle.mib_model.specs.Structures.{structure, Typed};
 ghost use Rattle.mib_model.specs.Walk.{Extracted, after_value, on_subject, structure_values};
 ghost use Rattle.bit_field.specs.Taken.{taken};
-ghost use Rattle.struct_plan.specs.Courses.{Comes, Given, Gives, GoesOn, IsNear, IsStructure, Leads, value_or_end, walking};
+ghost use Rattle.struct_plan.specs.Courses.{Comes, Given, Gives, GoesOn, HasChosen, IsFurther, IsNear, IsStructure, Leads, value_or_end, walking};
 ghost use Rattle.struct_plan.specs.Entries as Spec;
 ghost use Rattle.struct_plan.specs.Entries.{field_of, then_of};
 ghost use Rattle.struct_plan.specs.Groups.{size_at, still_to_walk, Enclose};
@@ -98,7 +99,7 @@ fn give<S: Structures>(
 
 // Goes on behind a value, or tells the structure that it chooses.
 fn go_on(
-    then: Then,
+    after: Then,
     raw: i128,
     size: u16,
     structure: &Structure,
@@ -106,18 +107,40 @@ fn go_on(
     course: &mut Course,
     values: &mut Values,
 ) -> Option<Way>
+    requires slots { length values.old.slots.now ≡ most_values }
+    requires used { values.old.used ≤ most_values }
+    requires place { IsPlace values.old place.old }
+    requires size { size ≡ size_at structure.now.vpds place.old.at }
+    requires some { after ≡ Then.Repeat → 0 < size }
+    requires around { Enclose structure.now.vpds place.old.at (place.old.at + 1 + size) (groups values.old place.old) }
+    requires room { length structure.now.vpds ≤ usize.MAX }
+    ensures goes { (db : Database) (octets : List ℕ) (end : Extracted) (row : VpdRow) →
+        IsStructure db structure.now → after ≡ then_of row → size ≡ row.grpsize →
+        Leads db octets end (after_value db row (still_to_walk structure.now.vpds (place.old.at + 1) (groups values.old place.old)) raw
+            (walking (still_to_walk structure.now.vpds (place.old.at + 1) (groups values.old place.old)) course.old (taken values.old))) →
+        GoesOn db octets end (still_to_walk structure.now.vpds place.new.at (groups values.new place.new)) course.new (taken values.new) result }
+    ensures among { result ≡ None → IsAmong structure.now.vpds values.new place.new }
+    ensures cursor { course.new.cursor ≡ course.old.cursor }
+    ensures used { values.new.used ≡ values.old.used }
+    ensures slots { length values.new.slots.now ≡ most_values }
+    ensures borrow { values.new.slots.ghost_name ≡ values.old.slots.ghost_name }
 {
-    match then {
-        Then::Choose => return Some(Way::Chosen(raw)),
-        Then::Repeat => place.enter(size, raw, values),
+    match after {
+        Then::Choose => Some(Way::Chosen(raw)),
+        Then::Repeat => {
+            place.repeat(size, raw, structure, values);
+            None
+        }
         Then::Refer => {
             course.last = raw;
-            place.at += 1;
+            place.pass(structure, values);
+            None
         }
-        Then::Next => place.at += 1,
+        Then::Next => {
+            place.pass(structure, values);
+            None
+        }
     }
-    place.settle(structure, values);
-    None
 }
 
 // Walks one row.
@@ -129,23 +152,42 @@ fn walk_row<S: Structures>(
     course: &mut Course,
     values: &mut Values,
 ) -> Option<Way>
+    requires packet { length packet.now < 2 ^ 61 }
+    requires slots { length values.old.slots.now ≡ most_values }
+    requires used { values.old.used ≤ most_values }
+    requires structure { IsStructure (S.tables all.now) structure.now }
+    requires among { IsAmong structure.now.vpds values.old place.old }
+    requires inside { place.old.at < length structure.now.vpds }
+    requires near { IsNear course.old.cursor place.old.at }
+    ensures goes { (end : Extracted) →
+        Gives (S.tables all.now) packet.now end (walking (still_to_walk structure.now.vpds place.old.at (groups values.old place.old)) course.old (taken values.old)) →
+        GoesOn (S.tables all.now) packet.now end (still_to_walk structure.now.vpds place.new.at (groups values.new place.new)) course.new (taken values.new) result }
+    ensures among { result ≡ None → IsAmong structure.now.vpds values.new place.new }
+    ensures near { result ≡ None → IsNear course.new.cursor place.new.at }
+    ensures further { result ≡ None → IsFurther values.old.used place.old.at values.new.used place.new.at }
+    ensures chosen { (tpsd : ℤ) → result ≡ Some (Way.Chosen tpsd) → HasChosen values.old.used values.new.used course.new }
+    ensures used { values.new.used ≤ most_values }
+    ensures slots { length values.new.slots.now ≡ most_values }
+    ensures borrow { values.new.slots.ghost_name ≡ values.old.slots.ghost_name }
 {
     let entry = structure.entry(place.at);
     let size = entry.size;
     course.cursor += i128::from(entry.offset);
     match entry.act {
         Act::Repeat(times) => {
-            place.enter(size, i128::from(times), values);
+            place.repeat_fixed(size, times, structure, values);
             None
         }
-        Act::Give(subject, then) => match give(all, subject, packet, &mut place.stack, course, values) {
-            Err(ended) => Some(Way::Ended(ended)),
-            Ok(raw) => go_on(then, raw, size, structure, place, course, values),
-        },
+        Act::Give(subject, after) => {
+            match give(all, subject, packet, &mut place.stack, course, values) {
+                Err(ended) => Some(Way::Ended(ended)),
+                Ok(raw) => go_on(after, raw, size, structure, place, course, values),
+            }
+        }
     }
 }
 
-// Walks the rows of a structure.
+// Walks the rows of a structure, until an end or the choice of another.
 fn walk_structure<S: Structures>(
     all: &S,
     structure: &Structure,
@@ -153,6 +195,17 @@ fn walk_structure<S: Structures>(
     course: &mut Course,
     values: &mut Values,
 ) -> Way
+    requires packet { length packet.now < 2 ^ 61 }
+    requires slots { length values.old.slots.now ≡ most_values }
+    requires used { values.old.used ≤ most_values }
+    requires structure { IsStructure (S.tables all.now) structure.now }
+    requires near { IsNear course.old.cursor 0 }
+    ensures comes { (end : Extracted) → Gives (S.tables all.now) packet.now end (walking structure.now.vpds course.old (taken values.old)) →
+        Comes (S.tables all.now) packet.now end course.new (taken values.new) result }
+    ensures chosen { (tpsd : ℤ) → result ≡ Way.Chosen tpsd → HasChosen values.old.used values.new.used course.new }
+    ensures used { values.new.used ≤ most_values }
+    ensures slots { length values.new.slots.now ≡ most_values }
+    ensures borrow { values.new.slots.ghost_name ≡ values.old.slots.ghost_name }
 {
     let mut place = Place::new();
     while place.at < structure.len() {
@@ -163,7 +216,8 @@ fn walk_structure<S: Structures>(
     Way::Ended(Ended::Whole)
 }
 
-/// The values of a packet of variable structure, and how they end.
+/// The values of a packet of variable structure, by the rows of a structure that there is, and how they end. The walk
+/// starts behind the primary header and some octets. It takes no memory.
 pub fn walk<S: Structures>(
     all: &S,
     tpsd: u32,
@@ -171,6 +225,15 @@ pub fn walk<S: Structures>(
     packet: &[u8],
     values: &mut Values,
 ) -> Ended
+    requires there { structure (S.tables all.now) (pos tpsd) ≢ [] }
+    requires packet { length packet.now < 2 ^ 61 }
+    requires slots { length values.old.slots.now ≡ most_values }
+    requires used { values.old.used ≡ 0 }
+    ensures values { (dfhsize : ℕ) → start ≡ 8 * (6 + dfhsize) →
+        (taken values.new, result) ≡ structure_values (S.tables all.now) (pos tpsd) dfhsize packet.now }
+    ensures used { values.new.used ≤ most_values }
+    ensures slots { length values.new.slots.now ≡ most_values }
+    ensures borrow { values.new.slots.ghost_name ≡ values.old.slots.ghost_name }
 {
     let mut course = Course {
         cursor: i128::from(start),

@@ -1,1 +1,1 @@
-use Rattle.struct_plan.proofs.CourseFacts.{given-value}
+use Rattle.struct_plan.proofs.PlaceFacts.{entered-gives}
