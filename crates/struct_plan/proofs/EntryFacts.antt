@@ -7,7 +7,7 @@ use Rattle.struct_plan.specs.declared.entry.Entry.{Entry}
 use Rattle.struct_plan.specs.Entries.{entry_of}
 use Rattle.struct_plan.specs.Groups.{first_size, size_at}
 
-abbrev head_or : List VpdRow → VpdRow → VpdRow
+abbrev pub head_or : List VpdRow → VpdRow → VpdRow
 head_or [] d = d
 head_or (x ∷ xs) d = x
 

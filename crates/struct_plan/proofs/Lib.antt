@@ -7,3 +7,4 @@ pub mod KnownFacts
 pub mod EntryFacts
 pub mod CourseFacts
 pub mod PlaceFacts
+pub mod RowFacts

@@ -1,7 +1,8 @@
 -- A place among the rows of a structure, from row to row.
-use Rattle.std.proofs.Common.{◌≡◌, ℕ, zero, suc, ◌+◌, ◌-◌, ◌<◌, ◌≤◌, ℤ, pos, negsuc, ◌<ℤ◌, ◌-ℤ◌, int_lt, Bool, true, false, cond, List, [], ◌∷◌, length, take, drop, refl, sym, ap, subst, ◌∙◌, arith}
+use Rattle.std.proofs.Common.{◌≡◌, ℕ, zero, suc, ◌+◌, ◌-◌, ◌<◌, ◌≤◌, ℤ, pos, negsuc, ◌<ℤ◌, ◌-ℤ◌, int_lt, Bool, true, false, cond, List, [], ◌∷◌, map, length, take, drop, Option, Some, None, refl, sym, ap, subst, ◌∙◌, arith}
 use Rattle.std.proofs.lemmas.Int.{ints}
 use Rattle.std.proofs.lemmas.Bool.{lt-ltb, le-ltb}
+use Rattle.std.specs.List.{cons_option}
 use Rattle.mib_model.specs.declared.database.Database.{Database}
 use Rattle.mib_model.specs.declared.packet.Value.{Value}
 use Rattle.mib_model.specs.declared.rows.VpdRow.{VpdRow}
@@ -11,7 +12,11 @@ use Rattle.mib_model.specs.Walk.{Extracted, walked}
 use Rattle.mib_laws.proofs.LimitFacts.{structure-rows}
 use Rattle.mib_laws.proofs.Nesting.{Nested}
 use Rattle.mib_laws.proofs.SoundStructures.{structures-good}
+use Rattle.bit_field.specs.declared.values.Values.{Values}
 use Rattle.struct_plan.specs.declared.course.Course.{Course}
+use Rattle.struct_plan.specs.declared.place.Place.{Place}
+use Rattle.struct_plan.specs.Places.{IsPlace}
+use Rattle.struct_plan.specs.Stacks.{kept, round, group_in}
 use Rattle.struct_plan.specs.declared.group.Group.{Group}
 use Rattle.struct_plan.specs.Courses.{Gives, IsStructure, walking}
 use Rattle.struct_plan.specs.Groups.{size_at, end_of, still_to_walk, Enclose, Ahead, IsOfRows, entered, entered_at, settled, settled_at}
@@ -115,3 +120,20 @@ module _ (rows : List VpdRow) (at at' size used : ℕ) (count : ℤ) (gs gs' : L
 
   pub behind-ahead : (k : ℕ) → count ≡ pos (suc k) → Ahead rows at' gs'
   behind-ahead k one = subst (λ m. Ahead rows m gs') (sym there_at) (entered-ahead rows at (most_values - used + 1) count gs gs' some_at around_at is k one (omega arith))
+
+take_none : (n : ℕ) → let none : List Group = [] in take n none ≡ none
+take_none zero = refl
+take_none (suc n) = refl
+
+-- the groups round a place when a value was given: as many as matter
+pub groups-given : (o : Option Group) (kept kept' : List Group) (room : ℕ) → (o ≡ None → kept ≡ []) → kept' ≡ take room kept → cons_option o kept' ≡ take (room + 1) (cons_option o kept)
+groups-given None kept kept' room alone is =
+    let none : kept ≡ [] = alone refl in
+    is ∙ (ap (take room) none ∙ (take_none room ∙ sym (ap (take (room + 1)) none ∙ take_none (room + 1))))
+groups-given (Some g) kept kept' room alone is =
+    let more : room + 1 ≡ suc room = omega arith in
+    ap (λ (gs : List Group). g ∷ gs) is ∙ ap (λ n. take n (g ∷ kept)) (sym more)
+
+-- no groups are kept where there is no innermost one
+pub none-kept : (values : Values) (place : Place) → IsPlace values place → place.inner ≡ None → kept values place.stack ≡ []
+none-kept values place is none = ap (λ n. map group_in (take n (round (place.stack.top - values.used) (drop values.used values.slots.now)))) (is.alone none)

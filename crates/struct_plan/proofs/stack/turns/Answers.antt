@@ -1,1 +1,1 @@
-use Rattle.struct_plan.proofs.PlaceFacts.{entered-gives}
+use Rattle.struct_plan.proofs.RowFacts.{give-leads}
