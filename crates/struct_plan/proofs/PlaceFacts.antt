@@ -1,6 +1,10 @@
 -- A place among the rows of a structure, from row to row.
-use Rattle.std.proofs.Common.{◌≡◌, ℕ, zero, suc, ◌+◌, ◌-◌, ◌<◌, ◌≤◌, ℤ, pos, negsuc, ◌<ℤ◌, ◌-ℤ◌, int_lt, Bool, true, false, cond, List, [], ◌∷◌, map, length, take, drop, Option, Some, None, refl, sym, ap, subst, ◌∙◌, arith}
+use Rattle.std.proofs.Common.{◌≡◌, ℕ, zero, suc, ◌+◌, ◌-◌, ◌*◌, ◌<◌, inl, inr, ◌≤◌, ℤ, pos, negsuc, ◌<ℤ◌, ◌-ℤ◌, int_lt, Bool, true, false, cond, List, [], ◌∷◌, map, length, take, drop, Option, Some, None, refl, sym, ap, subst, ◌∙◌, arith}
 use Rattle.std.proofs.lemmas.Int.{ints}
+use Rattle.std.proofs.lemmas.List.{drop_all}
+use Rattle.std.proofs.Math.Nat.{suc-mul}
+use Rattle.mib_model.specs.declared.packet.Ended.TheVariants as ended
+use Rattle.struct_plan.proofs.CourseFacts.{gives-none, gives-todo}
 use Rattle.std.proofs.lemmas.Bool.{lt-ltb, le-ltb}
 use Rattle.std.specs.List.{cons_option}
 use Rattle.mib_model.specs.declared.database.Database.{Database}
@@ -18,10 +22,10 @@ use Rattle.struct_plan.specs.declared.place.Place.{Place}
 use Rattle.struct_plan.specs.Places.{IsPlace}
 use Rattle.struct_plan.specs.Stacks.{kept, round, group_in}
 use Rattle.struct_plan.specs.declared.group.Group.{Group}
-use Rattle.struct_plan.specs.Courses.{Gives, IsStructure, walking}
+use Rattle.struct_plan.specs.Courses.{Gives, IsFurther, IsStructure, walking}
 use Rattle.struct_plan.specs.Groups.{size_at, end_of, still_to_walk, Enclose, Ahead, IsOfRows, entered, entered_at, settled, settled_at}
 use Rattle.struct_plan.specs.Slices.{StructureRows}
-use Rattle.struct_plan.proofs.GroupFacts.{enclose-length, enclose-take, enclose-fewer, entered-still, entered-enclose, settled-still, settled-enclose, settled-ahead}
+use Rattle.struct_plan.proofs.GroupFacts.{ahead-length, enclose-length, enclose-take, enclose-fewer, entered-still, entered-enclose, settled-still, settled-enclose, settled-ahead}
 use Rattle.struct_plan.proofs.KnownFacts.{innermost-suffice}
 
 -- a structure of a sound database is nested
@@ -137,3 +141,24 @@ groups-given (Some g) kept kept' room alone is =
 -- no groups are kept where there is no innermost one
 pub none-kept : (values : Values) (place : Place) → IsPlace values place → place.inner ≡ None → kept values place.stack ≡ []
 none-kept values place is none = ap (λ n. map group_in (take n (round (place.stack.top - values.used) (drop values.used values.slots.now)))) (is.alone none)
+
+-- where no row is left
+pub gives-whole : (db : Database) (packet : List ℕ) (end : Extracted) (rows : List VpdRow) (course : Course) (values : List Value) (at : ℕ) (gs : List Group) → Enclose rows at at gs → Ahead rows at gs → length rows ≤ at
+    → Gives db packet end (walking (still_to_walk rows at gs) course values) → (values, ended.Whole) ≡ end
+gives-whole db packet end rows course values at gs around before past gives =
+    let within = enclose-length rows at at gs around in
+    let none : gs ≡ [] = ahead-length rows at gs before around (omega (arith, within, past)) in
+    let todo : still_to_walk rows at gs ≡ [] = ap (still_to_walk rows at) none ∙ drop_all at rows past in
+    gives-none db packet end course values (gives-todo db packet end (still_to_walk rows at gs) [] course values todo gives)
+
+-- fewer steps are left behind a row: it gave a value, or the next row is further on
+pub fewer-left : (most used used' at at' rows : ℕ) → IsFurther used at used' at' → used' ≤ most → at < rows → (most - used') * rows + (rows - at') < (most - used) * rows + (rows - at)
+fewer-left most used used' at at' rows (inl (same, further)) few lt = rw same (omega (arith, further, lt))
+fewer-left most used used' at at' rows (inr more) few lt =
+    let one : most - used ≡ suc (most - used') = omega (arith, more, few) in
+    let all : (most - used) * rows ≡ (most - used') * rows + rows = ap (λ n. n * rows) one ∙ suc-mul (most - used') rows in
+    omega (arith, all, lt)
+
+pub later : {first used used' at at' : ℕ} → first ≤ used → IsFurther used at used' at' → first ≤ used'
+later le (inl (same, further)) = omega (arith, le, same)
+later le (inr more) = omega (arith, le, more)
