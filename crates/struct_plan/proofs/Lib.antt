@@ -8,3 +8,4 @@ pub mod EntryFacts
 pub mod CourseFacts
 pub mod PlaceFacts
 pub mod RowFacts
+pub mod ChoiceFacts
