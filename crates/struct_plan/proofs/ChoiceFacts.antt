@@ -1,5 +1,5 @@
 -- A walk from structure to structure.
-use Rattle.std.proofs.Common.{◌≡◌, ◌≢◌, ℕ, ◌+◌, ◌*◌, ℤ, pos, List, [], ◌∷◌, Option, Some, None, refl, sym, ap, subst, ◌∙◌}
+use Rattle.std.proofs.Common.{◌≡◌, ◌≢◌, ℕ, ◌+◌, ◌*◌, ℤ, pos, List, [], ◌∷◌, Some, None, refl, sym, subst}
 use Rattle.mib_model.specs.declared.database.Database.{Database}
 use Rattle.mib_model.specs.declared.packet.Ended.TheVariants as ended
 use Rattle.mib_model.specs.declared.packet.Value.{Value}

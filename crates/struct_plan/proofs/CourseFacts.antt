@@ -1,32 +1,19 @@
 -- What walks give, and the steps they take.
-use Rattle.std.proofs.Common.{◌≡◌, ◌≢◌, ℕ, zero, suc, ◌+◌, ◌<◌, ◌≤◌, ℤ, pos, ◌+ℤ◌, Bool, true, false, not, cond, nat_eq, nat_abs, nat_lt, List, [], ◌∷◌, ◌++◌, length, take, drop, Option, Some, None, Result, Ok, Err, option_map, option_and_then, refl, sym, ap, subst, ◌∙◌, arith}
-use Rattle.std.proofs.lemmas.Bool.{eqb-true, eqb-false, ne_eqb}
+use Rattle.std.proofs.Common.{◌≡◌, ℕ, zero, suc, ◌+◌, ℤ, pos, ◌+ℤ◌, Bool, true, false, cond, nat_eq, nat_abs, List, [], ◌∷◌, ◌++◌, length, Option, Some, None, Ok, Err, option_map, refl, sym, ap, subst, ◌∙◌, arith}
 use Rattle.std.proofs.lemmas.Option.{none-some}
 use Rattle.mib_model.specs.declared.database.Database.{Database}
 use Rattle.mib_model.specs.declared.packet.Ended.{Ended}
 use Rattle.mib_model.specs.declared.packet.Ended.TheVariants as ended
 use Rattle.mib_model.specs.declared.packet.Value.{Value}
-use Rattle.mib_model.specs.declared.plan.TypeItem.{TypeItem}
-use Rattle.mib_model.specs.declared.rows.PcfRow.{PcfRow}
 use Rattle.mib_model.specs.declared.rows.VpdRow.{VpdRow}
 use Rattle.mib_model.specs.Bits.{raw_number}
-use Rattle.mib_model.specs.Encodings.{Encoding, encoding_of}
 use Rattle.mib_model.specs.Fixed.{most_values, value_at}
-use Rattle.mib_model.specs.Parameters.{parameter, parameter_encoding, endian_of}
-use Rattle.mib_model.specs.Plans.{type_item, type_items}
-use Rattle.mib_model.specs.Layouts.{item_named}
-use Rattle.mib_model.specs.Structures.{Typed, typed, subject, deduced, own_or_deduced, structure, group_repeated, times, is_yes}
-use Rattle.mib_model.specs.Walk.{Extracted, Walking, Step, Goes, Ends, step, step_from, on_row, on_subject, try_value, after_value, with_value, chosen, lies_outside, walked, on_step}
+use Rattle.mib_model.specs.Structures.{Typed}
+use Rattle.mib_model.specs.Walk.{Extracted, Walking, Step, Goes, Ends, step, on_row, on_subject, after_value, with_value, lies_outside, walked, on_step}
 use Rattle.struct_plan.specs.declared.course.Course.{Course}
-use Rattle.struct_plan.specs.declared.entry.Act.{Act}
-use Rattle.struct_plan.specs.declared.entry.Act.TheVariants as act
 use Rattle.struct_plan.specs.declared.entry.Field.{Field}
-use Rattle.struct_plan.specs.declared.entry.Subject.{Subject}
-use Rattle.struct_plan.specs.declared.entry.Then.{Then}
-use Rattle.struct_plan.specs.declared.entry.Then.TheVariants as then
-use Rattle.struct_plan.specs.Courses.{Gives, Leads, Given, walking, value_or_end}
-use Rattle.struct_plan.specs.Entries.{field_of, field_at, act_of, subject_by, then_of}
-use Rattle.mib_laws.proofs.WalkFacts.{walked-more}
+use Rattle.struct_plan.specs.Courses.{Gives, Leads, walking, value_or_end}
+use Rattle.struct_plan.specs.Entries.{field_of}
 
 some-same : {A : Type 0} (x y : A) → Some x ≡ Some y → x ≡ y
 some-same x y is = cc is

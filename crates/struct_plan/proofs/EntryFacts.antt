@@ -1,6 +1,6 @@
 -- Rows and what they were compiled to.
-use Rattle.std.proofs.Common.{◌≡◌, ℕ, suc, ◌+◌, ◌<◌, ℤ, pos, Bool, true, false, not, cond, nat_eq, List, [], ◌∷◌, map, length, drop, get_or, Option, Some, None, option_map, option_and_then, refl, sym, ap, ◌∙◌, arith}
-use Rattle.std.proofs.lemmas.List.{drop_more, get_or-map, length-map}
+use Rattle.std.proofs.Common.{◌≡◌, ℕ, ◌+◌, ◌<◌, List, [], ◌∷◌, map, length, drop, get_or, sym, ap, ◌∙◌, arith}
+use Rattle.std.proofs.lemmas.List.{drop_more, get_or-map}
 use Rattle.mib_model.specs.declared.plan.TypeItem.{TypeItem}
 use Rattle.mib_model.specs.declared.rows.VpdRow.{VpdRow}
 use Rattle.struct_plan.specs.declared.entry.Entry.{Entry}

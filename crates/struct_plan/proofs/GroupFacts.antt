@@ -1,5 +1,5 @@
 -- The rows still to walk with groups round a place.
-use Rattle.std.proofs.Common.{◌≡◌, ◌≢◌, ℕ, zero, suc, ◌+◌, ◌-◌, ◌<◌, ◌≤◌, ℤ, pos, negsuc, ◌<ℤ◌, ◌-ℤ◌, int_lt, Bool, true, false, cond, nat_eq, List, [], ◌∷◌, ◌++◌, length, take, drop, refl, sym, ap, subst, ◌∙◌, arith}
+use Rattle.std.proofs.Common.{◌≡◌, ℕ, zero, suc, ◌+◌, ◌-◌, ◌<◌, ◌≤◌, ℤ, pos, negsuc, ◌<ℤ◌, ◌-ℤ◌, int_lt, Bool, true, false, cond, nat_eq, List, [], ◌∷◌, ◌++◌, length, take, drop, refl, sym, ap, subst, ◌∙◌, arith}
 use Rattle.std.proofs.lemmas.Bool.{eqb-true, eqb-false, lt-ltb, le-ltb}
 use Rattle.std.proofs.lemmas.Bool.Decides.{Decides-int_eq}
 use Rattle.std.proofs.lemmas.Int.{ints}
@@ -10,7 +10,7 @@ use Rattle.mib_model.specs.declared.rows.VpdRow.{VpdRow}
 use Rattle.mib_model.specs.Structures.{times, group_repeated}
 use Rattle.mib_laws.proofs.Nesting.{Nested}
 use Rattle.struct_plan.specs.declared.group.Group.{Group}
-use Rattle.struct_plan.specs.Groups.{size_at, end_of, body, to_end, still_to_walk, Enclose, Ahead, once_less, settled_at, settled, entered_at, entered}
+use Rattle.struct_plan.specs.Groups.{size_at, end_of, body, still_to_walk, Enclose, Ahead, once_less, settled_at, settled, entered_at, entered}
 use Rattle.struct_plan.proofs.NestFacts.{within-group, within-rows}
 
 -- numbers above 1

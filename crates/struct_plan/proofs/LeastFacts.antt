@@ -1,5 +1,5 @@
 -- Values that rows give at least, and what lies behind so many.
-use Rattle.std.proofs.Common.{◌≡◌, ◌≢◌, ℕ, zero, suc, ◌+◌, ◌-◌, ◌<◌, ◌≤◌, ℤ, pos, ◌+ℤ◌, Bool, true, false, not, cond, nat_eq, nat_abs, List, [], ◌∷◌, ◌++◌, length, take, drop, Option, Some, None, option_and_then, refl, sym, ap, subst, ◌∙◌, length-append, arith}
+use Rattle.std.proofs.Common.{◌≡◌, ◌≢◌, ℕ, zero, suc, ◌+◌, ◌<◌, ◌≤◌, ℤ, ◌+ℤ◌, Bool, true, false, not, cond, nat_eq, nat_abs, List, [], ◌∷◌, ◌++◌, length, take, drop, Option, Some, None, option_and_then, refl, sym, ap, subst, ◌∙◌, length-append, arith}
 use Rattle.std.proofs.lemmas.Bool.{eqb-true, eqb-false}
 use Rattle.std.proofs.lemmas.List.{append_assoc, take-append-drop, take-append-le, drop-append-le}
 use Rattle.std.specs.List.{repeat}
@@ -9,8 +9,7 @@ use Rattle.mib_model.specs.declared.rows.VpdRow.{VpdRow}
 use Rattle.mib_model.specs.Bits.{raw_number}
 use Rattle.mib_model.specs.Fixed.{most_values}
 use Rattle.mib_model.specs.Structures.{Typed, typed, subject, structure, group_repeated, times, is_yes}
-use Rattle.mib_model.specs.Walk.{Extracted, Walking, Step, Goes, Ends, step, step_from, on_row, on_subject, try_value, after_value, with_value, chosen, lies_outside, walked, on_step}
-use Rattle.mib_laws.proofs.Choices.{choice}
+use Rattle.mib_model.specs.Walk.{Extracted, Walking, Step, Goes, Ends, step, on_row, on_subject, try_value, after_value, with_value, chosen, lies_outside, walked, on_step}
 use Rattle.mib_laws.proofs.Nesting.{Fits, Nested, nested-append, nested-drop, nested-take, nested-repeat}
 use Rattle.struct_plan.proofs.NestFacts.{fits-length}
 

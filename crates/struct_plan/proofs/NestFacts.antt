@@ -1,8 +1,8 @@
 -- Rows whose groups are nested.
-use Rattle.std.proofs.Common.{◌≡◌, ◌≢◌, ℕ, zero, suc, ◌+◌, ◌-◌, ◌<◌, ◌≤◌, List, [], ◌∷◌, length, take, drop, refl, sym, ap, subst, ◌∙◌, arith}
+use Rattle.std.proofs.Common.{◌≡◌, ℕ, zero, suc, ◌+◌, ◌-◌, ◌<◌, ◌≤◌, List, [], ◌∷◌, length, drop, ap, subst, ◌∙◌, arith}
 use Rattle.std.proofs.lemmas.List.{drop-drop}
 use Rattle.mib_model.specs.declared.rows.VpdRow.{VpdRow}
-use Rattle.mib_laws.proofs.Nesting.{Fits, Row, Nested, nested-drop, nested-take}
+use Rattle.mib_laws.proofs.Nesting.{Fits, Nested}
 use Rattle.struct_plan.specs.Groups.{first_size, size_at}
 
 pub fits-length : (n : ℕ) (rows : List VpdRow) → Fits n rows → n ≤ length rows

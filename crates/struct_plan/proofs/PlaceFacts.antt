@@ -1,17 +1,16 @@
 -- A place among the rows of a structure, from row to row.
-use Rattle.std.proofs.Common.{◌≡◌, ℕ, zero, suc, ◌+◌, ◌-◌, ◌*◌, ◌<◌, inl, inr, ◌≤◌, ℤ, pos, negsuc, ◌<ℤ◌, ◌-ℤ◌, int_lt, Bool, true, false, cond, List, [], ◌∷◌, map, length, take, drop, Option, Some, None, refl, sym, ap, subst, ◌∙◌, arith}
-use Rattle.std.proofs.lemmas.Int.{ints}
+use Rattle.std.proofs.Common.{◌≡◌, ℕ, zero, suc, ◌+◌, ◌-◌, ◌*◌, ◌<◌, inl, inr, ◌≤◌, ℤ, pos, ◌-ℤ◌, int_lt, Bool, true, false, cond, List, [], ◌∷◌, map, length, take, drop, Option, Some, None, refl, sym, ap, subst, ◌∙◌, arith}
 use Rattle.std.proofs.lemmas.List.{drop_all}
 use Rattle.std.proofs.Math.Nat.{suc-mul}
 use Rattle.mib_model.specs.declared.packet.Ended.TheVariants as ended
 use Rattle.struct_plan.proofs.CourseFacts.{gives-none, gives-todo}
-use Rattle.std.proofs.lemmas.Bool.{lt-ltb, le-ltb}
+use Rattle.std.proofs.lemmas.Bool.{le-ltb}
 use Rattle.std.specs.List.{cons_option}
 use Rattle.mib_model.specs.declared.database.Database.{Database}
 use Rattle.mib_model.specs.declared.packet.Value.{Value}
 use Rattle.mib_model.specs.declared.rows.VpdRow.{VpdRow}
 use Rattle.mib_model.specs.Fixed.{most_values}
-use Rattle.mib_model.specs.Structures.{structure, times, group_repeated}
+use Rattle.mib_model.specs.Structures.{times, group_repeated}
 use Rattle.mib_model.specs.Walk.{Extracted, walked}
 use Rattle.mib_laws.proofs.LimitFacts.{structure-rows}
 use Rattle.mib_laws.proofs.Nesting.{Nested}
@@ -25,7 +24,7 @@ use Rattle.struct_plan.specs.declared.group.Group.{Group}
 use Rattle.struct_plan.specs.Courses.{Gives, IsFurther, IsStructure, walking}
 use Rattle.struct_plan.specs.Groups.{size_at, end_of, still_to_walk, Enclose, Ahead, IsOfRows, entered, entered_at, settled, settled_at}
 use Rattle.struct_plan.specs.Slices.{StructureRows}
-use Rattle.struct_plan.proofs.GroupFacts.{ahead-length, enclose-length, enclose-take, enclose-fewer, entered-still, entered-enclose, settled-still, settled-enclose, settled-ahead}
+use Rattle.struct_plan.proofs.GroupFacts.{ahead-length, enclose-length, enclose-take, entered-still, entered-enclose, settled-still, settled-enclose, settled-ahead}
 use Rattle.struct_plan.proofs.KnownFacts.{innermost-suffice}
 
 -- a structure of a sound database is nested

@@ -1,10 +1,10 @@
 -- One row of a walk, by its entry.
-use Rattle.std.proofs.Common.{◌≡◌, ◌≢◌, ℕ, zero, suc, ◌+◌, ◌-◌, ◌<◌, ◌≤◌, ℤ, pos, ◌+ℤ◌, Bool, true, false, not, cond, ◌||◌, nat_eq, List, [], ◌∷◌, length, take, drop, map, get_or, Option, Some, None, option_map, option_and_then, refl, sym, ap, subst, ◌∙◌, arith}
-use Rattle.std.proofs.lemmas.Bool.{eqb-true, eqb-false}
+use Rattle.std.proofs.Common.{◌≡◌, ◌≢◌, ℕ, zero, suc, ◌+◌, ◌<◌, ◌≤◌, ℤ, ◌+ℤ◌, Bool, true, false, not, cond, nat_eq, List, [], ◌∷◌, length, take, drop, map, get_or, Option, Some, None, option_map, option_and_then, refl, sym, ap, subst, ◌∙◌, arith}
+use Rattle.std.proofs.lemmas.Bool.{eqb-false}
 use Rattle.std.proofs.lemmas.Slice.Eq.{bytes_eq-Decides}
 use Rattle.std.proofs.lemmas.List.{drop_more, length-map, get_or-map}
 use Rattle.std.proofs.lemmas.List.Folds.{list_any_at}
-use Rattle.std.specs.List.{list_any, cons_option}
+use Rattle.std.specs.List.{list_any}
 use Rattle.std.specs.Str.{bytes_eq}
 use Rattle.mib_model.specs.declared.database.Database.{Database}
 use Rattle.mib_model.specs.declared.packet.Value.{Value}
@@ -14,14 +14,13 @@ use Rattle.mib_model.specs.declared.rows.VpdRow.{VpdRow}
 use Rattle.mib_model.specs.Encodings.{Encoding, encoding_of}
 use Rattle.mib_model.specs.Fixed.{most_values}
 use Rattle.mib_model.specs.Layouts.{item_named}
-use Rattle.mib_model.specs.Parameters.{parameter, parameter_encoding, endian_of}
+use Rattle.mib_model.specs.Parameters.{parameter, endian_of}
 use Rattle.mib_model.specs.Plans.{type_item, type_items}
-use Rattle.mib_model.specs.Structures.{Typed, typed, subject, deduced, own_or_deduced, structure, group_repeated, is_yes}
-use Rattle.mib_model.specs.Walk.{Extracted, Walking, Goes, on_row, on_subject, walked}
+use Rattle.mib_model.specs.Structures.{Typed, typed, subject, deduced, own_or_deduced, group_repeated, is_yes}
+use Rattle.mib_model.specs.Walk.{Extracted, Goes, on_row, on_subject}
 use Rattle.mib_laws.proofs.Nesting.{Nested, nested-drop}
 use Rattle.mib_laws.proofs.SliceFacts.{item_from, named}
 use Rattle.struct_plan.specs.declared.course.Course.{Course}
-use Rattle.struct_plan.specs.declared.entry.Act.{Act}
 use Rattle.struct_plan.specs.declared.entry.Act.TheVariants as act
 use Rattle.struct_plan.specs.declared.entry.Entry.{Entry}
 use Rattle.struct_plan.specs.declared.entry.Field.{Field}
@@ -32,7 +31,7 @@ use Rattle.struct_plan.specs.declared.group.Group.{Group}
 use Rattle.struct_plan.specs.Courses.{Gives, Leads, IsStructure, walking}
 use Rattle.struct_plan.specs.Entries.{entry_of, act_of, field_of, field_at, item_field, subject_by, own, then_of}
 use Rattle.struct_plan.specs.Groups.{size_at, still_to_walk, Enclose, Ahead}
-use Rattle.struct_plan.specs.Slices.{StructureRows, deduced_item}
+use Rattle.struct_plan.specs.Slices.{StructureRows}
 use Rattle.struct_plan.proofs.EntryFacts.{head_or}
 use Rattle.struct_plan.proofs.CourseFacts.{gives-row, gives-todo}
 use Rattle.struct_plan.proofs.GroupFacts.{enclose-fewer, next-still, row-enclose}

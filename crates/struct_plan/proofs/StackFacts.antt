@@ -1,5 +1,5 @@
 -- Groups that are put on a stack and taken off it.
-use Rattle.std.proofs.Common.{◌≡◌, ℕ, zero, suc, ◌+◌, ◌-◌, ◌<◌, ◌≤◌, min, Bool, true, false, nat_le, List, [], ◌∷◌, ◌++◌, map, length, take, drop, set, get_or, refl, sym, ap, subst, ◌∙◌, arith}
+use Rattle.std.proofs.Common.{◌≡◌, ℕ, zero, suc, ◌+◌, ◌-◌, ◌<◌, ◌≤◌, min, Bool, true, false, nat_le, List, ◌∷◌, ◌++◌, map, length, take, drop, set, get_or, refl, sym, ap, ◌∙◌, arith}
 use Rattle.std.proofs.lemmas.Bool.{leb-true, leb-false}
 use Rattle.std.proofs.lemmas.List.{length-drop, length-map, length-take-le, take_all, take-take, take-map, drop_at, drop-set-add, drop-set-lt, drop-drop, get_or-drop}
 use Rattle.mib_model.specs.declared.packet.Value.{Value}
@@ -106,6 +106,7 @@ gathered room count few k by xs long high le is some straight around = sides (na
         let above = leb-false count (room - 1) h in
         let same : room - 1 ≡ few = omega (arith, is, above) in
         fewer-kept (room - 1) count k xs (omega (arith, above)) ∙ ap (λ n. first_kept n k xs) same
+
   sides : (b : Bool) → nat_le room (k + few) ≡ b → first_kept few (room - few) (round by xs) ≡ take (room - 1) (first_kept count k xs)
   sides false h =
       let below : k + few < room = leb-false room (k + few) h in

@@ -1,5 +1,5 @@
 -- Groups that are still to be repeated, and the rows that are still to be walked with them. [This profile.]
-use Rattle.std.specs.Prelude.{ℕ, suc, ◌+◌, ◌-◌, ◌<◌, ◌≤◌, ℤ, pos, ◌<ℤ◌, ◌-ℤ◌, int_lt, List, [], ◌∷◌, ◌++◌, take, drop, length, ◌==◌, Option, Some, None, if◌then◌else◌}
+use Rattle.std.specs.Prelude.{ℕ, ◌+◌, ◌-◌, ◌<◌, ◌≤◌, ℤ, pos, ◌<ℤ◌, ◌-ℤ◌, int_lt, List, [], ◌∷◌, ◌++◌, take, drop, length, ◌==◌, if◌then◌else◌}
 use Rattle.std.specs.Ordering.{int_eq}
 use Rattle.std.specs.List.{repeat}
 use Rattle.mib_model.specs.declared.rows.VpdRow.{VpdRow}

@@ -1,5 +1,5 @@
 -- A place among the rows of a structure, with the groups round it. [This profile.]
-use Rattle.std.specs.Prelude.{◌≡◌, ℕ, ◌+◌, ℤ, List, [], ◌∷◌, Option, Some, None}
+use Rattle.std.specs.Prelude.{◌≡◌, List, None}
 use Rattle.std.specs.List.{cons_option}
 use Rattle.mib_model.specs.declared.rows.VpdRow.{VpdRow}
 use Rattle.bit_field.specs.declared.values.Values.{Values}

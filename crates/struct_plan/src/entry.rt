@@ -2,7 +2,6 @@
 ghost use Rattle.std.specs.Prelude.{◌≡◌, IfOk, Some, map};
 ghost use Rattle.std.specs.Option.{option_copied};
 ghost use Rattle.mib_model.specs.Layouts.{item_named};
-
 ghost use Rattle.struct_plan.specs.Entries as Spec;
 ghost use Rattle.struct_plan.specs.Entries.{act_of, entry_of, item_field, subject_by, then_of};
 

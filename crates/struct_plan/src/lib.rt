@@ -22,4 +22,3 @@ pub use bit_field::Values;
 pub use mib_model::{Ended, TypeItem};
 pub use structure::{Structure, Structures};
 pub use walks::walk;
-

@@ -126,13 +126,7 @@ impl Place {
     }
 
     /// Goes on behind a row whose group is counted.
-    pub fn repeat(
-        &mut self,
-        size: u16,
-        count: i128,
-        structure: &Structure,
-        values: &mut Values,
-    )
+    pub fn repeat(&mut self, size: u16, count: i128, structure: &Structure, values: &mut Values)
         requires slots { length values.old.slots.now ≡ most_values }
         requires used { values.old.used ≤ most_values }
         requires place { IsPlace values.old self.old }
@@ -142,7 +136,7 @@ impl Place {
         requires room { length structure.now.vpds ≤ usize.MAX }
         ensures gives { (db : Database) (packet : List ℕ) (end : Extracted) (course : Course) → IsStructure db structure.now →
             Gives db packet end (walking (group_repeated size (times count) (still_to_walk structure.now.vpds (self.old.at + 1) (groups values.old self.old)))
-                course (taken values.old)) →
+            course (taken values.old)) →
             Gives db packet end (walking (still_to_walk structure.now.vpds self.new.at (groups values.new self.new)) course (taken values.new)) }
         ensures among { IsAmong structure.now.vpds values.new self.new }
         ensures taken { taken values.new ≡ taken values.old }
@@ -172,7 +166,7 @@ impl Place {
         requires room { length structure.now.vpds ≤ usize.MAX }
         ensures gives { (db : Database) (packet : List ℕ) (end : Extracted) (course : Course) → IsStructure db structure.now →
             Gives db packet end (walking (group_repeated size count (still_to_walk structure.now.vpds (self.old.at + 1) (groups values.old self.old)))
-                course (taken values.old)) →
+            course (taken values.old)) →
             Gives db packet end (walking (still_to_walk structure.now.vpds self.new.at (groups values.new self.new)) course (taken values.new)) }
         ensures among { IsAmong structure.now.vpds values.new self.new }
         ensures further { self.new.at ≡ self.old.at + 1 }

@@ -45,11 +45,7 @@ fn turns(behind: u32, room: u32) -> u32
     ensures straight { behind < room → result ≡ behind }
     ensures around { room ≤ behind → result + room ≡ behind }
 {
-    if behind < room {
-        behind
-    } else {
-        behind - room
-    }
+    if behind < room { behind } else { behind - room }
 }
 
 // Turns the slots from a place on, so many to the left.

@@ -1,4 +1,4 @@
-ghost use Rattle.std.specs.Prelude.{◌≡◌, ◌<◌, ◌≤◌, List, ◌∷◌, drop, length, Option, IfOk, OnOk, OnErr};
+ghost use Rattle.std.specs.Prelude.{◌≡◌, ◌+◌, ◌<◌, ◌≤◌, List, ◌∷◌, drop, length, Option, IfOk, OnOk, OnErr};
 ghost use Rattle.mib_model.specs.declared.rows.VpdRow.{VpdRow};
 ghost use Rattle.std.specs.Option.{option_copied};
 ghost use Rattle.mib_model.specs.declared.database.Database.{Database};

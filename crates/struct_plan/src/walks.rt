@@ -117,7 +117,7 @@ fn go_on(
     ensures goes { (db : Database) (octets : List ℕ) (end : Extracted) (row : VpdRow) →
         IsStructure db structure.now → after ≡ then_of row → size ≡ row.grpsize →
         Leads db octets end (after_value db row (still_to_walk structure.now.vpds (place.old.at + 1) (groups values.old place.old)) raw
-            (walking (still_to_walk structure.now.vpds (place.old.at + 1) (groups values.old place.old)) course.old (taken values.old))) →
+        (walking (still_to_walk structure.now.vpds (place.old.at + 1) (groups values.old place.old)) course.old (taken values.old))) →
         GoesOn db octets end (still_to_walk structure.now.vpds place.new.at (groups values.new place.new)) course.new (taken values.new) result }
     ensures among { result ≡ None → IsAmong structure.now.vpds values.new place.new }
     ensures cursor { course.new.cursor ≡ course.old.cursor }

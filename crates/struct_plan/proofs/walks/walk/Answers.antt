@@ -1,12 +1,10 @@
-use Rattle.std.proofs.Common.{◌≡◌, ◌∙◌, ◌+◌, ◌*◌, ℕ, ℤ, pos, List, [], take, Option, Some, None, refl, sym, ap, subst, arith}
+use Rattle.std.proofs.Common.{◌≡◌, ◌∙◌, ℤ, pos, [], take, refl, sym, ap, subst, arith}
 use Rattle.std.proofs.lemmas.Int.{ints, to_z-of_z}
-use Rattle.mib_model.specs.declared.packet.Value.{Value}
 use Rattle.mib_model.specs.Structures.{structure}
 use Rattle.mib_model.specs.Walk.{chosen, structure_values}
 use Rattle.bit_field.specs.Taken.{taken}
 use Rattle.struct_plan.specs.declared.course.Course.{Course}
 use Rattle.struct_plan.specs.Courses.{IsNear, Leads, walking}
-use Rattle.struct_plan.specs.Slices.{structure_found}
 use Rattle.struct_plan.proofs.ChoiceFacts.{starts, found-gives, missing-gives, found-structure}
 use Rattle.struct_plan.proofs.walks.walk.Goals as goal
 use mir.Val.{to_z, of_z}

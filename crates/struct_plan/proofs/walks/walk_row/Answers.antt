@@ -1,7 +1,6 @@
-use Rattle.std.proofs.Common.{◌≡◌, ◌∙◌, ◌+◌, ◌-◌, ◌<◌, ◌≤◌, ◌∷◌, ℕ, ℤ, pos, ◌+ℤ◌, List, take, length, sym, ap, subst, arith}
-use Rattle.std.proofs.lemmas.Int.{ints, to_z-of_z}
+use Rattle.std.proofs.Common.{◌≡◌, ◌∙◌, ◌+◌, ◌-◌, ◌≤◌, ◌∷◌, ℕ, ℤ, ◌+ℤ◌, List, take, length, sym, ap, subst, arith}
+use Rattle.std.proofs.lemmas.Int.{to_z-of_z}
 use Rattle.std.proofs.lemmas.List.{length-take-le}
-use Rattle.mib_model.specs.declared.packet.Value.{Value}
 use Rattle.mib_model.specs.Fixed.{most_values}
 use Rattle.bit_field.specs.Taken.{taken}
 use Rattle.struct_plan.specs.declared.course.Course.{Course}
@@ -19,7 +18,7 @@ use Rattle.mib_model.specs.Structures.{group_repeated}
 use Rattle.struct_plan.proofs.RowFacts.{around-row, repeats, repeat-gives, give-leads, gives-fewer, counts-some}
 use Rattle.struct_plan.proofs.walks.walk_row.Goals as goal
 use mir.Val.{to_z, of_z}
-use mir.Syntax.{w128, w32}
+use mir.Syntax.{w128}
 
 pub repeat_fixed-requires-clause-some : goal.repeat_fixed-requires-clause-some
 repeat_fixed-requires-clause-some g c =

@@ -1,11 +1,10 @@
-use Rattle.std.proofs.Common.{◌≡◌, ◌+◌, ◌≤◌, ◌<◌, ◌∙◌, length, None, refl, sym, subst, arith}
-use Rattle.std.proofs.lemmas.Int.{ints}
+use Rattle.std.proofs.Common.{◌≡◌, ◌∙◌, length, None, refl, sym, subst, arith}
 use Rattle.mib_model.specs.Fixed.{most_values}
 use Rattle.bit_field.specs.Taken.{taken}
 use Rattle.struct_plan.specs.declared.place.Place.{Place}
 use Rattle.struct_plan.specs.Courses.{Gives, IsNear, walking}
 use Rattle.struct_plan.specs.Groups.{still_to_walk}
-use Rattle.struct_plan.specs.Places.{groups, IsAmong, IsPlace}
+use Rattle.struct_plan.specs.Places.{groups, IsAmong}
 use Rattle.struct_plan.specs.Stacks.{IsWithin}
 use Rattle.struct_plan.proofs.PlaceFacts.{gives-whole, fewer-left, later}
 use Rattle.struct_plan.proofs.walks.walk_structure.Goals as goal

@@ -1,13 +1,12 @@
-use Rattle.std.proofs.Common.{◌≡◌, ◌∙◌, ◌+◌, ◌-◌, ◌<◌, ◌≤◌, ℕ, suc, ℤ, pos, List, take, length, sym, ap, subst, arith}
+use Rattle.std.proofs.Common.{◌≡◌, ◌∙◌, ◌+◌, ◌-◌, suc, ℤ, pos, List, length, sym, ap, subst, arith}
 use Rattle.std.proofs.lemmas.Int.{to_z-of_z}
 use Rattle.std.proofs.lemmas.List.{length-take-le}
 use Rattle.mib_model.specs.declared.rows.VpdRow.{VpdRow}
-use Rattle.mib_model.specs.Fixed.{most_values}
 use Rattle.mib_model.specs.Structures.{group_repeated, times}
 use Rattle.bit_field.specs.Taken.{taken}
 use Rattle.struct_plan.specs.declared.group.Group.{Group}
 use Rattle.struct_plan.specs.Courses.{Gives, walking}
-use Rattle.struct_plan.specs.Groups.{still_to_walk, size_at, entered, entered_at, Enclose}
+use Rattle.struct_plan.specs.Groups.{still_to_walk}
 use Rattle.struct_plan.specs.Places.{groups}
 use Rattle.struct_plan.proofs.GroupFacts.{enclose-length}
 use Rattle.struct_plan.proofs.PlaceFacts.{structure-nested, behind-around, behind-gives, behind-ahead}

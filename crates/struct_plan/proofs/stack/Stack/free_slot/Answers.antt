@@ -1,4 +1,4 @@
-use Rattle.std.proofs.Common.{◌≡◌, ◌<◌, ◌≤◌, ◌∙◌, ◌+◌, ◌-◌, List, drop, take, length, min, ap, sym, arith}
+use Rattle.std.proofs.Common.{◌≡◌, ◌∙◌, ◌+◌, ◌-◌, List, drop, take, length, min, ap, arith}
 use Rattle.std.proofs.lemmas.List.{length-drop}
 use Rattle.mib_model.specs.Fixed.{most_values}
 use Rattle.mib_model.specs.declared.packet.Value.{Value}

@@ -1,7 +1,6 @@
-use Rattle.std.proofs.Common.{◌≡◌, ◌∙◌, ◌+◌, ◌-◌, Bool, true, cond, List, take, drop, set, sym, ap, lt-ltb, arith}
+use Rattle.std.proofs.Common.{◌≡◌, ◌∙◌, ◌+◌, ◌-◌, Bool, true, cond, List, take, drop, set, ap, lt-ltb, arith}
 use Rattle.mib_model.specs.Fixed.{most_values}
 use Rattle.mib_model.specs.declared.packet.Value.{Value}
-use Rattle.struct_plan.specs.declared.group.Group.{Group}
 use Rattle.struct_plan.proofs.StackFacts.{first_kept, behind-given}
 use Rattle.struct_plan.proofs.stack.Stack.give.Goals as goal
 

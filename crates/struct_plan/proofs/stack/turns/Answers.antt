@@ -1,1 +1,0 @@
-use Rattle.struct_plan.proofs.RowFacts.{give-leads}
