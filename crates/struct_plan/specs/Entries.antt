@@ -26,7 +26,8 @@ moves_by given width = if given == 0 then width else given
 
 -- what the walk needs of a parameter by its type item, where its type is known
 abbrev pub item_field : TypeItem → Option Field
-item_field item = option_map (λ (e : Encoding). record { name = item.name; shape = e; moves = moves_by item.width e.width }) (encoding_of item.ptc item.pfc item.endian)
+item_field item =
+    option_map (λ (e : Encoding). record { name = item.name; shape = e; moves = moves_by item.width e.width }) (encoding_of item.ptc item.pfc item.endian)
 
 -- a parameter's own value, where its type is known
 abbrev pub own : Option Field → Subject

@@ -14,9 +14,13 @@ round at xs = drop at xs ++ take at xs
 abbrev pub group_in : Value → Group
 group_in value = record { row = value.at; left = value.raw }
 
+-- the slots that aren't in use
+abbrev pub unused : Values → List Value
+unused values = drop values.used values.slots.now
+
 -- the slots that keep groups: so many from the top on, and round behind the last to the first that isn't in use
 abbrev pub kept_slots : Values → Stack → List Value
-kept_slots values stack = take stack.count (round (stack.top - values.used) (drop values.used values.slots.now))
+kept_slots values stack = take stack.count (round (stack.top - values.used) (unused values))
 
 -- the groups that are kept, the innermost first
 abbrev pub kept : Values → Stack → List Group

@@ -3,7 +3,7 @@ ghost use Rattle.std.specs.Prelude.{◌≡◌, ◌+◌, ◌-◌, ◌*◌, ◌<�
 ghost use Rattle.mib_model.specs.declared.packet.Value.{Value};
 ghost use Rattle.mib_model.specs.Fixed.{most_values};
 ghost use Rattle.bit_field.specs.Taken.{taken};
-ghost use Rattle.struct_plan.specs.Stacks.{round, group_in, kept, IsWithin, popped};
+ghost use Rattle.struct_plan.specs.Stacks.{round, group_in, unused, kept, IsWithin, popped};
 
 use crate::group::Group;
 use bit_field::{MOST_VALUES, Values};
@@ -74,7 +74,7 @@ impl Stack {
         requires within { IsWithin values.now self }
         ensures low { values.now.used ≤ result }
         ensures high { result < most_values }
-        ensures same { round (result - values.now.used) (drop values.now.used values.now.slots.now) ≡ round (self.top - values.now.used) (drop values.now.used values.now.slots.now) }
+        ensures same { round (result - values.now.used) (unused values.now) ≡ round (self.top - values.now.used) (unused values.now) }
     {
         if self.top == MOST_VALUES {
             values.used
@@ -90,7 +90,7 @@ impl Stack {
         requires within { IsWithin values.now self }
         ensures low { values.now.used ≤ result }
         ensures high { result < most_values }
-        ensures same { round (result + 1 - values.now.used) (drop values.now.used values.now.slots.now) ≡ round (self.top - values.now.used) (drop values.now.used values.now.slots.now) }
+        ensures same { round (result + 1 - values.now.used) (unused values.now) ≡ round (self.top - values.now.used) (unused values.now) }
     {
         if self.top == values.used {
             MOST_VALUES - 1

@@ -160,8 +160,10 @@ fn walk_row<S: Structures>(
     requires inside { place.old.at < length structure.now.vpds }
     requires near { IsNear course.old.cursor place.old.at }
     ensures goes { (end : Extracted) →
-        Gives (S.tables all.now) packet.now end (walking (still_to_walk structure.now.vpds place.old.at (groups values.old place.old)) course.old (taken values.old)) →
-        GoesOn (S.tables all.now) packet.now end (still_to_walk structure.now.vpds place.new.at (groups values.new place.new)) course.new (taken values.new) result }
+        Gives (S.tables all.now) packet.now end
+        (walking (still_to_walk structure.now.vpds place.old.at (groups values.old place.old)) course.old (taken values.old)) →
+        GoesOn (S.tables all.now) packet.now end (still_to_walk structure.now.vpds place.new.at (groups values.new place.new))
+        course.new (taken values.new) result }
     ensures among { result ≡ None → IsAmong structure.now.vpds values.new place.new }
     ensures near { result ≡ None → IsNear course.new.cursor place.new.at }
     ensures further { result ≡ None → IsFurther values.old.used place.old.at values.new.used place.new.at }
