@@ -6,11 +6,11 @@ pub mod PlainRunFacts
 pub mod RegisterFacts
 pub mod CutFacts
 pub mod DeskFacts
-mod Nesting
-mod WalkFacts
+pub mod Nesting
+pub mod WalkFacts
 mod Sorting
 pub mod SoundStructures
-mod LimitFacts
-mod Ends
+pub mod LimitFacts
+pub mod Ends
 pub mod SliceFacts
 pub mod MatchFacts

@@ -29,7 +29,7 @@ unfolding sorted_by
 length-sorted before [] = refl
 length-sorted before (x ∷ xs) = length-insert before x (sorted_by before xs) ∙ ap suc (length-sorted before xs)
 
-structure-rows : (db : Database) → IsLargest db (length db.vpd)
+pub structure-rows : (db : Database) → IsLargest db (length db.vpd)
 unfolding structure
 structure-rows db tpsd =
     let test : VpdRow → Bool = λ row. int_eq (pos row.tpsd) tpsd in

@@ -16,7 +16,7 @@ use Rattle.mib_model.specs.Parameters.{parameter, measured_encoding}
 use Rattle.mib_model.specs.Plans.{type_item, type_items, layout_rows}
 
 -- equal octets are the same
-same_octets : (x y : List ℕ) → bytes_eq x y ≡ true → x ≡ y
+pub same_octets : (x y : List ℕ) → bytes_eq x y ≡ true → x ≡ y
 same_octets x y = (bytes_eq-Decides x y).0
 
 found-step : {R : Type 0} (p : R → Bool) (y x : R) (here : Bool) (rest : Option R) → p y ≡ here → cond here (Some y) rest ≡ Some x → (rest ≡ Some x → p x ≡ true) → p x ≡ true
@@ -31,7 +31,7 @@ found-passes p [] x is = absurd (cc is)
 found-passes p (y ∷ ys) x is = found-step p y x (p y) (find p ys) refl is (found-passes p ys x)
 
 -- the item that a parameter gives, if there is one
-abbrev item_from : Option PcfRow → Option TypeItem
+abbrev pub item_from : Option PcfRow → Option TypeItem
 item_from row = option_and_then (λ r. Some (type_item r)) row
 
 no-choice : (b : Bool) → let none : Option TypeItem = None in cond b none none ≡ none
@@ -60,7 +60,7 @@ named-step db n m (Some row) rest others some more =
     ap first named ∙ with-item db n m row (bytes_eq m n) others (item_named rest n) refl some more
 
 -- the item of a name among those of names: that of its parameter, where the name is one of them
-named : (db : Database) (n : List ℕ) (ns : List (List ℕ)) → item_named (type_items db ns) n ≡ cond (list_any (λ m. bytes_eq m n) ns) (item_from (parameter db.pcf n)) None
+pub named : (db : Database) (n : List ℕ) (ns : List (List ℕ)) → item_named (type_items db ns) n ≡ cond (list_any (λ m. bytes_eq m n) ns) (item_from (parameter db.pcf n)) None
 named db n [] = refl
 named db n (m ∷ ms) = named-step db n m (parameter db.pcf m) (type_items db ms) (list_any (λ x. bytes_eq x n) ms) refl (named db n ms)
 

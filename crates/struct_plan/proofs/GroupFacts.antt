@@ -1,0 +1,238 @@
+-- The rows still to walk with groups round a place.
+use Rattle.std.proofs.Common.{◌≡◌, ℕ, zero, suc, ◌+◌, ◌-◌, ◌<◌, ◌≤◌, ℤ, pos, negsuc, ◌<ℤ◌, ◌-ℤ◌, int_lt, Bool, true, false, cond, nat_eq, List, [], ◌∷◌, ◌++◌, length, take, drop, refl, sym, ap, subst, ◌∙◌, arith}
+use Rattle.std.proofs.lemmas.Bool.{eqb-true, eqb-false, lt-ltb, le-ltb}
+use Rattle.std.proofs.lemmas.Bool.Decides.{Decides-int_eq}
+use Rattle.std.proofs.lemmas.Int.{ints}
+use Rattle.std.proofs.lemmas.List.{append_assoc, append-nil, take-append-drop, drop-drop, length-drop, length-take-le, take-take, take-append-le, drop-append-le, drop-take}
+use Rattle.std.specs.List.{repeat}
+use Rattle.std.specs.Ordering.{int_eq}
+use Rattle.mib_model.specs.declared.rows.VpdRow.{VpdRow}
+use Rattle.mib_model.specs.Structures.{times, group_repeated}
+use Rattle.mib_laws.proofs.Nesting.{Nested}
+use Rattle.struct_plan.specs.declared.group.Group.{Group}
+use Rattle.struct_plan.specs.Groups.{size_at, end_of, body, still_to_walk, Enclose, Ahead, once_less, settled_at, settled, entered_at, entered}
+use Rattle.struct_plan.proofs.NestFacts.{within-group, within-rows}
+
+-- numbers above 1
+more : (n : ℕ) → int_lt (pos 1) (pos (suc (suc n))) ≡ true
+more n = lt-ltb 1 (suc (suc n)) (omega arith)
+
+not_none : (n : ℕ) → int_lt (pos (suc (suc n))) (pos 1) ≡ false
+not_none n = le-ltb (suc (suc n)) 1 (omega arith)
+
+less : (n : ℕ) → pos (suc (suc n)) -ℤ pos 1 ≡ pos (suc n)
+less n = omega (arith, ints)
+
+not_one : (n : ℕ) (b : Bool) → int_eq (pos (suc (suc n))) (pos 1) ≡ b → b ≡ false
+not_one n false is = refl
+not_one n true is = let same = (Decides-int_eq (pos (suc (suc n))) (pos 1)).0 is in absurd (omega (arith, ints, same))
+
+module _ (rows : List VpdRow) where
+  -- groups that hold some rows hold fewer
+  pub enclose-fewer : (low high low' high' : ℕ) (gs : List Group) → low ≤ low' → high' ≤ high → Enclose rows low high gs → Enclose rows low' high' gs
+  enclose-fewer low high low' high' [] up down around = omega (arith, down, around)
+  enclose-fewer low high low' high' (g ∷ gs) up down around =
+      let a = around.0 in let b = around.1 in
+      (omega (arith, up, a), omega (arith, down, b), around.2, around.3, around.4)
+
+  pub enclose-length : (low high : ℕ) (gs : List Group) → Enclose rows low high gs → high ≤ length rows
+  enclose-length low high [] around = around
+  enclose-length low high (g ∷ gs) around = let le = enclose-length g.row (end_of rows g) gs around.4 in let b = around.1 in omega (arith, le, b)
+
+  -- the innermost of them
+  pub enclose-take : (n low high : ℕ) (gs : List Group) → Enclose rows low high gs → Enclose rows low high (take n gs)
+  enclose-take zero low high gs around = enclose-length low high gs around
+  enclose-take (suc n) low high [] around = around
+  enclose-take (suc n) low high (g ∷ gs) around = (around.0, around.1, around.2, around.3, enclose-take n g.row (end_of rows g) gs around.4)
+
+  -- the next rows that lie in the innermost group
+  pub take-still : (low at k : ℕ) (gs : List Group) → Enclose rows low (at + k) gs → take k (still_to_walk rows at gs) ≡ take k (drop at rows)
+  take-still low at k [] around = refl
+  take-still low at k (g ∷ gs) around =
+      let e = end_of rows g in
+      let more : List VpdRow = repeat (times g.left) (body rows g) ++ still_to_walk rows e gs in
+      let b = around.1 in
+      let le = enclose-length g.row e gs around.4 in
+      let front : length (take (e - at) (drop at rows)) ≡ e - at = length-take-le (e - at) (drop at rows) (omega (arith, length-drop at rows, le)) in
+      ap (take k) (append_assoc (take (e - at) (drop at rows)) (repeat (times g.left) (body rows g)) (still_to_walk rows e gs)) ∙
+      (take-append-le k (take (e - at) (drop at rows)) more (omega (arith, front, b)) ∙ take-take k (e - at) (drop at rows) (omega (arith, b)))
+
+  -- the rows behind them
+  pub drop-still : (low at k : ℕ) (gs : List Group) → Enclose rows low (at + k) gs → drop k (still_to_walk rows at gs) ≡ still_to_walk rows (at + k) gs
+  drop-still low at k [] around = drop-drop k at rows
+  drop-still low at k (g ∷ gs) around =
+      let e = end_of rows g in
+      let reps : List VpdRow = repeat (times g.left) (body rows g) in
+      let behind : List VpdRow = still_to_walk rows e gs in
+      let b = around.1 in
+      let le = enclose-length g.row e gs around.4 in
+      let front : length (take (e - at) (drop at rows)) ≡ e - at = length-take-le (e - at) (drop at rows) (omega (arith, length-drop at rows, le)) in
+      let count : e - at ≡ k + (e - (at + k)) = omega (arith, b) in
+      let rest : drop k (take (e - at) (drop at rows)) ≡ take (e - (at + k)) (drop (at + k) rows) =
+      ap (λ n. drop k (take n (drop at rows))) count ∙ (drop-take k (e - (at + k)) (drop at rows) ∙ ap (take (e - (at + k))) (drop-drop k at rows)) in
+      ap (drop k) (append_assoc (take (e - at) (drop at rows)) reps behind) ∙
+      (drop-append-le k (take (e - at) (drop at rows)) (reps ++ behind) (omega (arith, front, b)) ∙
+      (ap (λ (xs : List VpdRow). xs ++ (reps ++ behind)) rest ∙ sym (append_assoc (take (e - (at + k)) (drop (at + k) rows)) reps behind)))
+
+  -- the next row and those behind it
+  pub next-still : (low at : ℕ) (gs : List Group) (row : VpdRow) (rest : List VpdRow) → Enclose rows low (at + 1) gs → drop at rows ≡ row ∷ rest → still_to_walk rows at gs ≡ row ∷ still_to_walk rows (at + 1) gs
+  next-still low at gs row rest around is =
+      sym (take-append-drop 1 (still_to_walk rows at gs)) ∙
+      (ap (λ (xs : List VpdRow). xs ++ drop 1 (still_to_walk rows at gs)) (take-still low at 1 gs around ∙ ap (take 1) is) ∙
+      ap (λ (xs : List VpdRow). row ∷ xs) (drop-still low at 1 gs around))
+
+  -- a group at a place is the rows up to its end
+  pub still-split : (low at k : ℕ) (gs : List Group) → Enclose rows low (at + k) gs → still_to_walk rows at gs ≡ take k (drop at rows) ++ still_to_walk rows (at + k) gs
+  still-split low at k gs around =
+      sym (take-append-drop k (still_to_walk rows at gs)) ∙
+      (ap (λ (xs : List VpdRow). xs ++ drop k (still_to_walk rows at gs)) (take-still low at k gs around) ∙
+      ap (λ (xs : List VpdRow). take k (drop at rows) ++ xs) (drop-still low at k gs around))
+
+  -- the group of the row at a place, walked so often
+  module _ (at : ℕ) (gs : List Group) (around : Enclose rows at (at + 1 + size_at rows at) gs) where
+    abbrev s : ℕ
+    s = size_at rows at
+
+    abbrev rest : List VpdRow
+    rest = still_to_walk rows (at + 1) gs
+
+    abbrev own : List VpdRow
+    own = take s (drop (at + 1) rows)
+
+    repeated : (n : ℕ) → group_repeated s n rest ≡ repeat n own ++ still_to_walk rows (at + 1 + s) gs
+    repeated n =
+        ap (λ (xs : List VpdRow). repeat n xs ++ drop s rest) (take-still at (at + 1) s gs around) ∙
+        ap (λ (xs : List VpdRow). repeat n own ++ xs) (drop-still at (at + 1) s gs around)
+
+    again : (n : ℕ) → still_to_walk rows (at + 1) (record { row = at; left = pos n } ∷ gs) ≡ group_repeated s (suc n) rest
+    again n =
+        let count : at + 1 + s - (at + 1) ≡ s = omega arith in
+        ap (λ k. (take k (drop (at + 1) rows) ++ repeat n own) ++ still_to_walk rows (at + 1 + s) gs) count ∙ sym (repeated (suc n))
+
+    once : rest ≡ group_repeated s 1 rest
+    once =
+        still-split at (at + 1) s gs around ∙ (ap (λ (xs : List VpdRow). xs ++ still_to_walk rows (at + 1 + s) gs) (sym (append-nil own)) ∙ sym (repeated 1))
+
+    none : still_to_walk rows (at + 1 + s) gs ≡ group_repeated s 0 rest
+    none = sym (repeated 0)
+
+    walked : (b c : Bool) (left : ℤ) (n : ℕ) → b ≡ false → c ≡ true → left ≡ pos (suc n) → still_to_walk rows (cond b (at + 1 + s) (at + 1)) (cond c (record { row = at; left = left } ∷ gs) gs) ≡ group_repeated s (suc (suc n)) rest
+    walked true c left n bs cs is = absurd (cc bs)
+    walked false false left n bs cs is = absurd (cc cs)
+    walked false true left n bs cs is = ap (λ (l : ℤ). still_to_walk rows (at + 1) (record { row = at; left = l } ∷ gs)) is ∙ again (suc n)
+
+    inside : (b c : Bool) (left : ℤ) (n : ℕ) → 0 < s → b ≡ false → c ≡ true → left ≡ pos (suc n) → Enclose rows (cond b (at + 1 + s) (at + 1)) (cond b (at + 1 + s) (at + 1)) (cond c (record { row = at; left = left } ∷ gs) gs)
+    inside true c left n some bs cs is = absurd (cc bs)
+    inside false false left n some bs cs is = absurd (cc cs)
+    inside false true left n some bs cs is = (omega arith, omega arith, some, omega (arith, ints, is), around)
+
+    pub entered-still : (n : ℤ) → still_to_walk rows (entered_at at s n) (entered at n gs) ≡ group_repeated s (times n) rest
+    entered-still (negsuc n) = none
+    entered-still (pos zero) = none
+    entered-still (pos (suc zero)) = once
+    entered-still (pos (suc (suc n))) = walked (int_lt (pos (suc (suc n))) (pos 1)) (int_lt (pos 1) (pos (suc (suc n)))) (pos (suc (suc n)) -ℤ pos 1) n (not_none n) (more n) (less n)
+
+    pub entered-enclose : 0 < s → (n : ℤ) → Enclose rows (entered_at at s n) (entered_at at s n) (entered at n gs)
+    entered-enclose some (negsuc n) = enclose-fewer at (at + 1 + s) (at + 1 + s) (at + 1 + s) gs (omega arith) (omega arith) around
+    entered-enclose some (pos zero) = enclose-fewer at (at + 1 + s) (at + 1 + s) (at + 1 + s) gs (omega arith) (omega arith) around
+    entered-enclose some (pos (suc zero)) = enclose-fewer at (at + 1 + s) (at + 1) (at + 1) gs (omega arith) (omega arith) around
+    entered-enclose some (pos (suc (suc n))) = inside (int_lt (pos (suc (suc n))) (pos 1)) (int_lt (pos 1) (pos (suc (suc n)))) (pos (suc (suc n)) -ℤ pos 1) n some (not_none n) (more n) (less n)
+
+  -- the innermost group where its end was reached: the walk goes on with its next repetition
+  module _ (g : Group) (gs : List Group) (around : Enclose rows (end_of rows g) (end_of rows g) (g ∷ gs)) where
+    abbrev e : ℕ
+    e = end_of rows g
+
+    holds : Enclose rows g.row (g.row + 1 + size_at rows g.row) gs
+    holds = around.4
+
+    settled-groups : List Group
+    settled-groups = once_less g gs
+
+    at_end : (n : ℕ) → times g.left ≡ suc n → still_to_walk rows e (g ∷ gs) ≡ body rows g ++ (repeat n (body rows g) ++ still_to_walk rows e gs)
+    at_end n is =
+        let none : e - e ≡ 0 = omega arith in
+        ap (λ k. (take k (drop e rows) ++ repeat (times g.left) (body rows g)) ++ still_to_walk rows e gs) none ∙
+        (ap (λ k. repeat k (body rows g) ++ still_to_walk rows e gs) is ∙ append_assoc (body rows g) (repeat n (body rows g)) (still_to_walk rows e gs))
+
+    last_time : times g.left ≡ 1 → still_to_walk rows (g.row + 1) gs ≡ still_to_walk rows e (g ∷ gs)
+    last_time is = still-split g.row (g.row + 1) (size_at rows g.row) gs holds ∙ sym (at_end 0 is)
+
+    next_time : (n : ℕ) → times g.left ≡ suc (suc n) → still_to_walk rows (g.row + 1) (record g { left = pos (suc n) } ∷ gs) ≡ still_to_walk rows e (g ∷ gs)
+    next_time n is =
+        let count : e - (g.row + 1) ≡ size_at rows g.row = omega arith in
+        ap (λ k. (take k (drop (g.row + 1) rows) ++ repeat (suc n) (body rows g)) ++ still_to_walk rows e gs) count ∙
+        (append_assoc (body rows g) (repeat (suc n) (body rows g)) (still_to_walk rows e gs) ∙ sym (at_end (suc n) is))
+
+    next_still : (b : Bool) (left : ℤ) (n : ℕ) → times g.left ≡ suc (suc n) → b ≡ false → left ≡ pos (suc n) → still_to_walk rows (g.row + 1) (cond b gs (record g { left = left } ∷ gs)) ≡ still_to_walk rows e (g ∷ gs)
+    next_still true left n is bs same = absurd (cc bs)
+    next_still false left n is bs same = ap (λ (l : ℤ). still_to_walk rows (g.row + 1) (record g { left = l } ∷ gs)) same ∙ next_time n is
+
+    next_enclose : (b : Bool) (left : ℤ) (n : ℕ) → b ≡ false → left ≡ pos (suc n) → Enclose rows (g.row + 1) (g.row + 1) (cond b gs (record g { left = left } ∷ gs))
+    next_enclose true left n bs same = absurd (cc bs)
+    next_enclose false left n bs same = (omega arith, omega arith, around.2, omega (arith, ints, same), holds)
+
+    pub repeated-still : (left : ℤ) → g.left ≡ left → pos 0 <ℤ left → still_to_walk rows (g.row + 1) (cond (int_eq left (pos 1)) gs (record g { left = left -ℤ pos 1 } ∷ gs)) ≡ still_to_walk rows e (g ∷ gs)
+    repeated-still (negsuc n) is some = absurd (omega (arith, ints, some))
+    repeated-still (pos zero) is some = absurd (omega (arith, ints, some))
+    repeated-still (pos (suc zero)) is some = last_time (ap times is)
+    repeated-still (pos (suc (suc n))) is some = next_still (int_eq (pos (suc (suc n))) (pos 1)) (pos (suc (suc n)) -ℤ pos 1) n (ap times is) (not_one n (int_eq (pos (suc (suc n))) (pos 1)) refl) (less n)
+
+    pub repeated-enclose : (left : ℤ) → pos 0 <ℤ left → Enclose rows (g.row + 1) (g.row + 1) (cond (int_eq left (pos 1)) gs (record g { left = left -ℤ pos 1 } ∷ gs))
+    repeated-enclose (negsuc n) some = absurd (omega (arith, ints, some))
+    repeated-enclose (pos zero) some = absurd (omega (arith, ints, some))
+    repeated-enclose (pos (suc zero)) some = enclose-fewer g.row e (g.row + 1) (g.row + 1) gs (omega arith) (omega arith) holds
+    repeated-enclose (pos (suc (suc n))) some = next_enclose (int_eq (pos (suc (suc n))) (pos 1)) (pos (suc (suc n)) -ℤ pos 1) n (not_one n (int_eq (pos (suc (suc n))) (pos 1)) refl) (less n)
+
+    ahead-outer : (hs : List Group) → Enclose rows g.row e hs → Ahead rows (g.row + 1) hs
+    ahead-outer [] within = let some = around.2 in omega (arith, some, within)
+    ahead-outer (h ∷ hs) within = let some = around.2 in let b = within.1 in omega (arith, some, b)
+
+    pub repeated-ahead : (b : Bool) (left : ℤ) → Ahead rows (g.row + 1) (cond b gs (record g { left = left } ∷ gs))
+    repeated-ahead true left = ahead-outer gs holds
+    repeated-ahead false left = let some = around.2 in omega (arith, some)
+
+  -- what a settled place comes to
+  module _ (at : ℕ) where
+    at-choice : (b : Bool) (g : Group) (gs : List Group) → nat_eq at (end_of rows g) ≡ b → Enclose rows at at (g ∷ gs)
+        → still_to_walk rows (cond b (g.row + 1) at) (cond b (once_less g gs) (g ∷ gs)) ≡ still_to_walk rows at (g ∷ gs)
+    at-choice false g gs is around = refl
+    at-choice true g gs is around =
+        let here : at ≡ end_of rows g = eqb-true at (end_of rows g) is in
+        let there = subst (λ n. Enclose rows n n (g ∷ gs)) here around in
+        repeated-still g gs there g.left refl around.3 ∙ ap (λ n. still_to_walk rows n (g ∷ gs)) (sym here)
+
+    pub settled-still : (gs : List Group) → Enclose rows at at gs → still_to_walk rows (settled_at rows at gs) (settled rows at gs) ≡ still_to_walk rows at gs
+    settled-still [] around = refl
+    settled-still (g ∷ gs) around = at-choice (nat_eq at (end_of rows g)) g gs refl around
+
+    enclose-choice : (b : Bool) (g : Group) (gs : List Group) → nat_eq at (end_of rows g) ≡ b → Enclose rows at at (g ∷ gs)
+        → Enclose rows (cond b (g.row + 1) at) (cond b (g.row + 1) at) (cond b (once_less g gs) (g ∷ gs))
+    enclose-choice false g gs is around = around
+    enclose-choice true g gs is around =
+        let here : at ≡ end_of rows g = eqb-true at (end_of rows g) is in
+        repeated-enclose g gs (subst (λ n. Enclose rows n n (g ∷ gs)) here around) g.left around.3
+
+    pub settled-enclose : (gs : List Group) → Enclose rows at at gs → Enclose rows (settled_at rows at gs) (settled_at rows at gs) (settled rows at gs)
+    settled-enclose [] around = around
+    settled-enclose (g ∷ gs) around = enclose-choice (nat_eq at (end_of rows g)) g gs refl around
+
+    ahead-choice : (b : Bool) (g : Group) (gs : List Group) → nat_eq at (end_of rows g) ≡ b → Enclose rows at at (g ∷ gs)
+        → Ahead rows (cond b (g.row + 1) at) (cond b (once_less g gs) (g ∷ gs))
+    ahead-choice false g gs is around = let other = eqb-false at (end_of rows g) is in let b = around.1 in omega (arith, other, b)
+    ahead-choice true g gs is around =
+        let here : at ≡ end_of rows g = eqb-true at (end_of rows g) is in
+        repeated-ahead g gs (subst (λ n. Enclose rows n n (g ∷ gs)) here around) (int_eq g.left (pos 1)) (g.left -ℤ pos 1)
+
+    pub settled-ahead : (gs : List Group) → Enclose rows at at gs → Ahead rows (settled_at rows at gs) (settled rows at gs)
+    settled-ahead [] around = around
+    settled-ahead (g ∷ gs) around = ahead-choice (nat_eq at (end_of rows g)) g gs refl around
+
+  -- what a row's group stands in
+  pub row-enclose : Nested rows → (at : ℕ) (gs : List Group) → at < length rows → Ahead rows at gs → Enclose rows at at gs → Enclose rows at (at + 1 + size_at rows at) gs
+  row-enclose nested at [] lt ahead around = within-rows rows nested at lt
+  row-enclose nested at (g ∷ gs) lt ahead around = (around.0, within-group rows nested g.row at around.0 ahead, around.2, around.3, around.4)
+
+  pub ahead-length : (at : ℕ) (gs : List Group) → Ahead rows at gs → Enclose rows at at gs → at ≡ length rows → gs ≡ []
+  ahead-length at [] ahead around is = refl
+  ahead-length at (g ∷ gs) ahead around is = let le = enclose-length g.row (end_of rows g) gs around.4 in absurd (omega (arith, ahead, le, is))

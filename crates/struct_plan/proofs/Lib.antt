@@ -1,0 +1,11 @@
+pub mod RoundFacts
+pub mod StackFacts
+pub mod NestFacts
+pub mod GroupFacts
+pub mod LeastFacts
+pub mod KnownFacts
+pub mod EntryFacts
+pub mod CourseFacts
+pub mod PlaceFacts
+pub mod RowFacts
+pub mod ChoiceFacts

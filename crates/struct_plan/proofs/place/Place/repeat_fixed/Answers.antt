@@ -1,0 +1,52 @@
+use Rattle.std.proofs.Common.{◌≡◌, ◌∙◌, ◌+◌, ◌-◌, suc, ℤ, pos, List, length, sym, ap, subst, arith}
+use Rattle.std.proofs.lemmas.Int.{to_z-of_z}
+use Rattle.std.proofs.lemmas.List.{length-take-le}
+use Rattle.mib_model.specs.declared.rows.VpdRow.{VpdRow}
+use Rattle.mib_model.specs.Structures.{group_repeated, times}
+use Rattle.bit_field.specs.Taken.{taken}
+use Rattle.struct_plan.specs.declared.group.Group.{Group}
+use Rattle.struct_plan.specs.Courses.{Gives, walking}
+use Rattle.struct_plan.specs.Groups.{still_to_walk}
+use Rattle.struct_plan.specs.Places.{groups}
+use Rattle.struct_plan.proofs.GroupFacts.{enclose-length}
+use Rattle.struct_plan.proofs.PlaceFacts.{structure-nested, behind-around, behind-gives, behind-ahead}
+use Rattle.struct_plan.proofs.place.Place.repeat_fixed.Goals as goal
+use mir.Val.{to_z, of_z}
+use mir.Syntax.{w128}
+
+pub enter-requires-clause-room : goal.enter-requires-clause-room
+enter-requires-clause-room c =
+    let at = c.args.self.now.at in
+    let le = enclose-length c.args.structure.now.vpds at (at + 1 + c.args.size) (groups c.args.values.now c.args.self.now) c.requires.around in
+    omega (arith, le)
+
+pub returns-clause-gives : goal.returns-clause-gives
+returns-clause-gives c = λ db packet end course is gives.
+    let rows : List VpdRow = c.args.structure.now.vpds in
+    let old = c.args.values.now in
+    let at = c.args.self.now.at in
+    let gs : List Group = groups old c.args.self.now in
+    let n : ℤ = to_z w128 (of_z w128 c.from.result) in
+    let count : n ≡ pos c.args.count = (let e : n ≡ c.from.result = grind (arith, to_z-of_z) in e ∙ c.from.ensures) in
+    let used : length (taken c.enter.new.values) ≡ old.used = ap length c.enter.ensures.taken ∙ length-take-le old.used old.slots.now (omega arith) in
+    let same : Gives db packet end (walking (group_repeated c.args.size (times n) (still_to_walk rows (at + 1) gs)) course (taken c.enter.new.values)) =
+    subst (λ vs. Gives db packet end (walking (group_repeated c.args.size (times n) (still_to_walk rows (at + 1) gs)) course vs)) (sym c.enter.ensures.taken)
+    (subst (λ k. Gives db packet end (walking (group_repeated c.args.size (times k) (still_to_walk rows (at + 1) gs)) course (taken old))) (sym count) gives) in
+    behind-gives rows at c.enter.new.self.at c.args.size old.used n gs (groups c.enter.new.values c.enter.new.self) c.requires.size c.requires.some c.requires.around c.enter.ensures.at c.enter.ensures.groups
+    db packet end course (taken c.enter.new.values) (structure-nested db c.args.structure.now is) c.requires.used used same
+
+pub returns-clause-among : goal.returns-clause-among
+returns-clause-among c =
+    let rows : List VpdRow = c.args.structure.now.vpds in
+    let old = c.args.values.now in
+    let at = c.args.self.now.at in
+    let gs : List Group = groups old c.args.self.now in
+    let gs' : List Group = groups c.enter.new.values c.enter.new.self in
+    let n : ℤ = to_z w128 (of_z w128 c.from.result) in
+    let count : n ≡ pos c.args.count = (let e : n ≡ c.from.result = grind (arith, to_z-of_z) in e ∙ c.from.ensures) in
+    let one : c.args.count ≡ suc (c.args.count - 1) = omega arith in
+    record {
+      kept = c.enter.ensures.place;
+      around = behind-around rows at c.enter.new.self.at c.args.size old.used n gs gs' c.requires.size c.requires.some c.requires.around c.enter.ensures.at c.enter.ensures.groups;
+      ahead = behind-ahead rows at c.enter.new.self.at c.args.size old.used n gs gs' c.requires.size c.requires.some c.requires.around c.enter.ensures.at c.enter.ensures.groups (c.args.count - 1) (count ∙ ap pos one);
+    }

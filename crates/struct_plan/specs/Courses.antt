@@ -1,0 +1,70 @@
+-- What a walk gives, whatever number of steps it takes. [This profile.]
+use Rattle.std.specs.Prelude.{◌≡◌, ℕ, ◌+◌, ◌*◌, ◌^◌, ◌<◌, ◌⊎◌, ℤ, pos, ◌+ℤ◌, ◌≤ℤ◌, nat_abs, List, [], Option, Some, None, Result, Ok, Err, ◌==◌, if◌then◌else◌}
+use Rattle.mib_model.specs.declared.database.Database.{Database}
+use Rattle.mib_model.specs.declared.packet.Ended.{Ended}
+use Rattle.mib_model.specs.declared.packet.Ended.TheVariants.{Short, Many}
+use Rattle.mib_model.specs.declared.packet.Value.{Value}
+use Rattle.mib_model.specs.declared.rows.VpdRow.{VpdRow}
+use Rattle.mib_model.specs.Fixed.{most_values, value_at}
+use Rattle.mib_model.specs.Soundness.{IsSound}
+use Rattle.mib_model.specs.Structures.{structure}
+use Rattle.mib_model.specs.Walk.{Walking, Step, Goes, Ends, Extracted, walked, after_value, chosen, lies_outside}
+use Rattle.struct_plan.specs.declared.course.Course.{Course}
+use Rattle.struct_plan.specs.declared.entry.Field.{Field}
+use Rattle.struct_plan.specs.declared.walks.Way.{Way}
+use Rattle.struct_plan.specs.declared.walks.Way.TheVariants as way
+use Rattle.struct_plan.specs.Slices.{StructureRows, with_types}
+
+-- a walk gives these values and this end
+abbrev pub Gives : Database → List ℕ → Extracted → Walking → Type 0
+Gives db packet end w = (steps : ℕ) × (walked db packet steps w ≡ Some end)
+
+-- a step leads to these values and this end
+abbrev pub Leads : Database → List ℕ → Extracted → Step → Type 0
+Leads db packet end (Goes on) = Gives db packet end on
+Leads db packet end (Ends ended values) = (values, ended) ≡ end
+
+-- the walk that has come so far, with these rows still to walk
+abbrev pub walking : List VpdRow → Course → List Value → Walking
+walking todo course values = record { todo = todo; cursor = course.cursor; last = course.last; values = values }
+
+-- the value of a field at a bit, behind so many others, or the end before it
+abbrev pub value_or_end : List ℕ → ℤ → Field → ℕ → Result Value Ended
+value_or_end packet cursor field given =
+    if given == most_values then Err Many
+    else if lies_outside packet cursor field.shape.width then Err (Short field.name)
+    else Ok (value_at packet (record { name = field.name; at = nat_abs cursor; shape = field.shape }))
+
+-- what giving the value of a row comes to: an end, or its raw number, behind which the walk goes on
+abbrev pub Given : Database → List ℕ → Extracted → VpdRow → List VpdRow → Course → List Value → Result ℤ Ended → Type 0
+Given db packet end row rest course values (Err ended) = (values, ended) ≡ end
+Given db packet end row rest course values (Ok raw) = Leads db packet end (after_value db row rest raw (walking rest course values))
+
+-- what a walk over the rows of a structure comes to: an end, or another structure
+abbrev pub Comes : Database → List ℕ → Extracted → Course → List Value → Way → Type 0
+Comes db packet end course values (way.Ended ended) = (values, ended) ≡ end
+Comes db packet end course values (way.Chosen tpsd) = Leads db packet end (chosen (walking [] course values) tpsd (structure db tpsd))
+
+-- a walk that goes on with these rows, or comes to something
+abbrev pub GoesOn : Database → List ℕ → Extracted → List VpdRow → Course → List Value → Option Way → Type 0
+GoesOn db packet end todo course values None = Gives db packet end (walking todo course values)
+GoesOn db packet end todo course values (Some way) = Comes db packet end course values way
+
+-- rows of a structure of a sound database, beside the type items of their names
+pub record IsStructure (db : Database) (rows : StructureRows) : Type 0 where
+  pub sound : IsSound db
+  pub of_rows : (tpsd : ℤ) × (rows ≡ with_types db (structure db tpsd))
+
+-- a bit that is no farther off than so many rows behind a value can lead
+pub record IsNear (cursor : ℤ) (rows : ℕ) : Type 0 where
+  pub low : pos 0 ≤ℤ (cursor +ℤ pos (2 ^ 68 + rows * 2 ^ 32))
+  pub high : cursor ≤ℤ pos (2 ^ 68 + rows * 2 ^ 32)
+
+-- a walk that gave a value, or stands further on in the rows
+abbrev pub IsFurther : ℕ → ℕ → ℕ → ℕ → Type 0
+IsFurther used at used' at' = ((used' ≡ used) × (at < at')) ⊎ (used' ≡ used + 1)
+
+-- a walk that gave a value before a choice
+pub record HasChosen (used used' : ℕ) (course : Course) : Type 0 where
+  pub more : used < used'
+  pub near : IsNear course.cursor 0

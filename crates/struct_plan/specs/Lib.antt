@@ -1,0 +1,6 @@
+pub mod Slices
+pub mod Entries
+pub mod Groups
+pub mod Stacks
+pub mod Places
+pub mod Courses

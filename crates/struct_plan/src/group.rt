@@ -1,0 +1,6 @@
+/// A group to repeat: the row whose group it is, and how often it is still walked anew.
+#[derive(Clone, Copy)]
+pub struct Group {
+    pub row: u64,
+    pub left: i128,
+}

@@ -1,0 +1,252 @@
+// The walk over the rows of structures.
+ghost use Rattle.std.specs.Prelude.{◌≡◌, ◌≢◌, ◌+◌, ◌-◌, ◌*◌, ◌<◌, ◌≤◌, ◌^◌, ℕ, ℤ, pos, List, [], ◌∷◌, drop, take, length, option_map, Option, Some, None, IfOk, OnOk};
+ghost use Rattle.mib_model.specs.declared.database.Database.{Database};
+ghost use Rattle.mib_model.specs.declared.rows.VpdRow.{VpdRow};
+ghost use Rattle.mib_model.specs.Fixed.{most_values};
+ghost use Rattle.mib_model.specs.Structures.{structure, Typed};
+ghost use Rattle.mib_model.specs.Walk.{Extracted, after_value, on_subject, structure_values};
+ghost use Rattle.bit_field.specs.Taken.{taken};
+ghost use Rattle.struct_plan.specs.Courses.{Comes, Given, Gives, GoesOn, HasChosen, IsFurther, IsNear, IsStructure, Leads, value_or_end, walking};
+ghost use Rattle.struct_plan.specs.Entries as Spec;
+ghost use Rattle.struct_plan.specs.Entries.{field_of, then_of};
+ghost use Rattle.struct_plan.specs.Groups.{size_at, still_to_walk, Enclose};
+ghost use Rattle.struct_plan.specs.Places.{groups, IsAmong, IsPlace};
+ghost use Rattle.struct_plan.specs.Stacks.{kept, IsWithin};
+
+use crate::course::Course;
+use crate::entry::{Act, Field, Subject, Then, field_of};
+use crate::place::Place;
+use crate::stack::Stack;
+use crate::structure::{Structure, Structures};
+use bit_field::{MOST_VALUES, Values, take};
+use mib_model::{Ended, Value};
+
+/// What a walk over the rows of a structure comes to: its end, or another structure.
+#[derive(Clone, Copy)]
+pub enum Way {
+    Ended(Ended),
+    Chosen(i128),
+}
+
+// What a value is of, where the last reference was to this number.
+fn field_at<S: Structures>(all: &S, subject: Subject, last: i128) -> Option<Field>
+    ensures { result ≡ Spec.field_at (S.tables all.now) last subject }
+{
+    match subject {
+        Subject::Own(field) => Some(field),
+        Subject::Deduced => field_of(&all.deduced(last)?),
+        Subject::Missing => None,
+    }
+}
+
+// The value of a parameter at the cursor, or the end before it: there is no room, or its bits aren't in the packet.
+fn value_here(packet: &[u8], cursor: i128, field: &Field, used: u32) -> Result<Value, Ended>
+    requires packet { length packet.now < 2 ^ 61 }
+    ensures value { result ≡ value_or_end packet.now cursor field.now used }
+    ensures room { OnOk result (used ≢ most_values) }
+{
+    if used == MOST_VALUES {
+        return Err(Ended::Many);
+    }
+    let short = Ended::Short { name: field.name };
+    if cursor < 0 || cursor > i128::from(u64::MAX) {
+        return Err(short);
+    }
+    take(packet, cursor as u64, field.name, field.shape).ok_or(short)
+}
+
+// The bit behind a value.
+fn behind(value: &Value, field: &Field) -> i128
+    ensures { result ≡ pos (value.now.at + field.now.moves) }
+{
+    i128::from(value.at) + i128::from(field.moves)
+}
+
+// Gives the value of a row, or tells the end before it.
+fn give<S: Structures>(
+    all: &S,
+    subject: Subject,
+    packet: &[u8],
+    stack: &mut Stack,
+    course: &mut Course,
+    values: &mut Values,
+) -> Result<i128, Ended>
+    requires packet { length packet.now < 2 ^ 61 }
+    requires slots { length values.old.slots.now ≡ most_values }
+    requires used { values.old.used ≤ most_values }
+    requires within { IsWithin values.old stack.old }
+    ensures given { (end : Extracted) (row : VpdRow) (rest : List VpdRow) (t : Option Typed) →
+        Spec.field_at (S.tables all.now) course.old.last subject ≡ option_map field_of t →
+        Leads (S.tables all.now) packet.now end (on_subject (S.tables all.now) packet.now row rest (walking (row ∷ rest) course.old (taken values.old)) t) →
+        Given (S.tables all.now) packet.now end row rest course.new (taken values.new) result }
+    ensures groups { OnOk result (kept values.new stack.new ≡ take (most_values - values.new.used) (kept values.old stack.old)) }
+    ensures within { OnOk result (IsWithin values.new stack.new) }
+    ensures more { OnOk result (values.new.used ≡ values.old.used + 1) }
+    ensures near { OnOk result (IsNear course.new.cursor 0) }
+    ensures used { values.new.used ≤ most_values }
+    ensures slots { length values.new.slots.now ≡ most_values }
+    ensures borrow { values.new.slots.ghost_name ≡ values.old.slots.ghost_name }
+{
+    let last = course.last;
+    let Some(field) = field_at(all, subject, last) else {
+        return Err(Ended::NoParameter { pid: last });
+    };
+    let value = value_here(packet, course.cursor, &field, values.used)?;
+    course.cursor = behind(&value, &field);
+    stack.give(value, values);
+    Ok(value.raw)
+}
+
+// Goes on behind a value, or tells the structure that it chooses.
+fn go_on(
+    after: Then,
+    raw: i128,
+    size: u16,
+    structure: &Structure,
+    place: &mut Place,
+    course: &mut Course,
+    values: &mut Values,
+) -> Option<Way>
+    requires slots { length values.old.slots.now ≡ most_values }
+    requires used { values.old.used ≤ most_values }
+    requires place { IsPlace values.old place.old }
+    requires size { size ≡ size_at structure.now.vpds place.old.at }
+    requires some { after ≡ Then.Repeat → 0 < size }
+    requires around { Enclose structure.now.vpds place.old.at (place.old.at + 1 + size) (groups values.old place.old) }
+    requires room { length structure.now.vpds ≤ usize.MAX }
+    ensures goes { (db : Database) (octets : List ℕ) (end : Extracted) (row : VpdRow) →
+        IsStructure db structure.now → after ≡ then_of row → size ≡ row.grpsize →
+        Leads db octets end (after_value db row (still_to_walk structure.now.vpds (place.old.at + 1) (groups values.old place.old)) raw
+        (walking (still_to_walk structure.now.vpds (place.old.at + 1) (groups values.old place.old)) course.old (taken values.old))) →
+        GoesOn db octets end (still_to_walk structure.now.vpds place.new.at (groups values.new place.new)) course.new (taken values.new) result }
+    ensures among { result ≡ None → IsAmong structure.now.vpds values.new place.new }
+    ensures cursor { course.new.cursor ≡ course.old.cursor }
+    ensures used { values.new.used ≡ values.old.used }
+    ensures slots { length values.new.slots.now ≡ most_values }
+    ensures borrow { values.new.slots.ghost_name ≡ values.old.slots.ghost_name }
+{
+    match after {
+        Then::Choose => Some(Way::Chosen(raw)),
+        Then::Repeat => {
+            place.repeat(size, raw, structure, values);
+            None
+        }
+        Then::Refer => {
+            course.last = raw;
+            place.pass(structure, values);
+            None
+        }
+        Then::Next => {
+            place.pass(structure, values);
+            None
+        }
+    }
+}
+
+// Walks one row.
+fn walk_row<S: Structures>(
+    all: &S,
+    structure: &Structure,
+    packet: &[u8],
+    place: &mut Place,
+    course: &mut Course,
+    values: &mut Values,
+) -> Option<Way>
+    requires packet { length packet.now < 2 ^ 61 }
+    requires slots { length values.old.slots.now ≡ most_values }
+    requires used { values.old.used ≤ most_values }
+    requires structure { IsStructure (S.tables all.now) structure.now }
+    requires among { IsAmong structure.now.vpds values.old place.old }
+    requires inside { place.old.at < length structure.now.vpds }
+    requires near { IsNear course.old.cursor place.old.at }
+    ensures goes { (end : Extracted) →
+        Gives (S.tables all.now) packet.now end
+        (walking (still_to_walk structure.now.vpds place.old.at (groups values.old place.old)) course.old (taken values.old)) →
+        GoesOn (S.tables all.now) packet.now end (still_to_walk structure.now.vpds place.new.at (groups values.new place.new))
+        course.new (taken values.new) result }
+    ensures among { result ≡ None → IsAmong structure.now.vpds values.new place.new }
+    ensures near { result ≡ None → IsNear course.new.cursor place.new.at }
+    ensures further { result ≡ None → IsFurther values.old.used place.old.at values.new.used place.new.at }
+    ensures chosen { (tpsd : ℤ) → result ≡ Some (Way.Chosen tpsd) → HasChosen values.old.used values.new.used course.new }
+    ensures used { values.new.used ≤ most_values }
+    ensures slots { length values.new.slots.now ≡ most_values }
+    ensures borrow { values.new.slots.ghost_name ≡ values.old.slots.ghost_name }
+{
+    let entry = structure.entry(place.at);
+    let size = entry.size;
+    course.cursor += i128::from(entry.offset);
+    match entry.act {
+        Act::Repeat(times) => {
+            place.repeat_fixed(size, times, structure, values);
+            None
+        }
+        Act::Give(subject, after) => {
+            match give(all, subject, packet, &mut place.stack, course, values) {
+                Err(ended) => Some(Way::Ended(ended)),
+                Ok(raw) => go_on(after, raw, size, structure, place, course, values),
+            }
+        }
+    }
+}
+
+// Walks the rows of a structure, until an end or the choice of another.
+fn walk_structure<S: Structures>(
+    all: &S,
+    structure: &Structure,
+    packet: &[u8],
+    course: &mut Course,
+    values: &mut Values,
+) -> Way
+    requires packet { length packet.now < 2 ^ 61 }
+    requires slots { length values.old.slots.now ≡ most_values }
+    requires used { values.old.used ≤ most_values }
+    requires structure { IsStructure (S.tables all.now) structure.now }
+    requires near { IsNear course.old.cursor 0 }
+    ensures comes { (end : Extracted) → Gives (S.tables all.now) packet.now end (walking structure.now.vpds course.old (taken values.old)) →
+        Comes (S.tables all.now) packet.now end course.new (taken values.new) result }
+    ensures chosen { (tpsd : ℤ) → result ≡ Way.Chosen tpsd → HasChosen values.old.used values.new.used course.new }
+    ensures used { values.new.used ≤ most_values }
+    ensures slots { length values.new.slots.now ≡ most_values }
+    ensures borrow { values.new.slots.ghost_name ≡ values.old.slots.ghost_name }
+{
+    let mut place = Place::new();
+    while place.at < structure.len() {
+        if let Some(way) = walk_row(all, structure, packet, &mut place, course, values) {
+            return way;
+        }
+    }
+    Way::Ended(Ended::Whole)
+}
+
+/// The values of a packet of variable structure, by the rows of a structure that there is, and how they end. The walk
+/// starts behind the primary header and some octets. It takes no memory.
+pub fn walk<S: Structures>(
+    all: &S,
+    tpsd: u32,
+    start: u64,
+    packet: &[u8],
+    values: &mut Values,
+) -> Ended
+    requires there { structure (S.tables all.now) (pos tpsd) ≢ [] }
+    requires packet { length packet.now < 2 ^ 61 }
+    requires slots { length values.old.slots.now ≡ most_values }
+    requires used { values.old.used ≡ 0 }
+    ensures values { (dfhsize : ℕ) → start ≡ 8 * (6 + dfhsize) →
+        (taken values.new, result) ≡ structure_values (S.tables all.now) (pos tpsd) dfhsize packet.now }
+    ensures used { values.new.used ≤ most_values }
+    ensures slots { length values.new.slots.now ≡ most_values }
+    ensures borrow { values.new.slots.ghost_name ≡ values.old.slots.ghost_name }
+{
+    let mut course = Course {
+        cursor: i128::from(start),
+        last: 0,
+    };
+    let mut next = i128::from(tpsd);
+    while let Some(structure) = all.structure(next) {
+        match walk_structure(all, structure, packet, &mut course, values) {
+            Way::Ended(ended) => return ended,
+            Way::Chosen(chosen) => next = chosen,
+        }
+    }
+    Ended::NoStructure { tpsd: next }
+}
