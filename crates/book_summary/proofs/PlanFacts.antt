@@ -1,5 +1,5 @@
 -- How many plans the rows of a database ask for.
-use Rattle.std.proofs.Common.{◌≡◌, ◌+◌, List, map, length, filter, ap, ◌∙◌, sym, nat_le, arith, length-append}
+use Rattle.std.proofs.Common.{◌≡◌, ◌+◌, List, map, length, filter, ◌∙◌, sym, nat_le, arith, length-append}
 use Rattle.std.proofs.lemmas.List.{length-map}
 use Rattle.mib_model.specs.declared.database.Database.{Database}
 use Rattle.mib_model.specs.declared.rows.VpdRow.{VpdRow}

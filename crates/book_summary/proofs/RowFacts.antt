@@ -1,7 +1,7 @@
 -- How many numbers there are, and how many items stand in order.
-use Rattle.std.proofs.Common.{◌≡◌, ℕ, suc, ◌≤◌, Bool, true, false, cond, ◌||◌, List, [], ◌∷◌, map, length, filter, Option, Some, None, refl, ap, ◌∙◌, arith, nat_eq}
+use Rattle.std.proofs.Common.{◌≡◌, ℕ, suc, Bool, true, false, cond, ◌||◌, List, [], ◌∷◌, length, refl, ap, ◌∙◌, nat_eq}
 use Rattle.std.specs.Cmp.{unsigned_ties, nat_eq_equiv}
-use Rattle.std.specs.List.{filter_map, cons_option, list_any}
+use Rattle.std.specs.List.{list_any}
 use Rattle.std.specs.Ordering.{nat_cmp, eq_by_cmp}
 use Rattle.std.specs.Set.{unique_keys}
 use Rattle.mib_model.specs.Orders.{insert_by, sorted_by}

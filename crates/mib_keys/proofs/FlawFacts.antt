@@ -19,8 +19,6 @@ use Rattle.mib_model.specs.RowFlaws.{same_packet}
 use Rattle.mib_model.specs.Soundness.{flaws, flaws_of, first_flaw}
 use Rattle.mib_keys.specs.Alike.{has_its_key, is_like_packet}
 use Rattle.mib_keys.specs.Firsts.{first_from, flaw_by, least, twice_at, flaw_in, first_in, first_over}
-use Rattle.mib_keys.specs.Indexes.{cut}
-use Rattle.mib_keys.specs.Packets.{packet_eq, packet_of}
 use Rattle.mib_keys.proofs.KeyFacts.{same-by_eq}
 use Rattle.mib_keys.proofs.PlaceFacts.{position-cons}
 use Rattle.mib_keys.proofs.PointFacts.{position-take}

@@ -1,5 +1,5 @@
 -- Rows of structures by POS: what is noted of a structure, and the groups around a place.
-use Rattle.std.proofs.Common.{◌≡◌, ℕ, suc, ◌+◌, pos, Bool, true, false, cond, ◌&&◌, ◌||◌, List, [], ◌∷◌, map, take, length, filter, Option, Some, None, is_some, refl, sym, ap, subst, ◌∙◌, nat_eq, nat_lt, nat_le, arith}
+use Rattle.std.proofs.Common.{◌≡◌, ℕ, suc, ◌+◌, pos, Bool, true, false, cond, ◌&&◌, ◌||◌, List, [], ◌∷◌, map, take, length, filter, None, is_some, refl, sym, ap, subst, ◌∙◌, nat_eq, nat_lt, nat_le, arith}
 use Rattle.std.proofs.lemmas.List.{length-map, take-map}
 use Rattle.std.proofs.lemmas.List.Elements.{filter_agree}
 use Rattle.std.specs.Cmp.{nat_eq_equiv}

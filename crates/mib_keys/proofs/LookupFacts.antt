@@ -1,5 +1,5 @@
 -- What is found of rows by the place of the first of them.
-use Rattle.std.proofs.Common.{◌≡◌, ℕ, suc, ◌+◌, Bool, true, false, cond, ◌||◌, List, [], ◌∷◌, Option, Some, None, option_map, is_some, refl, sym, ap, ◌∙◌, arith}
+use Rattle.std.proofs.Common.{◌≡◌, ℕ, suc, ◌+◌, Bool, true, false, cond, ◌||◌, List, [], ◌∷◌, Option, Some, None, option_map, is_some, refl, ap, ◌∙◌, arith}
 use Rattle.std.specs.List.{position, list_any, find, slice_get}
 use Rattle.std.specs.Option.{option_and_then}
 use Rattle.mib_keys.proofs.PlaceFacts.{position-cons}

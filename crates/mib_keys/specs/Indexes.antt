@@ -1,5 +1,5 @@
 -- What a map from keys says of rows: the first place of each key, or how many rows have it. [This profile.]
-use Rattle.std.specs.Prelude.{◌≡◌, ℕ, nat_lt, Bool, false, List, length, Option, Some, None, position, if◌then◌else◌}
+use Rattle.std.specs.Prelude.{ℕ, nat_lt, Bool, false, List, length, Option, Some, None, position, if◌then◌else◌}
 use Rattle.std.specs.List.{filter}
 
 -- whether a row's key is this key

@@ -1,5 +1,5 @@
 -- The rows of structures by POS, as they are noted. [SCOS-2000 Database Import ICD, vpd; this profile.]
-use Rattle.std.specs.Prelude.{◌≡◌, ℕ, ◌+◌, ◌<◌, ◌≤◌, pos, Bool, true, false, List, [], map, length, take, nat_le, nat_lt, nat_eq, filter, ◌&&◌, ◌||◌, Option, Some, None}
+use Rattle.std.specs.Prelude.{◌≡◌, ℕ, ◌+◌, ◌<◌, ◌≤◌, Bool, true, false, List, [], length, take, nat_le, nat_lt, nat_eq, filter, ◌&&◌, ◌||◌, Option, Some, None}
 use Rattle.std.specs.HashMap.{get, HashMap}
 use Rattle.std.specs.BTreeSet.{contains, BTreeSet}
 use Rattle.std.specs.List.{list_any, enumerate_from, slice_index_or}

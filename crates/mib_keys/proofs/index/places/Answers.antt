@@ -1,6 +1,5 @@
-use Rattle.std.proofs.Common.{ap, ◌∙◌, sym, Bool}
-use Rattle.std.specs.Option.{option_or}
-use Rattle.mib_keys.specs.Indexes.{has_by, some_if}
+use Rattle.std.proofs.Common.{◌∙◌, sym}
+use Rattle.mib_keys.specs.Indexes.{has_by}
 use Rattle.mib_keys.proofs.PlaceFacts.{position-more}
 use Rattle.mib_keys.proofs.index.places.Goals as goal
 

@@ -1,4 +1,4 @@
-use Rattle.std.proofs.Common.{ap, sym, ◌∙◌, List}
+use Rattle.std.proofs.Common.{ap, sym, ◌∙◌}
 use Rattle.mib_keys.specs.Firsts.{flaw_in, first_in}
 use Rattle.mib_keys.proofs.FlawFacts.{table-first}
 use Rattle.mib_keys.proofs.soundness.table_flaw.Goals as goal

@@ -1,4 +1,3 @@
-use Rattle.std.proofs.Common.{refl}
 use Rattle.std.specs.Str.{bytes_eq}
 use Rattle.mib_model.specs.declared.rows.TxfRow.{TxfRow}
 use Rattle.mib_keys.proofs.LookupFacts.{found-item}
