@@ -15,7 +15,7 @@ returns-in-Ok-true g c =
     let same = c.in-Ok-true.ensures.cause.ok in
     rw (← c.run_code.ensures) at
     (ran_decoded c.args.folder.now c.args.name.now
-    (shelf c.args.tables.now c.folder_tables.new.tables g.T.Source.holds g.T.Source.left g.T.Source.faults g.T.Source.missed)
+    (shelf c.args.tables.now c.folder_edition.new.tables g.T.Source.holds g.T.Source.left g.T.Source.faults g.T.Source.missed)
     (shelf c.args.feed.now c.run.new.source g.F.Source.holds g.F.Source.left g.F.Source.faults g.F.Source.missed)
     (sink c.args.out.now c.run.new.out g.O.Sink.written g.O.Sink.handed g.O.Sink.faults)
     c.in-Ok.edition c.in-Ok.ensures.ok c.in-Ok.ensures.told c.run.result
@@ -27,7 +27,7 @@ pub returns-in-Err : goal.returns-in-Err
 returns-in-Err g c =
     rw (← c.from.ensures) at
     (refused_decoded c.in-Err.refusal c.args.folder.now c.args.name.now
-    (shelf c.args.tables.now c.folder_tables.new.tables g.T.Source.holds g.T.Source.left g.T.Source.faults g.T.Source.missed)
+    (shelf c.args.tables.now c.folder_edition.new.tables g.T.Source.holds g.T.Source.left g.T.Source.faults g.T.Source.missed)
     (shelf c.args.feed.now c.args.feed.now g.F.Source.holds g.F.Source.left g.F.Source.faults g.F.Source.missed)
     (sink c.args.out.now c.args.out.now g.O.Sink.written g.O.Sink.handed g.O.Sink.faults)
     c.in-Err.ensures.cause c.in-Err.ensures.refused refl refl)

@@ -15,7 +15,7 @@ loop-number-init g c = record {
 pub returns-in-Err-clause-ran : goal.returns-in-Err-clause-ran
 returns-in-Err-clause-ran g c =
     let h = rw c.new-feed.ensures at
-    (ran_stopped c.in-Err.stop c.args.edition.now c.loop-number.number (g.S.Source.faults c.args.source.now) (g.S.Source.faults c.next.new.self.source.now) (g.S.Source.left c.new-feed.result.source.now) (g.S.Source.left c.loop-number.feed.source.now) (g.S.Source.left c.next.new.self.source.now) (g.O.Sink.written c.args.out.now) (g.O.Sink.written c.hand_on_before_wait.new.out) (g.O.Sink.written c.print_packet.new.out) _ c.requires.built
+    (ran_stopped c.in-Err.stop c.args.edition.now c.loop-number.number (g.S.Source.faults c.args.source.now) (g.S.Source.faults c.next.new.self.source.now) (g.S.Source.left c.new-feed.result.source.now) (g.S.Source.left c.loop-number.feed.source.now) (g.S.Source.left c.next.new.self.source.now) (g.O.Sink.written c.args.out.now) (g.O.Sink.written c.hand_on_before_wait.new.out) (g.O.Sink.written c.print_packet-printed.new.out) _ c.requires.built
     c.loop-number-test.true c.in-Packet.ensures.gives.1 c.in-Packet.ensures.gives.2 c.in-Err.ensures.part (going_same _ _ _ _ _ (g.O.Sink.written c.loop-number.out) (g.O.Sink.written c.hand_on_before_wait.new.out) c.hand_on_before_wait.ensures.written c.loop-number.invariant.going)) in
     grind (arith, h)
 
@@ -47,11 +47,11 @@ returns-in-Failed-clause-ran g c =
 pub loop-number-preserved : goal.loop-number-preserved
 loop-number-preserved g c = record {
   room = c.next.auto.into ∙ c.loop-number.invariant.room;
-  going = going_more c.args.edition.now c.loop-number.number _ _ _ _ _ _ _ c.requires.built c.in-Packet.ensures.gives.1 c.in-Packet.ensures.gives.2 c.in_default-print_packet.ensures.all (going_same _ _ _ _ _ (g.O.Sink.written c.loop-number.out) (g.O.Sink.written c.hand_on_before_wait.new.out) c.hand_on_before_wait.ensures.written c.loop-number.invariant.going);
+  going = going_more c.args.edition.now c.loop-number.number _ _ _ _ _ _ _ c.requires.built c.in-Packet.ensures.gives.1 c.in-Packet.ensures.gives.2 c.in_default-printed.ensures.all (going_same _ _ _ _ _ (g.O.Sink.written c.loop-number.out) (g.O.Sink.written c.hand_on_before_wait.new.out) c.hand_on_before_wait.ensures.written c.loop-number.invariant.going);
   borrow = c.next.ensures.borrow ∙ c.loop-number.invariant.borrow;
   feed = c.in-Packet.ensures.cause ∙ c.loop-number.invariant.feed;
   missed = c.next.ensures.missed ∙ c.loop-number.invariant.missed;
-  out = c.in_default-print_packet.ensures.ok ∙ c.in-Ok.ensures.cause.ok ∙ c.loop-number.invariant.out;
+  out = c.in_default-printed.ensures.ok ∙ c.in-Ok.ensures.cause.ok ∙ c.loop-number.invariant.out;
 }
 
 pub returns-clause-ran : goal.returns-clause-ran
