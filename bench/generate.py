@@ -16,6 +16,8 @@ import sys
 ROWS = (10_000, 100_000, 1_500_000)
 NESTED = (8_192, 32_768)
 PACKETS = 1_000_000
+KINDS = (15, 1_500)
+TYPED_PACKETS = 200_000
 TABLES = 15
 
 
@@ -124,6 +126,33 @@ def write_fixed_feed(path, count):
             file.write(pack(0x0800 | apid, 0xC000 | i % 16384, 7, 0x10, 3, 25, 0, rng.randrange(65536), rng.randrange(65536)))
 
 
+# Types of all sorts, with their widths in bits.
+TYPES = [(3, 4, 8), (3, 12, 16), (3, 14, 32), (3, 16, 64), (4, 4, 8), (4, 12, 16), (4, 14, 32), (1, 0, 1), (2, 3, 3), (3, 8, 12),
+         (5, 1, 32), (5, 2, 64), (7, 4, 32), (8, 8, 64), (9, 1, 48), (9, 2, 64), (10, 18, 56), (10, 15, 32), (3, 13, 24), (6, 48, 48)]
+
+
+def typed_tables(count):
+    """Kinds of packets of one APID, told apart by two discriminants, with a value of each type."""
+    bits = [13 * 8 + sum(width for _, _, width in TYPES[:i]) for i in range(len(TYPES))]
+    return {
+        "pcf": [(f"V{i}", "", "", "", ptc, pfc, "", "", "", "N", "R") for i, (ptc, pfc, _) in enumerate(TYPES)],
+        "pid": [(3, 25, 100, i, i % 7, i + 1) for i in range(count)],
+        "pic": [(3, 25, 10, 16, 12, 8)],
+        "plf": [(f"V{k}", i + 1, bit // 8, bit % 8) for i in range(count) for k, bit in enumerate(bits)],
+    }
+
+
+def write_typed_feed(path, kinds, count):
+    """Packets of these kinds."""
+    rng = random.Random(3)
+    size = (sum(width for _, _, width in TYPES) + 7) // 8
+    pack = struct.Struct(">HHHBBBBHB").pack
+    with open(path, "wb") as file:
+        for i in range(count):
+            kind = rng.randrange(kinds)
+            file.write(pack(0x0864, 0xC000 | i % 16384, 6 + size, 0x10, 3, 25, 0, kind, kind % 7) + rng.randbytes(size))
+
+
 def main():
     top = sys.argv[1]
     for count in ROWS:
@@ -141,6 +170,11 @@ def main():
     if not os.path.isfile(feed):
         write_tables(os.path.join(top, "fixed"), fixed_tables())
         write_fixed_feed(feed, PACKETS)
+    for kinds in KINDS:
+        feed = os.path.join(top, f"typed_{kinds}.feed")
+        if not os.path.isfile(feed):
+            write_tables(os.path.join(top, f"typed_{kinds}"), typed_tables(kinds))
+            write_typed_feed(feed, kinds, TYPED_PACKETS)
 
 
 if __name__ == "__main__":

@@ -27,6 +27,8 @@ def cases(top):
     for count in generate.NESTED:
         yield f"check, a structure of {count:,} rows", ["check", os.path.join(top, f"nested_{count}")]
     yield f"decode, {generate.PACKETS:,} packets", ["decode", os.path.join(top, "fixed"), os.path.join(top, "fixed.feed")]
+    for kinds in generate.KINDS:
+        yield f"decode, {generate.TYPED_PACKETS:,} packets of {kinds:,} kinds", ["decode", os.path.join(top, f"typed_{kinds}"), os.path.join(top, f"typed_{kinds}.feed")]
 
 
 def timed(program, words):
