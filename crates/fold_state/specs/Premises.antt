@@ -1,6 +1,6 @@
 -- What is promised of the values of a packet, and of plans. [This profile.]
-use Rattle.std.specs.Prelude.{◌≡◌, ◌≤ℤ◌, ℕ, Bool, List, Option, Some, None, option_and_then, if◌then◌else◌, IsSome}
-use Rattle.std.specs.List.{All, find}
+use Rattle.std.specs.Prelude.{◌≡◌, ◌≤ℤ◌, ℕ, Bool, List, ◌++◌, Option, Some, None, option_and_then, if◌then◌else◌, IsSome}
+use Rattle.std.specs.List.{All, find, flat_map}
 use Rattle.std.specs.Str.{bytes_eq}
 use Rattle.check_plan.specs.Rows.{CheckRows}
 use Rattle.fold_state.specs.Boards.{Slots, place_of, plan_names}
@@ -11,11 +11,12 @@ use Rattle.mib_model.specs.Carry.{check_of}
 use Rattle.mib_model.specs.Checks.{Sample, checks_of, class_of}
 use Rattle.mib_model.specs.Curves.{curve_of}
 use Rattle.mib_model.specs.declared.database.Database.{Database}
-use Rattle.mib_model.specs.Finish.{Checked, with_alarm}
+use Rattle.mib_model.specs.Finish.{Checked, with_alarm, finished, all_finished}
 use Rattle.mib_model.specs.Kept.{Memory}
 use Rattle.mib_model.specs.Parameters.{parameter}
 use Rattle.mib_model.specs.Plans.{has_plan}
 use Rattle.mib_model.specs.WholeNumbers.{least_raw, greatest_raw}
+use Rattle.mib_model.specs.Texts.{told_text}
 use Rattle.param_plan.specs.Slices.{ParamSlice, curve_in, slice_for}
 
 -- a value's number is a raw number, from -2^63 to 2^64 - 1
@@ -48,6 +49,16 @@ pub record Fits (db : Database) (params : List ParamSlice) (board : Slots) (valu
   pub names : board.names ≡ plan_names params
   pub slots : All (λ v. HasSlot board v.name) values
   pub numbers : All IsRaw values
+
+-- a value was finished: what is kept after it, and its lines behind a text
+pub record IsFinished (db : Database) (packet : List ℕ) (v : Value) (before after : Memory) (old new : List ℕ) : Type 0 where
+  pub memory : after ≡ (finished db before v).0
+  pub text : new ≡ old ++ told_text packet (finished db before v).1
+
+-- values were finished in their order: what is kept after them, and their lines behind a text
+pub record AreFinished (db : Database) (packet : List ℕ) (vs : List Value) (before after : Memory) (old new : List ℕ) : Type 0 where
+  pub memory : after ≡ (all_finished db before vs).0
+  pub text : new ≡ old ++ flat_map (told_text packet) (all_finished db before vs).1
 
 -- what is kept and told after a sample by the rows of a plan
 abbrev pub checked_in : Memory → List ℕ → CheckRows → Sample → Checked
