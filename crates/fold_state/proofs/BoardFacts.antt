@@ -127,7 +127,7 @@ kept-none (m ∷ names) (suc n) slot name none = elim (cases_Bool (is_name_of na
 ]
 
 -- a place that isn't there is that of no name
-nowhere : (p : List ℕ → Bool) (names : List (List ℕ)) → position p names ≡ None → (k : ℕ) → k < length names → p (get_or names k []) ≡ false
+pub nowhere : (p : List ℕ → Bool) (names : List (List ℕ)) → position p names ≡ None → (k : ℕ) → k < length names → p (get_or names k []) ≡ false
 nowhere p names none k below = elim (cases_lt (position_or_len p names) (length names)) [
   | inl within ↦ absurd (let is : ltb (position_or_len p names) (length names) ≡ true = grind (arith, nat_tests) in
       let some : ◌≡◌ {A = Option ℕ} (Some (position_or_len p names)) None = rw is at none in cc)

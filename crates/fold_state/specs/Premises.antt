@@ -1,5 +1,6 @@
 -- What is promised of the values of a packet, and of plans. [This profile.]
-use Rattle.std.specs.Prelude.{◌≡◌, ◌≤ℤ◌, ℕ, Bool, List, ◌++◌, Option, Some, None, option_and_then, if◌then◌else◌, IsSome}
+use Rattle.std.specs.Prelude.{◌≡◌, ◌≤ℤ◌, ℕ, Bool, ◌&&◌, List, ◌++◌, Option, Some, None, option_and_then, if◌then◌else◌, IsSome}
+use Rattle.std.specs.Cmp.Lexicographic.{pointwise}
 use Rattle.std.specs.List.{All, find, flat_map}
 use Rattle.std.specs.Str.{bytes_eq}
 use Rattle.check_plan.specs.Rows.{CheckRows}
@@ -7,7 +8,7 @@ use Rattle.fold_state.specs.Boards.{Slots, place_of, plan_names}
 use Rattle.mib_model.specs.declared.packet.Value.{Value}
 use Rattle.mib_model.specs.declared.rows.PcfRow.{PcfRow}
 use Rattle.mib_model.specs.Alarms.{alarm}
-use Rattle.mib_model.specs.Carry.{check_of}
+use Rattle.mib_model.specs.Carry.{check_of, same_check}
 use Rattle.mib_model.specs.Checks.{Sample, checks_of, class_of}
 use Rattle.mib_model.specs.Curves.{curve_of}
 use Rattle.mib_model.specs.declared.database.Database.{Database}
@@ -16,6 +17,7 @@ use Rattle.mib_model.specs.Kept.{Memory}
 use Rattle.mib_model.specs.Parameters.{parameter}
 use Rattle.mib_model.specs.Plans.{has_plan}
 use Rattle.mib_model.specs.WholeNumbers.{least_raw, greatest_raw}
+use Rattle.mib_model.specs.SameRows.{same_pcf, same_ocp}
 use Rattle.mib_model.specs.Texts.{told_text}
 use Rattle.param_plan.specs.Slices.{ParamSlice, curve_in, slice_for}
 
@@ -65,3 +67,7 @@ abbrev pub checked_in : Memory → List ℕ → CheckRows → Sample → Checked
 checked_in memory name rows sample =
     with_alarm memory name sample
     (alarm ((memory name).spoken, (memory name).run) (class_of rows.ocps sample (memory name).previous memory) rows.ocf.nbchck)
+
+-- whether what is kept of a parameter stays, by the rows of its plans
+abbrev pub is_same_slice : ParamSlice → ParamSlice → Bool
+is_same_slice old new = same_pcf old.pcf new.pcf && same_check old.ocf new.ocf && pointwise same_ocp old.ocps new.ocps

@@ -7,6 +7,7 @@
 #![tactic(auto)]
 
 mod board;
+mod carry;
 mod check;
 mod enter;
 mod finish;
