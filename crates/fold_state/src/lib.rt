@@ -11,10 +11,12 @@ mod carry;
 mod check;
 mod enter;
 mod finish;
+mod laws;
 mod slot;
 mod value;
 
 pub use board::Board;
 pub use finish::Seen;
+pub use laws::finish_is_a_step;
 pub use check_plan::Holds;
 pub use mib_model::MadeFor;
