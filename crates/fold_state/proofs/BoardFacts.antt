@@ -87,22 +87,23 @@ pub kept-set : (board : Slots) (name : List ℕ) (i : ℕ) (s : Slot) → length
 kept-set board name i s long at = λ j other. each other j where
   place : (i < length board.names) × (is_name_of name (get_or board.names i []) ≡ true) × ((k : ℕ) → k < i → is_name_of name (get_or board.names k []) ≡ false)
   place = position-Some (is_name_of name) board.names i [] at
+
   each : (other : List ℕ) → memory_of (record { names = board.names; slots = set board.slots i s }) other ≡ keeping (memory_of board) name (kept_as s) other
   each other = elim (cases_Bool (bytes_eq other name)) [
     | inl equal ↦
-      let within : i < length (set board.slots i s) = (let same = length-set board.slots i s in omega (arith, same, long, place.0)) in
-      let found = pair-found (is_name_of name) board.names (set board.slots i s) i [] s place.0 within place.1 place.2 in
-      let kept : memory_of (record { names = board.names; slots = set board.slots i s }) name ≡ kept_as s =
+        let within : i < length (set board.slots i s) = (let same = length-set board.slots i s in omega (arith, same, long, place.0)) in
+        let found = pair-found (is_name_of name) board.names (set board.slots i s) i [] s place.0 within place.1 place.2 in
+        let kept : memory_of (record { names = board.names; slots = set board.slots i s }) name ≡ kept_as s =
         ap kept_beside found ∙ ap kept_as (get_or-set_same board.slots i s s (omega (arith, long, place.0))) in
-      rw equal (subst (λ (x : List ℕ). memory_of (record { names = board.names; slots = set board.slots i s }) x ≡ kept_as s) (sym (same-name other name equal)) kept)
+        rw equal (subst (λ (x : List ℕ). memory_of (record { names = board.names; slots = set board.slots i s }) x ≡ kept_as s) (sym (same-name other name equal)) kept)
     | inr apart ↦
-      rw apart (ap kept_beside (pair-past (is_name_of other) board.names board.slots i s [] (other-name (get_or board.names i []) name other (same-name _ _ place.1) apart)))
+        rw apart (ap kept_beside (pair-past (is_name_of other) board.names board.slots i s [] (other-name (get_or board.names i []) name other (same-name _ _ place.1) apart)))
   ]
 
 -- names that rise have their place where a search ends
 pub place-risen : (names : List (List ℕ)) (name : List ℕ) (i : ℕ) → Rise names → i < length names → get_or names i [] ≡ name → position (is_name_of name) names ≡ Some i
 place-risen names name i up below here = place-found (is_name_of name) names i [] below ((bytes_eq-Decides (get_or names i []) name).1 here)
-  (λ k before. not-named (λ (x : List ℕ). x) name (get_or names k []) Less (subst (λ (x : List ℕ). slice_cmp nat_cmp (get_or names k []) x ≡ Less) here
+    (λ k before. not-named (λ (x : List ℕ). x) name (get_or names k []) Less (subst (λ (x : List ℕ). slice_cmp nat_cmp (get_or names k []) x ≡ Less) here
     (below-far (λ (x : List ℕ). x) name names up k i [] before below)) refl)
 
 -- the names of plans that ascend rise

@@ -48,6 +48,7 @@ unfolding carry
 carry-nothing memory before after name none = go (is_carried before after name) where
   held : record (memory name) { run = run_for (check_of after name) (memory name).run } ≡ nothing_kept
   held = ap (λ (k : Kept). record k { run = run_for (check_of after name) k.run }) none ∙ ap (λ (n : ℕ). record nothing_kept { run = n }) (hold-none (check_of after name))
+
   go : (b : Bool) → cond b (record (memory name) { run = run_for (check_of after name) (memory name).run }) nothing_kept ≡ nothing_kept
   go true = held
   go false = refl
@@ -93,16 +94,18 @@ unfolding is_carried
 carry-unplanned memory before after name s is plan none = carry-other memory before after name (fails (parameter after.pcf name) refl none) where
   whole : Bool → Bool
   whole b = b && same_check (check_of before name) (check_of after name) && pointwise same_ocp (checks_of before name) (checks_of after name)
+
   differs : (row : PcfRow) → (b : Bool) → has_plan row ≡ b → cond b (Some (slice_for after row)) None ≡ None → same_pcf s.pcf row ≡ false
   differs row true has same = absurd (cc)
   differs row false has same = elim (cases_Bool (same_pcf s.pcf row)) [
     | inl equal ↦ absurd (false≢true (sym has ∙ (sym (same-plan s.pcf row equal) ∙ plan)))
     | inr apart ↦ apart
   ]
+
   fails : (p : Option PcfRow) → parameter after.pcf name ≡ p → option_and_then (planned after) p ≡ None → is_carried before after name ≡ false
   fails None here none = ap (λ (o : Option PcfRow). whole (stays o (parameter after.pcf name))) is.row ∙ ap (λ (o : Option PcfRow). whole (stays (Some s.pcf) o)) here
   fails (Some row) here none = ap (λ (o : Option PcfRow). whole (stays o (parameter after.pcf name))) is.row ∙ (ap (λ (o : Option PcfRow). whole (stays (Some s.pcf) o)) here ∙
-    ap whole (differs row (has_plan row) refl none))
+      ap whole (differs row (has_plan row) refl none))
 
 -- the slice of a name that is planned has a plan
 pub has-plan : (db : Database) (params : List ParamSlice) (name : List ℕ) (s : ParamSlice) → IsParamsOf db params → find (λ slice. bytes_eq slice.pcf.name name) params ≡ Some s → has_plan s.pcf ≡ true
@@ -110,6 +113,7 @@ has-plan db params name s plans found = go (parameter db.pcf name) (sym (plans n
   by : (row : PcfRow) (b : Bool) → has_plan row ≡ b → cond b (Some (slice_for db row)) None ≡ Some s → has_plan s.pcf ≡ true
   by row true has same = (let is : slice_for db row ≡ s = cc in subst (λ (t : ParamSlice). has_plan t.pcf ≡ true) is has)
   by row false has same = absurd (cc)
+
   go : (p : Option PcfRow) → option_and_then (planned db) p ≡ Some s → has_plan s.pcf ≡ true
   go None same = absurd (cc)
   go (Some row) same = by row (has_plan row) refl same
@@ -120,14 +124,13 @@ plan-nowhere params name none = find-nowhere (λ slice. bytes_eq slice.pcf.name 
     let key : ParamSlice → List ℕ = λ slice. slice.pcf.name in
     let long : length (map key params) ≡ length params = simp length-map in
     ap (λ (x : List ℕ). bytes_eq x name) (sym (get_or-map key params k d [] below)) ∙ nowhere (is_name_of name) (plan_names params) none k (omega (arith, long, below))) where
-  find-nowhere : (p : ParamSlice → Bool) (xs : List ParamSlice) → ((k : ℕ) (d : ParamSlice) → k < length xs → p (get_or xs k d) ≡ false) → find p xs ≡ None
-  find-nowhere p [] fails = refl
-  find-nowhere p (x ∷ xs) fails = rw (fails 0 x (omega arith)) (find-nowhere p xs (λ k d below. fails (suc k) d (omega (arith, below))))
+      find-nowhere : (p : ParamSlice → Bool) (xs : List ParamSlice) → ((k : ℕ) (d : ParamSlice) → k < length xs → p (get_or xs k d) ≡ false) → find p xs ≡ None
+      find-nowhere p [] fails = refl
+      find-nowhere p (x ∷ xs) fails = rw (fails 0 x (omega arith)) (find-nowhere p xs (λ k d below. fails (suc k) d (omega (arith, below))))
 
 -- a parameter's slice has its name
 pub slice-name : (db : Database) (name : List ℕ) (s : ParamSlice) → IsSliceOf db name s → s.pcf.name ≡ name
 slice-name db name s is = same-name s.pcf.name name (found-passes (λ row. bytes_eq row.name name) db.pcf s.pcf is.row)
-
 
 -- what is kept of the names below a place is what is carried
 abbrev pub CarriedBelow : ℕ → Slots → Slots → Database → Database → Type 0
@@ -142,15 +145,16 @@ carried-more board next old before after n own same at kept below name i here wi
 ] where
   here' : place_of board name ≡ Some i
   here' = subst (λ (names : List (List ℕ)). position (is_name_of name) names ≡ Some i) same here
+
   before-it : bytes_eq name own ≡ false → i < n
   before-it apart = elim (cases_lt i n) [
     | inl less ↦ less
     | inr more ↦
-      let is : i ≡ n = omega (arith, more, within) in
-      let one = same-name (get_or board.names i []) name (position-Some (is_name_of name) board.names i [] here').1 in
-      let two = same-name (get_or board.names n []) own (position-Some (is_name_of own) board.names n [] at).1 in
-      let equal : name ≡ own = sym one ∙ (ap (λ (k : ℕ). get_or board.names k []) is ∙ two) in
-      absurd (false≢true (sym apart ∙ (bytes_eq-Decides name own).1 equal))
+        let is : i ≡ n = omega (arith, more, within) in
+        let one = same-name (get_or board.names i []) name (position-Some (is_name_of name) board.names i [] here').1 in
+        let two = same-name (get_or board.names n []) own (position-Some (is_name_of own) board.names n [] at).1 in
+        let equal : name ≡ own = sym one ∙ (ap (λ (k : ℕ). get_or board.names k []) is ∙ two) in
+        absurd (false≢true (sym apart ∙ (bytes_eq-Decides name own).1 equal))
   ]
 
 plan-at : (params : List ParamSlice) (i : ℕ) → i < length params → (s : ParamSlice) × (s ≡ get_or params i s)
@@ -163,6 +167,7 @@ pub carry-missing : (from to : List ParamSlice) (old : Slots) (before after : Da
 carry-missing from to old before after name one two made none = go (place_of old name) refl where
   planless : option_and_then (planned after) (parameter after.pcf name) ≡ None
   planless = sym (two name) ∙ plan-nowhere to name none
+
   go : (p : Option ℕ) → place_of old name ≡ p → carry (memory_of old) before after name ≡ nothing_kept
   go None at = carry-nothing (memory_of old) before after name (kept-missing old name at)
   go (Some j) at =

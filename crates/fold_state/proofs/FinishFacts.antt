@@ -82,7 +82,7 @@ plan-found params board name i s made at is =
     let below : i < length params = omega (arith, long, place.0) in
     let here = ap (λ (x : List ℕ). bytes_eq x name) (sym (get_or-map key params i s [] below)) ∙ place.1 in
     found-first (λ slice. bytes_eq slice.pcf.name name) params i s below here
-      (λ k before. ap (λ (x : List ℕ). bytes_eq x name) (sym (get_or-map key params k s [] (omega (arith, before, below)))) ∙ place.2 k before) ∙ ap Some (sym is)
+    (λ k before. ap (λ (x : List ℕ). bytes_eq x name) (sym (get_or-map key params k s [] (omega (arith, before, below)))) ∙ place.2 k before) ∙ ap Some (sym is)
 
 -- the place of a name is that of a plan
 pub plan-within : (params : List ParamSlice) (board : Slots) (name : List ℕ) (i : ℕ) → board.names ≡ plan_names params → place_of board name ≡ Some i → i < length params
@@ -104,9 +104,11 @@ slice-found db params name s plans found = go (parameter db.pcf name) refl (sym 
         ocf = ap (check_of db) named;
         ocps = ap (checks_of db) named;
       })
+
   by : (row : PcfRow) → parameter db.pcf name ≡ Some row → (b : Bool) → cond b (Some (slice_for db row)) None ≡ Some s → IsSliceOf db name s
   by row here true same = sliced row here (cc)
   by row here false same = absurd (cc)
+
   go : (p : Option PcfRow) → parameter db.pcf name ≡ p → option_and_then (planned db) p ≡ Some s → IsSliceOf db name s
   go None here same = absurd (cc)
   go (Some row) here same = by row here (has_plan row) same
@@ -133,9 +135,9 @@ are-more db packet vs v m n o x y z front last =
     record {
       memory = last.memory ∙ (ap (λ (k : Memory). (finished db k v).0) front.memory ∙ sym (ap (λ (f : Memory × List Told). f.0) more));
       text = last.text ∙ (ap (λ (k : Memory). y ++ told_text packet (finished db k v).1) front.memory ∙
-        (ap (λ (t : List ℕ). t ++ told_text packet (finished db (all_finished db m vs).0 v).1) front.text ∙
-        (append_assoc x (flat_map (told_text packet) (all_finished db m vs).1) (told_text packet (finished db (all_finished db m vs).0 v).1) ∙
-        ap (λ (t : List ℕ). x ++ t) (sym (ap (λ (f : Memory × List Told). flat_map (told_text packet) f.1) more ∙ flat_map-push (told_text packet) (all_finished db m vs).1 (finished db (all_finished db m vs).0 v).1)))));
+          (ap (λ (t : List ℕ). t ++ told_text packet (finished db (all_finished db m vs).0 v).1) front.text ∙
+          (append_assoc x (flat_map (told_text packet) (all_finished db m vs).1) (told_text packet (finished db (all_finished db m vs).0 v).1) ∙
+          ap (λ (t : List ℕ). x ++ t) (sym (ap (λ (f : Memory × List Told). flat_map (told_text packet) f.1) more ∙ flat_map-push (told_text packet) (all_finished db m vs).1 (finished db (all_finished db m vs).0 v).1)))));
     }
 
 -- a slot is there by the names alone

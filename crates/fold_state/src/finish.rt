@@ -56,7 +56,12 @@ fn add_change(value: &Value, change: Option<Change>, out: &mut Lines)
 
 impl Board {
     // Finishes a value of the name at a place by its plan: its tail, and the change that is told with it.
-    fn finish_at<'a>(&mut self, at: usize, plan: &'a Param, value: &Value) -> (Tail<'a>, Option<Change>)
+    fn finish_at<'a>(
+        &mut self,
+        at: usize,
+        plan: &'a Param,
+        value: &Value,
+    ) -> (Tail<'a>, Option<Change>)
         requires { at < length self.old.names }
         ensures names { self.new.names ≡ self.old.names }
         ensures finished { (db : Database) → IsSliceOf db value.now.name plan.now → place_of self.old value.now.name ≡ Some at → IsRaw value.now

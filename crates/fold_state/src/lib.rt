@@ -16,7 +16,7 @@ mod slot;
 mod value;
 
 pub use board::Board;
+pub use check_plan::Holds;
 pub use finish::Seen;
 pub use laws::finish_is_a_step;
-pub use check_plan::Holds;
 pub use mib_model::MadeFor;

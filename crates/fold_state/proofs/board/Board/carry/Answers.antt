@@ -11,17 +11,17 @@ pub loop-at-preserved : goal.loop-at-preserved
 loop-at-preserved c = record {
   names = c.carry_at.ensures.names ∙ c.loop-at.invariant.names;
   memory = λ before after one two.
-    let s = c.deref.result.now in
-    let to = c.args.to.now in
-    let plans = c.plans-plans.result.now in
-    let is = plan-behind plans c.loop-at.at c.index-plans-at.result s to c.loop-at-test.true c.index-plans-at.is c.deref.ensures c.plans-plans.ensures.plans in
-    let made = c.loop-at.invariant.names ∙ c.requires.new in
-    let many : length (map arc_value plans) ≡ length plans = simp length-map in
-    let within : c.loop-at.at < length to = omega (arith, c.loop-at-test.true, many, ap (λ (slices : List ParamSlice). length slices) c.plans-plans.ensures.plans) in
-    let at = plan-placed to c.loop-at.self.names c.loop-at.at s c.plans-plans.ensures.ascend made within is in
-    let was = slice-found after to s.pcf.name s two (plan-found to c.loop-at.self s.pcf.name c.loop-at.at s made at is) in
-    carried-more c.loop-at.self c.carry_at.new.self c.args.old before after c.loop-at.at s.pcf.name c.carry_at.ensures.names at
-    (c.carry_at.ensures.memory before after one c.requires.old was at) (c.loop-at.invariant.memory before after one two);
+      let s = c.deref.result.now in
+      let to = c.args.to.now in
+      let plans = c.plans-plans.result.now in
+      let is = plan-behind plans c.loop-at.at c.index-plans-at.result s to c.loop-at-test.true c.index-plans-at.is c.deref.ensures c.plans-plans.ensures.plans in
+      let made = c.loop-at.invariant.names ∙ c.requires.new in
+      let many : length (map arc_value plans) ≡ length plans = simp length-map in
+      let within : c.loop-at.at < length to = omega (arith, c.loop-at-test.true, many, ap (λ (slices : List ParamSlice). length slices) c.plans-plans.ensures.plans) in
+      let at = plan-placed to c.loop-at.self.names c.loop-at.at s c.plans-plans.ensures.ascend made within is in
+      let was = slice-found after to s.pcf.name s two (plan-found to c.loop-at.self s.pcf.name c.loop-at.at s made at is) in
+      carried-more c.loop-at.self c.carry_at.new.self c.args.old before after c.loop-at.at s.pcf.name c.carry_at.ensures.names at
+      (c.carry_at.ensures.memory before after one c.requires.old was at) (c.loop-at.invariant.memory before after one two);
 }
 
 pub returns-clause-memory : goal.returns-clause-memory
@@ -31,5 +31,5 @@ returns-clause-memory c = λ before after one two.
     let many : length (map arc_value plans) ≡ length plans = simp length-map in
     let named : length (plan_names c.args.to.now) ≡ length c.args.to.now = simp length-map in
     let long : length c.loop-at.self.names ≤ c.loop-at.at =
-      omega (arith, c.loop-at-test.false, many, named, ap (λ (slices : List ParamSlice). length slices) c.plans-plans.ensures.plans, ap (λ (names : List (List ℕ)). length names) made) in
+    omega (arith, c.loop-at-test.false, many, named, ap (λ (slices : List ParamSlice). length slices) c.plans-plans.ensures.plans, ap (λ (names : List (List ℕ)). length names) made) in
     carried-all c.args.from.now c.args.to.now c.loop-at.self c.args.old before after c.loop-at.at one two c.requires.old made long (c.loop-at.invariant.memory before after one two)
