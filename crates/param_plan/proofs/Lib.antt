@@ -1,5 +1,5 @@
 pub mod ChoiceFacts
-mod NameFacts
+pub mod NameFacts
 pub mod PlanFacts
 pub mod LawFacts
 pub mod SoundFacts

@@ -38,7 +38,8 @@ module _ {X : Type 0} (key : X → List ℕ) (name : List ℕ) where
   further : (i j : ℕ) → i < j → i + suc (j - suc i) ≡ j
   further i j h = omega (arith, h)
 
-  below-far : (xs : List X) → Rise xs → (i j : ℕ) (d : X) → i < j → j < length xs → order (key (get_or xs i d)) (key (get_or xs j d)) ≡ Less
+  -- an item is less than each one further on
+  pub below-far : (xs : List X) → Rise xs → (i j : ℕ) (d : X) → i < j → j < length xs → order (key (get_or xs i d)) (key (get_or xs j d)) ≡ Less
   below-far xs up i j d before below = subst (λ k. order (key (get_or xs i d)) (key (get_or xs k d)) ≡ Less) (further i j before) (rise-far xs up i (j - suc i) d (let f = further i j before in omega (arith, below, f)))
 
   tied : (x : X) → is_named x ≡ true → order (key x) name ≡ Equal
@@ -70,17 +71,22 @@ module _ {X : Type 0} (key : X → List ℕ) (name : List ℕ) where
   sorted : (xs : List X) → Rise xs → IsSortedBy (λ x y. is_lt (order (key x) (key y))) xs
   sorted xs up = λ k d low below. ap is_lt (nat_list_cmp_total.antisymm (key (get_or xs (k + 1) d)) (key (get_or xs k d)) ∙ ap ordering_reverse (up k d below))
 
-  not-named : (x : X) (r : Ordering) → order (key x) name ≡ r → is_eq r ≡ false → is_named x ≡ false
+  -- an item that is less or greater than a name has another
+  pub not-named : (x : X) (r : Ordering) → order (key x) name ≡ r → is_eq r ≡ false → is_named x ≡ false
   not-named x r e f = texts_ties (key x) name ∙ (ap is_eq e ∙ f)
+
+  -- where a search ends between lower and higher names, each item has another name
+  pub named-nowhere : (xs : List X) → Rise xs → (i : ℕ)
+      → (IsNonDecreasingBy (λ y. ordering_index (order (key y) name)) xs → IsPartitionPoint (λ y. order (key y) name ≡ Less) (λ y. order (key y) name ≡ Greater) xs i)
+      → (j : ℕ) (d : X) → j < length xs → is_named (get_or xs j d) ≡ false
+  named-nowhere xs up i ends j d b =
+      let parts = ends (searchable_from_sorted nat_list_cmp_total key xs name (sorted xs up)) in
+      elim (cases_lt j i) [
+        | inl l ↦ not-named (get_or xs j d) Less (parts.0 j d (omega arith) l) refl
+        | inr l ↦ not-named (get_or xs j d) Greater (parts.1 j d l b) refl
+      ]
 
   -- where a search ends between lower and higher names, no item has the name
   pub named-missing : (xs : List X) → Rise xs → (i : ℕ)
       → (IsNonDecreasingBy (λ y. ordering_index (order (key y) name)) xs → IsPartitionPoint (λ y. order (key y) name ≡ Less) (λ y. order (key y) name ≡ Greater) xs i) → find is_named xs ≡ None
-  named-missing xs up i ends =
-      let parts = ends (searchable_from_sorted nat_list_cmp_total key xs name (sorted xs up)) in
-      found-none is_named xs xs (IsPermutation-refl xs) (fails parts) where
-        fails : IsPartitionPoint (λ y. order (key y) name ≡ Less) (λ y. order (key y) name ≡ Greater) xs i → (j : ℕ) (d : X) → j < length xs → is_named (get_or xs j d) ≡ false
-        fails parts j d b = elim (cases_lt j i) [
-          | inl l ↦ not-named (get_or xs j d) Less (parts.0 j d (omega arith) l) refl
-          | inr l ↦ not-named (get_or xs j d) Greater (parts.1 j d l b) refl
-        ]
+  named-missing xs up i ends = found-none is_named xs xs (IsPermutation-refl xs) (named-nowhere xs up i ends)

@@ -21,7 +21,7 @@ use Rattle.mib_model.specs.Kinds.{kinds}
 use Rattle.mib_model.specs.Letters.{letter}
 use Rattle.mib_model.specs.Plans.{curve_names}
 use Rattle.mib_model.specs.Points.{Knot, knot_of}
-use Rattle.mib_model.specs.RowFlaws.{cap_rules, is_bad_point, is_bad_x}
+use Rattle.mib_model.specs.CurveFlaws.{cap_rules, is_bad_point, is_bad_x}
 use Rattle.mib_model.specs.Soundness.{IsSound, flaws, flaws_of}
 use Rattle.mib_model.specs.WholeNumbers.{whole_number}
 use Rattle.mib_laws.proofs.SoundStructures.{append-none, rows-sound, EachRow, NoFlaw}

@@ -38,9 +38,10 @@ impl Params {
         Params { plans }
     }
 
-    /// The plans, in their order.
+    /// The plans, of which each name is greater than the one before.
     pub fn plans(&self) -> &[Arc<Param>]
-        ensures { map arc_value result.now ≡ self.now }
+        ensures plans { map arc_value result.now ≡ self.now }
+        ensures ascend { Ascend self.now }
     {
         &self.plans
     }

@@ -1,0 +1,12 @@
+use Rattle.std.proofs.Common.{◌≡◌, take}
+use Rattle.std.specs.List.{All}
+use Rattle.fold_state.specs.Boards.{memory_of}
+use Rattle.fold_state.specs.Premises.{HasSlot}
+use Rattle.mib_model.specs.Kept.{all_entered}
+use Rattle.fold_state.proofs.board.Board.enter_all.Given as goal
+
+abbrev pub invariant-loop-value : goal.invariant-loop-value
+invariant-loop-value l = record {
+  names : l.self.names ≡ l.initial.self.names;
+  memory : All (λ v. HasSlot l.initial.self v.name) l.values → memory_of l.self ≡ all_entered (memory_of l.initial.self) (take l.value-index l.values);
+}

@@ -1,0 +1,57 @@
+-- What a board keeps, as mib_model defines it. [This profile.]
+use Rattle.std.specs.Prelude.{◌≡◌, ℕ, Bool, List, map, filter, Option, Some, None, option_map}
+use Rattle.std.specs.Arc.{arc_value}
+use Rattle.std.specs.Cmp.Lexicographic.{pointwise}
+use Rattle.std.specs.List.{find, position, zip}
+use Rattle.std.specs.Str.{bytes_eq}
+use Rattle.std.specs.declared.sync.Arc.{Arc}
+use Rattle.std.proofs.Common.{Global}
+use Rattle.check_plan.specs.Samples.{count_of}
+use Rattle.fold_state.specs.declared.slot.Slot.{Slot}
+use Rattle.mib_model.specs.declared.database.Database.{Database}
+use Rattle.mib_model.specs.Kept.{Kept, Memory, nothing_kept}
+use Rattle.mib_model.specs.Orders.{sorted_by}
+use Rattle.mib_model.specs.Plans.{has_plan, may_precede}
+use Rattle.param_plan.specs.Slices.{ParamSlice}
+
+-- the names of a board in their order, and what is kept of each
+pub record Slots : Type 0 where
+  pub names : List (List ℕ)
+  pub slots : List Slot
+
+-- what a slot keeps
+abbrev pub kept_as : Slot → Kept
+kept_as slot = record { latest = slot.latest; spoken = slot.alarm.0; run = slot.alarm.1; previous = option_map count_of slot.previous }
+
+-- whether a name is another's octets
+abbrev pub is_name_of : List ℕ → List ℕ → Bool
+is_name_of name other = bytes_eq other name
+
+-- what is kept in the slot of a name, and nothing where there is none
+abbrev pub kept_beside : Option (List ℕ × Slot) → Kept
+kept_beside None = nothing_kept
+kept_beside (Some pair) = kept_as pair.1
+
+-- what a board keeps of each name
+abbrev pub memory_of : Slots → Memory
+memory_of board name = kept_beside (find (λ pair. is_name_of name pair.0) (zip board.names board.slots))
+
+-- the place of a name
+abbrev pub place_of : Slots → List ℕ → Option ℕ
+place_of board name = position (is_name_of name) board.names
+
+-- the name of a plan behind a handle
+abbrev pub plan_name : Arc ParamSlice Global → List ℕ
+plan_name plan = (arc_value plan).pcf.name
+
+-- the names of plans
+abbrev pub plan_names : List ParamSlice → List (List ℕ)
+plan_names params = map (λ slice. slice.pcf.name) params
+
+-- the names of the parameters that have plans, in order
+abbrev pub planned_names : Database → List (List ℕ)
+planned_names db = map (λ row. row.name) (sorted_by (λ x y. may_precede x.name y.name) (filter has_plan db.pcf))
+
+-- whether the names of a board are those of the parameters that have plans
+abbrev pub is_made_for : Database → Slots → Bool
+is_made_for db board = pointwise bytes_eq board.names (planned_names db)

@@ -1,0 +1,4 @@
+pub mod Boards
+pub mod Places
+pub mod Premises
+pub mod Laws

@@ -1,0 +1,110 @@
+ghost use Rattle.std.specs.Prelude.{◌≡◌, ◌<◌, [], List, ℕ, Some, length, map, IfOk};
+ghost use Rattle.mib_model.specs.Kept as Spec;
+ghost use Rattle.fold_state.specs.Boards.{kept_as, memory_of, place_of, plan_name, plan_names};
+
+use crate::slot::Slot;
+use check_plan::Holds;
+use mib_model::{MadeFor, Name};
+use param_plan::{Param, Params};
+use std::alloc::{AllocError, Global};
+use std::marker::Model;
+use std::sync::Arc;
+
+/// What is kept of each parameter of an edition: a slot for each plan, in the order of the plans. Contracts see the names
+/// and the slots.
+#[derive(Drop)]
+pub struct Board {
+    names: Vec<Name>,
+    slots: Vec<Slot>,
+}
+
+impl Model for Board {
+    ghost use Rattle.std.specs.Prelude.{◌≡◌, length};
+    ghost use Rattle.fold_state.specs.Boards.{Slots};
+    ghost use Rattle.fold_state.specs.Places.{Rise};
+
+    ghost Value = { Slots };
+
+    ghost view = { λ board. record { names = board.names.items; slots = board.slots.items } };
+
+    ghost invariant = { λ board. Rise board.names.items × (length board.slots.items ≡ length board.names.items) };
+}
+
+// The names of plans.
+fn names_of(alloc: Global, plans: &[Arc<Param>]) -> Result<Vec<Name>, AllocError>
+    ensures { IfOk result (λ names. names.items ≡ map plan_name plans.now) }
+{
+    let mut names = Vec::with_capacity(alloc, plans.len())?;
+    for plan in plans {
+        names.push(plan.name())?;
+    }
+    Ok(names)
+}
+
+impl Board {
+    /// A board for these plans that keeps nothing. An error is want of memory.
+    pub fn new(alloc: Global, params: &Params) -> Result<Board, AllocError>
+        ensures names { IfOk result (λ board. board.names ≡ plan_names params.now) }
+        ensures memory { IfOk result (λ board. memory_of board ≡ Spec.empty_memory) }
+    {
+        let names = names_of(alloc, params.plans())?;
+        let slots = vec![in alloc; Slot::new(); names.len()]?;
+        Ok(Board { names, slots })
+    }
+
+    /// A board of no names. It takes no memory.
+    pub fn empty(alloc: Global) -> Board
+        ensures names { result.names ≡ [] }
+        ensures memory { memory_of result ≡ Spec.empty_memory }
+    {
+        Board {
+            names: Vec::new(alloc),
+            slots: Vec::new(alloc),
+        }
+    }
+
+    /// The place of a name, by halving.
+    pub(crate) fn place(&self, name: Name) -> Option<usize>
+        ensures { result ≡ place_of self.now name }
+    {
+        match self.names.binary_search(&name) {
+            Ok(at) => Some(at),
+            Err(_) => None,
+        }
+    }
+
+    /// What is kept at a place.
+    pub(crate) fn slot(&self, at: usize) -> Slot
+        requires { at < length self.now.names }
+        ensures { (name : List ℕ) → place_of self.now name ≡ Some at → kept_as result ≡ memory_of self.now name }
+    {
+        self.slots[at]
+    }
+
+    /// Keeps something else at a place.
+    pub(crate) fn set_slot(&mut self, at: usize, slot: Slot)
+        requires { at < length self.old.names }
+        ensures names { self.new.names ≡ self.old.names }
+        ensures memory { (name : List ℕ) → place_of self.old name ≡ Some at
+            → memory_of self.new ≡ Spec.keeping (memory_of self.old) name (kept_as slot) }
+    {
+        self.slots[at] = slot;
+    }
+}
+
+impl Holds for Board {
+    ghost memory = { memory_of };
+
+    fn holds(&self, name: Name, number: i128) -> bool {
+        match self.place(name) {
+            Some(at) => self.slot(at).latest == Some(number),
+            None => false,
+        }
+    }
+}
+
+impl MadeFor for Board {
+    ghost use Rattle.fold_state.specs.Boards.{is_made_for};
+
+    ghost made_for = { is_made_for };
+}

@@ -1,0 +1,146 @@
+ghost use Rattle.std.specs.Prelude.{◌≡◌, ◌≤◌, ◌<◌, ◌+◌, ◌*◌, ◌++◌, List, ℕ, Some, length, option_map, take, true};
+ghost use Rattle.std.specs.List.{All, flat_map};
+ghost use Rattle.std.specs.Option.{option_copied};
+ghost use Rattle.fold_state.specs.Boards.{memory_of, place_of, plan_names};
+ghost use Rattle.fold_state.specs.Premises.{AreFinished, Fits, HasSlot, IsFinished, IsParamsOf, IsRaw, IsSliceOf};
+ghost use Rattle.mib_model.specs.AlarmTexts.{change_text_of};
+ghost use Rattle.mib_model.specs.Bits.{is_inside};
+ghost use Rattle.mib_model.specs.CalibrationViews.{calibrated_as};
+ghost use Rattle.mib_model.specs.declared.database.Database.{Database};
+ghost use Rattle.mib_model.specs.Finish as Spec;
+ghost use Rattle.mib_model.specs.Fixed.{most_values};
+ghost use Rattle.mib_model.specs.Kept.{all_entered};
+ghost use Rattle.mib_model.specs.Texts.{ended_text, head_text, told_text, value_text};
+ghost use Rattle.record_text.specs.TailViews.{tail_as};
+ghost use Rattle.record_text.specs.declared.lines.TheConstants.{LINES_ROOM, LINE_MOST, HEAD_ROOM, VALUE_ROOM, NOTE_ROOM};
+
+use crate::board::Board;
+use crate::check::calibrated;
+use mib_model::{Cal, Change, Ended, Found, Header, Text, Value};
+use param_plan::{Param, Params};
+use record_text::{Lines, Tail, change_line, ended_line, head_line, value_line};
+
+/// A packet that was decoded: its number, its header, what it is, its values and how they end, its octets, and its name
+/// where there is one.
+#[derive(Clone, Copy)]
+pub struct Seen<'a> {
+    pub number: u64,
+    pub header: &'a Header,
+    pub found: &'a Found,
+    pub ended: &'a Ended,
+    pub packet: &'a [u8],
+    pub values: &'a [Value],
+    pub title: Option<&'a Text>,
+}
+
+// The tail of a valid value, for so many decimals.
+fn tail_for<'a>(decimals: u8, given: Option<Cal<'a>>) -> Tail<'a>
+    ensures { tail_as result ≡ Spec.tail_for decimals (option_map calibrated_as given.entry) }
+{
+    match given {
+        Some(cal) => Tail::Given { cal, decimals },
+        None => Tail::Plain,
+    }
+}
+
+// Appends the line of a change, where one is told.
+fn add_change(value: &Value, change: Option<Change>, out: &mut Lines)
+    requires { length out.old + LINE_MOST ≤ LINES_ROOM }
+    ensures text { out.new ≡ out.old ++ change_text_of value.now.name change }
+    ensures room { length out.new ≤ length out.old + NOTE_ROOM }
+{
+    if let Some(change) = change {
+        change_line(value.name, change, out);
+    }
+}
+
+impl Board {
+    // Finishes a value of the name at a place by its plan: its tail, and the change that is told with it.
+    fn finish_at<'a>(
+        &mut self,
+        at: usize,
+        plan: &'a Param,
+        value: &Value,
+    ) -> (Tail<'a>, Option<Change>)
+        requires { at < length self.old.names }
+        ensures names { self.new.names ≡ self.old.names }
+        ensures finished { (db : Database) → IsSliceOf db value.now.name plan.now → place_of self.old value.now.name ≡ Some at → IsRaw value.now
+            → (memory_of self.new, record { value = value.now; tail = tail_as result.0; change = result.1 }) ≡ Spec.finished db (memory_of self.old) value.now }
+    {
+        if !plan.valid(self) {
+            return (Tail::Invalid, None);
+        }
+        let given = calibrated(plan, value, self);
+        let change = self.check(at, plan, value, given);
+        (tail_for(plan.rows().pcf.decim, given), change)
+    }
+
+    // Finishes a value by the plan of its name.
+    fn finish_by<'a>(&mut self, params: &'a Params, value: &Value) -> (Tail<'a>, Option<Change>)
+        ensures names { self.new.names ≡ self.old.names }
+        ensures finished { (db : Database) → IsParamsOf db params.now → self.old.names ≡ plan_names params.now → HasSlot self.old value.now.name → IsRaw value.now
+            → (memory_of self.new, record { value = value.now; tail = tail_as result.0; change = result.1 }) ≡ Spec.finished db (memory_of self.old) value.now }
+    {
+        let Some(at) = self.place(value.name) else {
+            return (Tail::Plain, None);
+        };
+        let plans = params.plans();
+        if at >= plans.len() {
+            return (Tail::Plain, None);
+        }
+        self.finish_at(at, &plans[at], value)
+    }
+
+    // Finishes a value, and appends its line and that of what its check tells.
+    fn finish_value(&mut self, params: &Params, value: &Value, packet: &[u8], out: &mut Lines)
+        requires inside { is_inside packet.now value.now.at value.now.shape.width ≡ true }
+        requires room { length out.old + VALUE_ROOM + LINE_MOST ≤ LINES_ROOM }
+        ensures names { self.new.names ≡ self.old.names }
+        ensures finished { (db : Database) → IsParamsOf db params.now → self.old.names ≡ plan_names params.now → HasSlot self.old value.now.name → IsRaw value.now
+            → IsFinished db packet.now value.now (memory_of self.old) (memory_of self.new) out.old out.new }
+        ensures room { length out.new ≤ length out.old + (VALUE_ROOM + NOTE_ROOM) }
+    {
+        let (tail, change) = self.finish_by(params, value);
+        value_line(value, packet, &tail, out);
+        add_change(value, change, out);
+    }
+
+    // Finishes values in their order, and appends their lines.
+    fn finish_all(&mut self, params: &Params, values: &[Value], packet: &[u8], out: &mut Lines)
+        requires few { length values.now ≤ most_values }
+        requires inside { All (λ v. is_inside packet.now v.at v.shape.width ≡ true) values.now }
+        requires room { length out.old + most_values * (VALUE_ROOM + NOTE_ROOM) + LINE_MOST ≤ LINES_ROOM }
+        ensures names { self.new.names ≡ self.old.names }
+        ensures finished { (db : Database) → Fits db params.now self.old values.now
+            → AreFinished db packet.now values.now (memory_of self.old) (memory_of self.new) out.old out.new }
+        ensures room { length out.new ≤ length out.old + most_values * (VALUE_ROOM + NOTE_ROOM) }
+    {
+        for value in values {
+            self.finish_value(params, value, packet, out);
+        }
+    }
+
+    /// Finishes the values of a packet: enters their raw numbers, then calibrates and checks each in its order, and appends
+    /// the packet's record without its edition. There are at most 8,192 values, whose bits are in the packet, and the text
+    /// before has at most 100 octets. What is kept and appended is that of the definitions where the board was made for
+    /// these plans, each value's name has a plan, and its number is a raw number; else some text that fits is appended and
+    /// the names stay. It takes no memory.
+    pub fn finish(&mut self, params: &Params, seen: &Seen<'_>, out: &mut Lines)
+        requires few { length seen.now.values.now ≤ most_values }
+        requires inside { All (λ v. is_inside seen.now.packet.now v.at v.shape.width ≡ true) seen.now.values.now }
+        requires room { length out.old ≤ 100 }
+        ensures names { self.new.names ≡ self.old.names }
+        ensures memory { (db : Database) → Fits db params.now self.old seen.now.values.now
+            → memory_of self.new ≡ (Spec.all_finished db (all_entered (memory_of self.old) seen.now.values.now) seen.now.values.now).0 }
+        ensures text { (db : Database) → Fits db params.now self.old seen.now.values.now
+            → out.new ≡ out.old ++ (head_text seen.now.number seen.now.header.now seen.now.found.now (option_copied seen.now.title)
+            ++ flat_map (told_text seen.now.packet.now) (Spec.all_finished db (all_entered (memory_of self.old) seen.now.values.now) seen.now.values.now).1
+            ++ ended_text seen.now.ended.now) }
+        ensures room { length out.new + LINE_MOST ≤ LINES_ROOM }
+    {
+        head_line(seen.number, seen.header, seen.found, seen.title, out);
+        self.enter_all(seen.values);
+        self.finish_all(params, seen.values, seen.packet, out);
+        ended_line(seen.ended, out);
+    }
+}

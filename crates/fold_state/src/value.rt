@@ -1,0 +1,73 @@
+// The numbers of values, and what is checked of them.
+ghost use Rattle.std.specs.Prelude.{◌≡◌, ◌≤ℤ◌, ◌&&◌, int_le, option_map};
+ghost use Rattle.check_plan.specs.Samples.{count_of, sample_of};
+ghost use Rattle.mib_model.specs.CalibrationViews.{calibrated_as};
+ghost use Rattle.mib_model.specs.Counts as Counts;
+ghost use Rattle.mib_model.specs.Finish as Spec;
+ghost use Rattle.mib_model.specs.Kept.{has_number};
+ghost use Rattle.mib_model.specs.WholeNumbers.{least_raw, greatest_raw};
+
+use check_plan::Sample;
+use mib_model::{Cal, Eng, OcfRow, RAW_LEAST, RAW_MOST, Sort, Value};
+
+/// Whether values of a sort have raw numbers.
+pub fn has_number(sort: Sort) -> bool
+    ensures { result ≡ has_number sort }
+{
+    matches!(sort, Sort::Unsigned | Sort::Signed)
+}
+
+/// Whether a value has a number, and that one is a raw number.
+pub fn is_raw(value: &Value) -> bool
+    ensures { result ≡ (has_number value.now.shape.sort && (int_le least_raw value.now.raw && int_le value.now.raw greatest_raw)) }
+{
+    has_number(value.shape.sort()) && RAW_LEAST <= value.raw && value.raw <= RAW_MOST
+}
+
+// The count of a raw number.
+fn raw_count(raw: i128) -> Eng
+    requires low { least_raw ≤ℤ raw }
+    requires high { raw ≤ℤ greatest_raw }
+    ensures { result.count ≡ Counts.raw_count raw }
+{
+    Eng {
+        count: raw * 1_000_000_000_000,
+    }
+}
+
+// What a calibration leaves to check.
+fn converted(raw: i128, given: Option<Cal<'_>>) -> Option<Sample<'_>>
+    requires low { least_raw ≤ℤ raw }
+    requires high { raw ≤ℤ greatest_raw }
+    ensures { option_map sample_of result ≡ Spec.converted raw (option_map calibrated_as given.entry) }
+{
+    match given {
+        None => Some(Sample::Number(raw_count(raw))),
+        Some(Cal::Value(number)) => Some(Sample::Number(number)),
+        Some(Cal::Text(text)) => Some(Sample::Text(text)),
+        Some(_) => None,
+    }
+}
+
+/// What is checked of a raw number: with INTER `U` it, else what its calibration leaves (SCOS-2000 Database Import ICD, ocf).
+pub fn sample_for<'a>(check: &OcfRow, raw: i128, given: Option<Cal<'a>>) -> Option<Sample<'a>>
+    requires low { least_raw ≤ℤ raw }
+    requires high { raw ≤ℤ greatest_raw }
+    ensures { option_map sample_of result ≡ Spec.sample_for check.now raw (option_map calibrated_as given.entry) }
+{
+    if check.inter == b'U' {
+        Some(Sample::Number(raw_count(raw)))
+    } else {
+        converted(raw, given)
+    }
+}
+
+/// The last checked number, after a sample.
+pub fn previous_after(sample: Sample, previous: Option<Eng>) -> Option<Eng>
+    ensures { option_map count_of result ≡ Spec.previous_after (sample_of sample.entry) (option_map count_of previous) }
+{
+    match sample {
+        Sample::Number(number) => Some(number),
+        Sample::Text(_) => previous,
+    }
+}
