@@ -375,19 +375,13 @@ fn groups_end_with_their_structure(rt: HostRuntime) -> Result<(), Fail> {
 #[test]
 fn rows_that_are_not_built_are_refused_where_all_is_sound(rt: HostRuntime) -> Result<(), Fail> {
     let alloc = rt.alloc();
-    let signed: Change<'_> = ("mib/pcf.dat", b"T1||||4|12||||N|R");
-    not_decoded(&rt, alloc, &[signed], b"BADMIB pcf 1 UNBUILT")?;
+    let condition: Change<'_> = ("mib/pcf.dat", b"A||||3|12\nT1||||3|12||A||N|R");
+    not_decoded(&rt, alloc, &[condition], b"BADMIB pcf 2 UNBUILT")?;
     not_decoded(
         &rt,
         alloc,
-        &[signed, ("mib/plf.dat", b"T1|4009|10|0")],
+        &[condition, ("mib/plf.dat", b"T1|4009|10|0")],
         b"BADMIB plf 1 NOREF 2",
-    )?;
-    not_decoded(
-        &rt,
-        alloc,
-        &[("mib/pcf.dat", b"A||||3|12\nT1||||3|12||A||N|R")],
-        b"BADMIB pcf 2 UNBUILT",
     )?;
     not_decoded(
         &rt,
@@ -397,18 +391,6 @@ fn rows_that_are_not_built_are_refused_where_all_is_sound(rt: HostRuntime) -> Re
             ("mib/vpd.dat", b"10|1|T1"),
         ],
         b"BADMIB pid 1 UNBUILT",
-    )?;
-    not_decoded(
-        &rt,
-        alloc,
-        &[("mib/pic.dat", b"3|25|9|8|-1|0")],
-        b"BADMIB pic 1 UNBUILT",
-    )?;
-    not_decoded(
-        &rt,
-        alloc,
-        &[("mib/plf.dat", b"T1|4001|10|0|2|16")],
-        b"BADMIB plf 1 UNBUILT",
     )?;
     let curve: Change<'_> = ("mib/mcf.dat", b"M1||1");
     not_decoded(
@@ -436,15 +418,15 @@ fn a_check_does_not_refuse_what_is_not_built(rt: HostRuntime) -> Result<(), Fail
         &mut folder(
             alloc,
             &[
-                ("mib/pcf.dat", b"T1||||4|12||||N|R"),
-                ("mib/pic.dat", b"3|25|9|8|-1|0"),
+                ("mib/pcf.dat", b"A||||3|12\nT1||||3|12||A||N|R"),
+                ("mib/ocf.dat", b"T1|1||C"),
             ],
         )?,
         &mut MemShelf::new(Vec::new(alloc), 1),
         &mut out,
     )?;
     assert_eq!(rt; code, Code::Ok);
-    assert!(rt; out.bytes().ends_with(b"ocp 0\nPLANS 3\n"));
+    assert!(rt; out.bytes().ends_with(b"ocp 0\nPLANS 4\n"));
     Ok(())
 }
 

@@ -22,8 +22,8 @@ impl By for ByDigit {
 #[test]
 fn rows_of_a_key_stand_in_their_order(rt: HostRuntime) -> Result<(), Fail> {
     let groups = RowGroups::<ByDigit>::new(rt.alloc(), &[31, 12, 0, 1, 22])?;
-    assert_eq!(&rt; groups.of(&1), &[31, 1]);
-    assert_eq!(&rt; groups.of(&2), &[12, 22]);
+    assert_eq!(&rt; groups.of(&1), [31, 1].as_slice());
+    assert_eq!(&rt; groups.of(&2), [12, 22].as_slice());
     assert!(&rt; groups.of(&0).is_empty());
     Ok(())
 }
