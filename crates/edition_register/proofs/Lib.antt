@@ -1,2 +1,4 @@
 pub mod RegisterFacts
 pub mod BoundedFacts
+pub mod KeptFacts
+pub mod StoredFacts

@@ -1,3 +1,5 @@
 pub mod Shown
 pub mod Laws
 pub mod Bounded
+pub mod Starts
+pub mod Stored

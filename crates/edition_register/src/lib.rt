@@ -6,9 +6,16 @@
 //! has the same histories. The crate rests on `mib_model` and `mib_laws`.
 #![tactic(auto)]
 
+mod editions;
+mod entry;
 mod laws;
+mod machine;
+mod start;
 
+pub use editions::Editions;
+pub use entry::{Entry, Reply};
 pub use laws::{
     bounded_serves, desk_shows_editions, few_activations, intake_counts, keeps_one_in_use,
     moves_kept, stamp_goes_on, tables_stay,
 };
+pub use start::{Pending, Start};
