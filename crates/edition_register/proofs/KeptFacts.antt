@@ -178,7 +178,7 @@ module _ (n : ℕ) (editions : List Database) (used : Scheduled) (waiting : List
       let is = from-is e k true false false _ has late refl full ∙ ap (λ b. cond b (Disorder (unwrap_or (last_pending (kept n editions used waiting)) 0)) (Used k)) order in (
         sym is,
         sym (ap (λ x. bounded (with_activation (kept n editions used waiting) (used ∷ waiting) e x)) is
-        ∙ ap (λ (l : List Scheduled). record { next = n; editions = editions; schedule = l }) (trim-kept n (used ∷ []) (waiting ++ record { from = k; edition = e } ∷ []) (before, tt) (from-rises e k late order))),
+            ∙ ap (λ (l : List Scheduled). record { next = n; editions = editions; schedule = l }) (trim-kept n (used ∷ []) (waiting ++ record { from = k; edition = e } ∷ []) (before, tt) (from-rises e k late order))),
       )
 
   pub use-takes : (e : ℕ) → has_edition (kept n editions used waiting) e ≡ true
@@ -192,8 +192,8 @@ module _ (n : ℕ) (editions : List Database) (used : Scheduled) (waiting : List
       let stay : past n (used ∷ waiting) ≡ used ∷ [] = past-front n used waiting before rises in (
         sym a,
         sym (ap (λ y. bounded (with_activation s (past n s.schedule) e y)) a
-        ∙ ap (λ (l : List Scheduled). record { next = n; editions = editions; schedule = trim n (l ++ x ∷ []) }) stay
-        ∙ ap (λ (l : List Scheduled). record { next = n; editions = editions; schedule = l }) (trim-kept n (used ∷ []) (x ∷ []) (before, tt) ((omega arith), tt))),
+            ∙ ap (λ (l : List Scheduled). record { next = n; editions = editions; schedule = trim n (l ++ x ∷ []) }) stay
+            ∙ ap (λ (l : List Scheduled). record { next = n; editions = editions; schedule = l }) (trim-kept n (used ∷ []) (x ∷ []) (before, tt) ((omega arith), tt))),
       )
 
   -- LOOKS

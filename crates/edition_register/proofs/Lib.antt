@@ -2,3 +2,4 @@ pub mod RegisterFacts
 pub mod BoundedFacts
 pub mod KeptFacts
 pub mod StoredFacts
+pub mod SeatFacts

@@ -3,3 +3,4 @@ pub mod Laws
 pub mod Bounded
 pub mod Starts
 pub mod Stored
+pub mod Seats

@@ -111,11 +111,14 @@ impl<E: Rows + Drop, B: MadeFor + Drop> Editions<E, B> {
         requires begins { begins (state_of self.old) ≡ true }
         ensures does { Does E.tables E.plans B.made_for (state_of self.old) entry.Stamp result (state_of self.new) }
     {
-        let Some(Pending {
-            from,
-            edition,
-            start,
-        }) = self.waiting.pop_front() else {
+        let Some(
+            Pending {
+                from,
+                edition,
+                start,
+            },
+        ) = self.waiting.pop_front()
+        else {
             unreachable!()
         };
         let number = self.next;

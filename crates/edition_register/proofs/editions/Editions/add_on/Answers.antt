@@ -36,4 +36,3 @@ returns g c =
     let on = add-on s.next editions used waiting s.before s.rises c.args.base (f c.args.payload) (g.E.Rows.plans (arc_value c.args.payload)) (eq-eqb c.args.base (length editions) (c.if-base-newest.false ∙ c.count-newest.ensures)) in
     let does = c.add.ensures.does in
     record { does = record { gives = added-on g.E.Rows.tables g.B.MadeFor.made_for (state_of s) c.args.base c.args.payload c.add.result does.gives; reply = does.reply ∙ on.0; after = does.after ∙ on.1 } }
-

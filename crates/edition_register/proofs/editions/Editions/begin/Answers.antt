@@ -27,7 +27,7 @@ invariant_of-self-clause-before g c =
     let ready = subst (AllReady g.E.Rows.tables g.B.MadeFor.made_for editions) items s.ready in
     let rises = subst (λ l. Rises s.next (map pair_of l)) items s.rises in
     let with = begins-with s.next editions used (pair_of p) (map pair_of rest) s.before rises
-        (subst (λ l. begins (kept s.next editions used (map pair_of l)) ≡ true) items c.requires.begins) in
+    (subst (λ l. begins (kept s.next editions used (map pair_of l)) ≡ true) items c.requires.begins) in
     let low = ready.0.0.0 in let high = ready.0.0.1 in let long = length-map s.handles.items f in
     let e = with.2 in omega arith
 
@@ -42,7 +42,7 @@ invariant_of-self-clause-stands g c =
     let ready = subst (AllReady g.E.Rows.tables g.B.MadeFor.made_for editions) items s.ready in
     let rises = subst (λ l. Rises s.next (map pair_of l)) items s.rises in
     let with = begins-with s.next editions used (pair_of p) (map pair_of rest) s.before rises
-        (subst (λ l. begins (kept s.next editions used (map pair_of l)) ≡ true) items c.requires.begins) in
+    (subst (λ l. begins (kept s.next editions used (map pair_of l)) ≡ true) items c.requires.begins) in
     let low = ready.0.0.0 in let high = ready.0.0.1 in let long = length-map s.handles.items f in
     (low, omega arith)
 
@@ -57,7 +57,7 @@ invariant_of-self-clause-rises g c =
     let ready = subst (AllReady g.E.Rows.tables g.B.MadeFor.made_for editions) items s.ready in
     let rises = subst (λ l. Rises s.next (map pair_of l)) items s.rises in
     let with = begins-with s.next editions used (pair_of p) (map pair_of rest) s.before rises
-        (subst (λ l. begins (kept s.next editions used (map pair_of l)) ≡ true) items c.requires.begins) in
+    (subst (λ l. begins (kept s.next editions used (map pair_of l)) ≡ true) items c.requires.begins) in
     let low = ready.0.0.0 in let high = ready.0.0.1 in let long = length-map s.handles.items f in
     subst (λ k. Rises (k + 1) (map pair_of rest)) with.2 rises.1
 
@@ -72,7 +72,7 @@ invariant_of-self-clause-ready g c =
     let ready = subst (AllReady g.E.Rows.tables g.B.MadeFor.made_for editions) items s.ready in
     let rises = subst (λ l. Rises s.next (map pair_of l)) items s.rises in
     let with = begins-with s.next editions used (pair_of p) (map pair_of rest) s.before rises
-        (subst (λ l. begins (kept s.next editions used (map pair_of l)) ≡ true) items c.requires.begins) in
+    (subst (λ l. begins (kept s.next editions used (map pair_of l)) ≡ true) items c.requires.begins) in
     let low = ready.0.0.0 in let high = ready.0.0.1 in let long = length-map s.handles.items f in
     ready.1
 
@@ -87,7 +87,7 @@ returns g c =
     let ready = subst (AllReady g.E.Rows.tables g.B.MadeFor.made_for editions) items s.ready in
     let rises = subst (λ l. Rises s.next (map pair_of l)) items s.rises in
     let with = begins-with s.next editions used (pair_of p) (map pair_of rest) s.before rises
-        (subst (λ l. begins (kept s.next editions used (map pair_of l)) ≡ true) items c.requires.begins) in
+    (subst (λ l. begins (kept s.next editions used (map pair_of l)) ≡ true) items c.requires.begins) in
     let low = ready.0.0.0 in let high = ready.0.0.1 in let long = length-map s.handles.items f in
     let shown = ap g.E.Rows.tables (c.of-tables.ensures ∙ c.deref.ensures) ∙ tables-at f s.handles.items (p.edition - 1) c.index.result.now (omega arith) c.index.ensures in
     record {
@@ -97,4 +97,3 @@ returns g c =
         after = with.1 ∙ ap (λ l. bounded_after (kept s.next editions used (map pair_of l)) event.Stamp) (sym items);
       };
     }
-

@@ -36,4 +36,3 @@ returns-in-None g c =
     let waiting = map pair_of s.waiting.items in
     let ok = s.waiting.ok.0 in let none = c.in-None.ensures.variant.1 in
     first-none s.next s.waiting.items (zero-is (length s.waiting.items) (λ lt. none (omega arith))) ∙ sym (begins-kept s.next editions used waiting s.before s.rises)
-

@@ -25,4 +25,3 @@ returns g c =
     let waiting = map pair_of s.waiting.items in
     let e = c.in_ok-last.ensures in let ok = s.waiting.ok.0 in let some = e.variant.0 refl in
     last-is s.waiting.items None (s.waiting.len - 1) c.in_ok-last.last.now (omega arith) e.lookup ∙ sym (last-kept s.next editions used waiting s.before s.rises)
-

@@ -38,4 +38,3 @@ returns g c =
     let shown = ap g.E.Rows.tables (c.of-tables.ensures ∙ c.deref.ensures) ∙ tables-at f s.handles.items (c.args.edition - 1) c.index-2.result.now (omega arith) c.index-2.ensures in
     let found = look-found s.next editions used waiting s.before s.rises c.args.edition has in
     record { does = record { gives = copied g.E.Rows.tables c.try_clone-handle.result _ c.index.result.now (tables-at f s.handles.items (c.args.edition - 1) c.index.result.now (omega arith) c.index.ensures ∙ sym shown) c.try_clone-handle.ensures; reply = ap (answer.Drawn c.args.edition) shown ∙ found.0; after = found.1 } }
-

@@ -38,7 +38,6 @@ returns-then-from-next g c =
     let late = use_from-late s.next editions used waiting s.before s.rises c.args.edition c.args.from fits.0 (lt-ltb c.args.from s.next c.if-from-next.true) in
     record { does = record { gives = sym c.in-Some.is; reply = late.0; after = late.1 } }
 
-
 pub returns-in-Some-disorder : goal.returns-in-Some-disorder
 returns-in-Some-disorder g c =
     let s = c.args.self.now in
@@ -111,4 +110,3 @@ returns g c =
     let items = c.push_back_reserved.ensures.items in
     let takes = use_from-takes s.next editions used waiting s.before s.rises c.args.edition c.args.from fits.0 late c.in_default-disorder.ensures full in
     record { does = record { gives = tt; reply = takes.0; after = ap (λ l. kept s.next editions used l) (ap (map pair_of) items ∙ map-append pair_of s.waiting.items (p ∷ [])) ∙ takes.1 } }
-

@@ -61,4 +61,3 @@ returns g c =
     let items = c.push_back_reserved.ensures.items ∙ ap (λ l. l ++ (record { from = s.next; edition = c.args.edition; start = c.in-Some.start }) ∷ []) c.clear.ensures.items in
     let takes = use-takes s.next editions used waiting s.before s.rises c.args.edition fits.0 in
     record { does = record { gives = tt; reply = takes.0; after = ap (λ l. kept s.next editions used (map pair_of l)) items ∙ takes.1 } }
-
