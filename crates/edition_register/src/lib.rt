@@ -14,6 +14,8 @@ mod machine;
 mod outcome;
 mod register;
 mod start;
+#[cfg(test)]
+mod tests;
 
 pub use editions::Editions;
 pub use entry::{Entry, Reply};
