@@ -1,5 +1,5 @@
 -- A register that forgets what no packet to come needs answers as one that keeps all.
-use Rattle.std.proofs.Common.{◌≡◌, ℕ, suc, ◌+◌, ◌<◌, ◌≤◌, Bool, true, false, not, cond, List, [], ◌∷◌, ◌++◌, map, filter, length, Option, Some, None, unwrap_or, option_map, sym, refl, ap, subst, ◌∙◌, arith, nat_le, nat_lt, nat_eq, append_assoc, length-append}
+use Rattle.std.proofs.Common.{◌≡◌, ℕ, ◌+◌, ◌<◌, ◌≤◌, Bool, true, false, not, cond, List, [], ◌∷◌, ◌++◌, map, filter, length, Option, Some, None, unwrap_or, option_map, sym, refl, ap, subst, ◌∙◌, arith, nat_le, nat_lt, nat_eq, append_assoc, length-append}
 use Rattle.std.proofs.lemmas.Grind.{common_steps}
 use Rattle.std.proofs.lemmas.List.{append-nil}
 use Rattle.std.proofs.lemmas.List.Elements.{filter-append}
@@ -16,6 +16,7 @@ use Rattle.mib_model.specs.declared.register.Scheduled.{Scheduled}
 use Rattle.mib_model.specs.Register.{opening, answer_to, after, with_tables, with_activation, edition_for, has_edition, count_of_editions, is_disorder, last_pending, pending, most_pending, tables_of}
 use Rattle.mib_model.specs.RegisterHistories.{RegisterHistory}
 use Rattle.mib_laws.proofs.Choices.{choice}
+use Rattle.edition_register.specs.Starts.{Rises}
 use Rattle.edition_register.specs.Bounded.{last_alone, bounded, bounded_after, begun, edition_of, kept_after, IsKept, BoundedServes, FewActivations, KeepsOneInUse, MovesKept}
 
 -- LISTS
@@ -58,21 +59,16 @@ module _ {X : Type 0} where
   all-append P (x ∷ xs) ys all more = (all.0, all-append P xs ys all.1 more)
 
 -- SCHEDULES
-abbrev past : ℕ → List Scheduled → List Scheduled
+abbrev pub past : ℕ → List Scheduled → List Scheduled
 past n pairs = filter (λ q. not (nat_le n q.from)) pairs
 
-abbrev pend : ℕ → List Scheduled → List Scheduled
+abbrev pub pend : ℕ → List Scheduled → List Scheduled
 pend n pairs = filter (λ q. nat_le n q.from) pairs
 
-abbrev trim : ℕ → List Scheduled → List Scheduled
+abbrev pub trim : ℕ → List Scheduled → List Scheduled
 trim n pairs = last_alone (past n pairs) ++ pend n pairs
 
--- the packets from which activations begin rise, from this one on
-abbrev Rises : ℕ → List Scheduled → Type 0
-Rises low [] = Unit {0}
-Rises low (q ∷ qs) = (low ≤ q.from) × Rises (suc q.from) qs
-
-rises-weaken : (low high : ℕ) (pairs : List Scheduled) → low ≤ high → Rises high pairs → Rises low pairs
+pub rises-weaken : (low high : ℕ) (pairs : List Scheduled) → low ≤ high → Rises high pairs → Rises low pairs
 rises-weaken low high [] le rises = tt
 rises-weaken low high (q ∷ qs) le rises = let above = rises.0 in (omega arith, rises.1)
 
@@ -80,47 +76,47 @@ rises-filter : (test : Scheduled → Bool) (low : ℕ) (pairs : List Scheduled) 
 rises-filter test low [] rises = tt
 rises-filter test low (q ∷ qs) rises =
     let above = rises.0 in
-    choice (λ l. Rises low l) (test q) (q ∷ filter test qs) (filter test qs) (λ _. (above, rises-filter test (suc q.from) qs rises.1))
-    (λ _. rises-weaken low (suc q.from) (filter test qs) (omega arith) (rises-filter test (suc q.from) qs rises.1))
+    choice (λ l. Rises low l) (test q) (q ∷ filter test qs) (filter test qs) (λ _. (above, rises-filter test (q.from + 1) qs rises.1))
+    (λ _. rises-weaken low (q.from + 1) (filter test qs) (omega arith) (rises-filter test (q.from + 1) qs rises.1))
 
-rises-one : (low : ℕ) (pairs : List Scheduled) (x : Scheduled) → Rises low pairs → low ≤ x.from → AllByRecursion (λ (q : Scheduled). q.from < x.from) pairs → Rises low (pairs ++ x ∷ [])
+pub rises-one : (low : ℕ) (pairs : List Scheduled) (x : Scheduled) → Rises low pairs → low ≤ x.from → AllByRecursion (λ (q : Scheduled). q.from < x.from) pairs → Rises low (pairs ++ x ∷ [])
 rises-one low [] x rises le all = (le, tt)
-rises-one low (q ∷ qs) x rises le all = let below = all.0 in (rises.0, rises-one (suc q.from) qs x rises.1 (omega arith) all.1)
+rises-one low (q ∷ qs) x rises le all = let below = all.0 in (rises.0, rises-one (q.from + 1) qs x rises.1 (omega arith) all.1)
 
 rises-above : (n low : ℕ) (pairs : List Scheduled) → n ≤ low → Rises low pairs → AllByRecursion (λ (q : Scheduled). nat_le n q.from ≡ true) pairs
 rises-above n low [] le rises = tt
-rises-above n low (q ∷ qs) le rises = let above = rises.0 in (le-leb n q.from (omega arith), rises-above n (suc q.from) qs (omega arith) rises.1)
+rises-above n low (q ∷ qs) le rises = let above = rises.0 in (le-leb n q.from (omega arith), rises-above n (q.from + 1) qs (omega arith) rises.1)
 
-split-by : (b : Bool) (n : ℕ) (q : Scheduled) (qs : List Scheduled) → nat_le n q.from ≡ b → Rises (suc q.from) qs → past n qs ++ pend n qs ≡ qs
+split-by : (b : Bool) (n : ℕ) (q : Scheduled) (qs : List Scheduled) → nat_le n q.from ≡ b → Rises (q.from + 1) qs → past n qs ++ pend n qs ≡ qs
     → cond (not b) (q ∷ past n qs) (past n qs) ++ cond b (q ∷ pend n qs) (pend n qs) ≡ q ∷ qs
 split-by true n q qs is rises same =
-    let le = leb-true n q.from is in let above = rises-above n (suc q.from) qs (omega arith) rises in
+    let le = leb-true n q.from is in let above = rises-above n (q.from + 1) qs (omega arith) rises in
     ap (λ (l : List Scheduled). l ++ q ∷ pend n qs) (filter-none (λ r. not (nat_le n r.from)) qs (all-map (λ (r : Scheduled). nat_le n r.from ≡ true) (λ (r : Scheduled). not (nat_le n r.from) ≡ false) (λ r h. ap not h) qs above))
     ∙ ap (λ (l : List Scheduled). q ∷ l) (filter-all (λ r. nat_le n r.from) qs above)
 split-by false n q qs is rises same = ap (λ (l : List Scheduled). q ∷ l) same
 
 -- what is past stands before what is pending
-split : (n low : ℕ) (pairs : List Scheduled) → Rises low pairs → past n pairs ++ pend n pairs ≡ pairs
+pub split : (n low : ℕ) (pairs : List Scheduled) → Rises low pairs → past n pairs ++ pend n pairs ≡ pairs
 split n low [] rises = refl
-split n low (q ∷ qs) rises = split-by (nat_le n q.from) n q qs refl rises.1 (split n (suc q.from) qs rises.1)
+split n low (q ∷ qs) rises = split-by (nat_le n q.from) n q qs refl rises.1 (split n (q.from + 1) qs rises.1)
 
 -- activations from packets below this one
-abbrev Below : ℕ → List Scheduled → Type 0
+abbrev pub Below : ℕ → List Scheduled → Type 0
 Below n pairs = AllByRecursion (λ (q : Scheduled). q.from < n) pairs
 
 not-le : (n k : ℕ) → not (nat_le n k) ≡ true → k < n
 not-le n k h = grind (arith, common_steps)
 
-past-below : (n : ℕ) (pairs : List Scheduled) → Below n (past n pairs)
+pub past-below : (n : ℕ) (pairs : List Scheduled) → Below n (past n pairs)
 past-below n pairs = all-map (λ (q : Scheduled). not (nat_le n q.from) ≡ true) (λ (q : Scheduled). q.from < n) (λ q h. not-le n q.from h) (past n pairs) (filter-tests (λ q. not (nat_le n q.from)) pairs)
 
-lt-not : (n k : ℕ) → k < n → nat_le n k ≡ false
+pub lt-not : (n k : ℕ) → k < n → nat_le n k ≡ false
 lt-not n k h = search (arith, h)
 
-below-past : (n m : ℕ) (pairs : List Scheduled) → n ≤ m → Below n pairs → past m pairs ≡ pairs
+pub below-past : (n m : ℕ) (pairs : List Scheduled) → n ≤ m → Below n pairs → past m pairs ≡ pairs
 below-past n m pairs le all = filter-all (λ q. not (nat_le m q.from)) pairs (all-map (λ (q : Scheduled). q.from < n) (λ (q : Scheduled). not (nat_le m q.from) ≡ true) (λ q h. ap not (lt-not m q.from (omega arith))) pairs all)
 
-below-pend : (n m : ℕ) (pairs : List Scheduled) → n ≤ m → Below n pairs → pend m pairs ≡ []
+pub below-pend : (n m : ℕ) (pairs : List Scheduled) → n ≤ m → Below n pairs → pend m pairs ≡ []
 below-pend n m pairs le all = filter-none (λ q. nat_le m q.from) pairs (all-map (λ (q : Scheduled). q.from < n) (λ (q : Scheduled). nat_le m q.from ≡ false) (λ q h. lt-not m q.from (omega arith)) pairs all)
 
 trim-parts : (m n : ℕ) (xs ys : List Scheduled) → n ≤ m → Below n xs → trim m (xs ++ ys) ≡ last_alone (xs ++ past m ys) ++ pend m ys
@@ -144,11 +140,11 @@ pend-pend n pairs = filter-all (λ q. nat_le n q.from) (pend n pairs) (filter-te
 past-pend : (n : ℕ) (pairs : List Scheduled) → past n (pend n pairs) ≡ []
 past-pend n pairs = filter-none (λ q. not (nat_le n q.from)) (pend n pairs) (all-map (λ (q : Scheduled). nat_le n q.from ≡ true) (λ (q : Scheduled). not (nat_le n q.from) ≡ false) (λ q h. ap not h) (pend n pairs) (filter-tests (λ q. nat_le n q.from) pairs))
 
-last-below : (n : ℕ) (pairs : List Scheduled) → Below n (last_alone (past n pairs))
+pub last-below : (n : ℕ) (pairs : List Scheduled) → Below n (last_alone (past n pairs))
 last-below n pairs = all-last (λ (q : Scheduled). q.from < n) (past n pairs) (past-below n pairs)
 
 -- a trimmed schedule has the same pending activations, and of the past ones the last
-pend-trim : (n : ℕ) (pairs : List Scheduled) → pend n (trim n pairs) ≡ pend n pairs
+pub pend-trim : (n : ℕ) (pairs : List Scheduled) → pend n (trim n pairs) ≡ pend n pairs
 pend-trim n pairs =
     filter-append (λ q. nat_le n q.from) (last_alone (past n pairs)) (pend n pairs)
     ∙ ap (λ (l : List Scheduled). l ++ pend n (pend n pairs)) (below-pend n n (last_alone (past n pairs)) (omega arith) (last-below n pairs))
@@ -168,7 +164,7 @@ below-le n pairs all = filter-all (λ q. nat_le q.from n) pairs (all-map (λ (q 
 le-parts : (n : ℕ) (xs ys : List Scheduled) → Below n xs → filter (λ q. nat_le q.from n) (xs ++ ys) ≡ xs ++ filter (λ q. nat_le q.from n) ys
 le-parts n xs ys below = filter-append (λ q. nat_le q.from n) xs ys ∙ ap (λ (l : List Scheduled). l ++ filter (λ q. nat_le q.from n) ys) (below-le n xs below)
 
-abbrev edition_in : ℕ → List Scheduled → ℕ
+abbrev pub edition_in : ℕ → List Scheduled → ℕ
 edition_in n pairs = unwrap_or (last_or None (map (λ pair. pair.edition) (filter (λ pair. nat_le pair.from n) pairs))) 1
 
 edition-trim : (n low : ℕ) (pairs : List Scheduled) → Rises low pairs → edition_in n (trim n pairs) ≡ edition_in n pairs
@@ -180,10 +176,10 @@ edition-trim n low pairs rises =
     ∙ sym (ap edition (le-parts n (past n pairs) (pend n pairs) (past-below n pairs)))
     ∙ ap (edition_in n) (split n low pairs rises)
 
-abbrev In : Register → Type 0
+abbrev pub In : Register → Type 0
 In s = Rises 0 s.schedule
 
-same-answer : (s : Register) (e : Entry) → In s → answer_to (bounded s) e ≡ answer_to s e
+pub same-answer : (s : Register) (e : Entry) → In s → answer_to (bounded s) e ≡ answer_to s e
 unfolding answer_to
 same-answer s Stamp rises = ap (λ e. Stamped s.next e (tables_of s e)) (edition-trim s.next 0 s.schedule rises)
 same-answer s (Add tables plans) rises = refl
@@ -240,12 +236,12 @@ same-after s Newest rises = again s rises
 same-after s (Look e) rises = again s rises
 
 -- ORDER
-below-last : (k : ℕ) (p : Scheduled) (pairs : List Scheduled) → Rises (suc p.from) pairs → is_disorder k (option_map (λ (pair : Scheduled). pair.from) (last_or (Some p) pairs)) ≡ false
+below-last : (k : ℕ) (p : Scheduled) (pairs : List Scheduled) → Rises (p.from + 1) pairs → is_disorder k (option_map (λ (pair : Scheduled). pair.from) (last_or (Some p) pairs)) ≡ false
     → (p.from < k) × Below k pairs
 below-last k p [] rises last = (leb-false k p.from last, tt)
 below-last k p (q ∷ qs) rises last = let rest = below-last k q qs rises.1 last in let lt = rest.0 in let above = rises.0 in (omega arith, rest)
 
-below-all : (k low : ℕ) (pairs : List Scheduled) → Rises low pairs → is_disorder k (option_map (λ (pair : Scheduled). pair.from) (last_or None pairs)) ≡ false → Below k pairs
+pub below-all : (k low : ℕ) (pairs : List Scheduled) → Rises low pairs → is_disorder k (option_map (λ (pair : Scheduled). pair.from) (last_or None pairs)) ≡ false → Below k pairs
 below-all k low [] rises last = tt
 below-all k low (q ∷ qs) rises last = below-last k q qs rises.1 last
 
@@ -288,7 +284,7 @@ in-step s Newest rises = rises
 in-step s (Look e) rises = rises
 
 -- HISTORIES
-same-state : (s : Register) (history : RegisterHistory) → In s → state_after bounded_after (bounded s) history ≡ bounded (state_after after s history)
+pub same-state : (s : Register) (history : RegisterHistory) → In s → state_after bounded_after (bounded s) history ≡ bounded (state_after after s history)
 same-state s [] rises = refl
 same-state s (m ∷ ms) rises = ap (λ t. state_after bounded_after t ms) (same-after s m.entry rises) ∙ same-state (after s m.entry) ms (in-step s m.entry rises)
 
@@ -423,7 +419,7 @@ past-after : (s : Register) (history : RegisterHistory) → Past s → Past (sta
 past-after s [] some = some
 past-after s (m ∷ ms) some = past-after (after s m.entry) ms (past-step s m.entry some)
 
-in-after : (s : Register) (history : RegisterHistory) → In s → In (state_after after s history)
+pub in-after : (s : Register) (history : RegisterHistory) → In s → In (state_after after s history)
 in-after s [] rises = rises
 in-after s (m ∷ ms) rises = in-after (after s m.entry) ms (in-step s m.entry rises)
 
@@ -441,24 +437,24 @@ bounded-kept s some =
     }
 
 -- of rising activations none but the first is from the packet or an earlier one
-later-none : (n low : ℕ) (pairs : List Scheduled) → n < low → Rises low pairs → filter (λ q. nat_le q.from n) pairs ≡ []
+pub later-none : (n low : ℕ) (pairs : List Scheduled) → n < low → Rises low pairs → filter (λ q. nat_le q.from n) pairs ≡ []
 later-none n low [] lt rises = refl
 later-none n low (q ∷ qs) lt rises =
     let above = rises.0 in
     ap (λ b. cond b (q ∷ filter (λ r. nat_le r.from n) qs) (filter (λ r. nat_le r.from n) qs)) (lt-not q.from n (omega arith))
-    ∙ later-none n (suc q.from) qs (omega arith) rises.1
+    ∙ later-none n (q.from + 1) qs (omega arith) rises.1
 
-edition-first : (n : ℕ) (used : Scheduled) (pairs : List Scheduled) → used.from < n → Rises n pairs → edition_in n (used ∷ pairs) ≡ edition_of n used pairs
+pub edition-first : (n : ℕ) (used : Scheduled) (pairs : List Scheduled) → used.from < n → Rises n pairs → edition_in n (used ∷ pairs) ≡ edition_of n used pairs
 edition-first n used pairs before rises =
     ap (λ b. unwrap_or (last_or None (map (λ (pair : Scheduled). pair.edition) (cond b (used ∷ filter (λ q. nat_le q.from n) pairs) (filter (λ q. nat_le q.from n) pairs)))) 1) (le-leb used.from n (omega arith))
     ∙ next-edition pairs rises
   where
-    begins : (b : Bool) (q : Scheduled) (qs : List Scheduled) → nat_eq q.from n ≡ b → n ≤ q.from → Rises (suc q.from) qs
+    begins : (b : Bool) (q : Scheduled) (qs : List Scheduled) → nat_eq q.from n ≡ b → n ≤ q.from → Rises (q.from + 1) qs
         → unwrap_or (last_or (Some used.edition) (map (λ (pair : Scheduled). pair.edition) (filter (λ r. nat_le r.from n) (q ∷ qs)))) 1 ≡ cond b q.edition used.edition
     begins true q qs is le above =
         let same = eqb-true q.from n is in
         ap (λ b. unwrap_or (last_or (Some used.edition) (map (λ (pair : Scheduled). pair.edition) (cond b (q ∷ filter (λ r. nat_le r.from n) qs) (filter (λ r. nat_le r.from n) qs)))) 1) (le-leb q.from n (omega arith))
-        ∙ ap (λ (l : List Scheduled). unwrap_or (last_or (Some q.edition) (map (λ (pair : Scheduled). pair.edition) l)) 1) (later-none n (suc q.from) qs (omega arith) above)
+        ∙ ap (λ (l : List Scheduled). unwrap_or (last_or (Some q.edition) (map (λ (pair : Scheduled). pair.edition) l)) 1) (later-none n (q.from + 1) qs (omega arith) above)
     begins false q qs is le above =
         let other = eqb-false q.from n is in
         ap (λ (l : List Scheduled). unwrap_or (last_or (Some used.edition) (map (λ (pair : Scheduled). pair.edition) l)) 1) (later-none n q.from (q ∷ qs) (omega arith) (omega arith, above))
@@ -490,26 +486,26 @@ keeps-one first history =
     (kept, bounded-edition (state_after bounded_after (opening first) history) kept (waiting-rises first history))
 
 -- MOVES
-rises-past : (n : ℕ) (pairs : List Scheduled) → Rises n pairs → past n pairs ≡ []
+pub rises-past : (n : ℕ) (pairs : List Scheduled) → Rises n pairs → past n pairs ≡ []
 rises-past n pairs rises = filter-none (λ q. not (nat_le n q.from)) pairs (all-map (λ (q : Scheduled). nat_le n q.from ≡ true) (λ (q : Scheduled). not (nat_le n q.from) ≡ false) (λ q h. ap not h) pairs (rises-above n n pairs (omega arith) rises))
 
-rises-pend : (n : ℕ) (pairs : List Scheduled) → Rises n pairs → pend n pairs ≡ pairs
+pub rises-pend : (n : ℕ) (pairs : List Scheduled) → Rises n pairs → pend n pairs ≡ pairs
 rises-pend n pairs rises = filter-all (λ q. nat_le n q.from) pairs (rises-above n n pairs (omega arith) rises)
 
 -- what is past, and then activations that rise from the packet on
-trim-kept : (n : ℕ) (xs pairs : List Scheduled) → Below n xs → Rises n pairs → trim n (xs ++ pairs) ≡ last_alone xs ++ pairs
+pub trim-kept : (n : ℕ) (xs pairs : List Scheduled) → Below n xs → Rises n pairs → trim n (xs ++ pairs) ≡ last_alone xs ++ pairs
 trim-kept n xs pairs below rises =
     trim-parts n n xs pairs (omega arith) below
     ∙ ap (λ (l : List Scheduled). last_alone (xs ++ l) ++ pend n pairs) (rises-past n pairs rises)
     ∙ ap (λ (l : List Scheduled). last_alone l ++ pend n pairs) (append-nil xs)
     ∙ ap (λ (l : List Scheduled). last_alone xs ++ l) (rises-pend n pairs rises)
 
-stamp-moves : (n : ℕ) (used : Scheduled) (pairs : List Scheduled) → used.from < n → Rises n pairs → trim (n + 1) (used ∷ pairs) ≡ (begun n used pairs).0 ∷ (begun n used pairs).1
+pub stamp-moves : (n : ℕ) (used : Scheduled) (pairs : List Scheduled) → used.from < n → Rises n pairs → trim (n + 1) (used ∷ pairs) ≡ (begun n used pairs).0 ∷ (begun n used pairs).1
 stamp-moves n used [] before rises = trim-kept (n + 1) (used ∷ []) [] ((omega arith), tt) tt
 stamp-moves n used (q ∷ qs) before rises = by (nat_eq q.from n) refl
   where
     by : (b : Bool) → nat_eq q.from n ≡ b → trim (n + 1) (used ∷ q ∷ qs) ≡ (cond {A = Scheduled × List Scheduled} b (q, qs) (used, q ∷ qs)).0 ∷ (cond {A = Scheduled × List Scheduled} b (q, qs) (used, q ∷ qs)).1
-    by true is = let same = eqb-true q.from n is in trim-kept (n + 1) (used ∷ q ∷ []) qs ((omega arith), ((omega arith), tt)) (rises-weaken (n + 1) (suc q.from) qs (omega arith) rises.1)
+    by true is = let same = eqb-true q.from n is in trim-kept (n + 1) (used ∷ q ∷ []) qs ((omega arith), ((omega arith), tt)) (rises-weaken (n + 1) (q.from + 1) qs (omega arith) rises.1)
     by false is = let other = eqb-false q.from n is in let above = rises.0 in trim-kept (n + 1) (used ∷ []) (q ∷ qs) ((omega arith), tt) ((omega arith), rises.1)
 
 kept-stays : (s : Register) (kept : IsKept s) → Rises s.next (pending s) → trim s.next s.schedule ≡ kept.used ∷ pending s
@@ -519,7 +515,7 @@ tables-moves : (s : Register) (kept : IsKept s) (tables : Database) (a : Answer)
 tables-moves s kept tables (Added e) rises = kept-stays s kept rises
 tables-moves s kept tables other rises = kept-stays s kept rises
 
-past-kept : (s : Register) (kept : IsKept s) → Rises s.next (pending s) → past s.next s.schedule ≡ kept.used ∷ []
+pub past-kept : (s : Register) (kept : IsKept s) → Rises s.next (pending s) → past s.next s.schedule ≡ kept.used ∷ []
 past-kept s kept rises =
     ap (past s.next) kept.schedule
     ∙ filter-append (λ q. not (nat_le s.next q.from)) (kept.used ∷ []) (pending s)

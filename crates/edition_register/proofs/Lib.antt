@@ -1,2 +1,5 @@
 pub mod RegisterFacts
 pub mod BoundedFacts
+pub mod KeptFacts
+pub mod StoredFacts
+pub mod SeatFacts

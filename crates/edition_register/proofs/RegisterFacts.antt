@@ -22,13 +22,13 @@ use Rattle.edition_register.specs.Shown.{stamped_by, last_stamped, added_by, add
 use Rattle.edition_register.specs.Laws.{IntakeCounts, DeskShowsEditions, StampGoesOn, TablesStay}
 
 -- LISTS
-all-filter : {X : Type 0} (P : X → Type 0) (test : X → Bool) (xs : List X) → AllByRecursion P xs → AllByRecursion P (filter test xs)
+pub all-filter : {X : Type 0} (P : X → Type 0) (test : X → Bool) (xs : List X) → AllByRecursion P xs → AllByRecursion P (filter test xs)
 all-filter P test [] all = tt
 all-filter P test (x ∷ xs) all =
     let rest = all-filter P test xs all.1 in
     choice (λ l. AllByRecursion P l) (test x) (x ∷ filter test xs) (filter test xs) (λ _. (all.0, rest)) (λ _. rest)
 
-all-one : {X : Type 0} (P : X → Type 0) (xs : List X) (x : X) → AllByRecursion P xs → P x → AllByRecursion P (xs ++ x ∷ [])
+pub all-one : {X : Type 0} (P : X → Type 0) (xs : List X) (x : X) → AllByRecursion P xs → P x → AllByRecursion P (xs ++ x ∷ [])
 all-one P [] x all here = (here, tt)
 all-one P (y ∷ ys) x all here = (all.0, all-one P ys x all.1 here)
 
@@ -154,7 +154,7 @@ tables-all : (s : Register) (tables : Database) (a : Answer) → AllStand s → 
 tables-all s tables (Added e) all = all-more s.editions (tables ∷ []) s.schedule all
 tables-all s tables other all = all
 
-has_edition-stands : (s : Register) (e : ℕ) → has_edition s e ≡ true → Stands s.editions e
+pub has_edition-stands : (s : Register) (e : ℕ) → has_edition s e ≡ true → Stands s.editions e
 has_edition-stands s e has = grind (arith, common_steps)
 
 use-all : (s : Register) (e : ℕ) → AllStand s → AllStand (after s (Use e))
