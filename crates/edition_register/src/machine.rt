@@ -77,7 +77,7 @@ impl<E: Rows + Drop, B: MadeFor + Drop> Editions<E, B> {
         Some(last.from)
     }
 
-    // The same, where it is this packet or a later one.
+    // The packet of the last pending activation, where it is this packet or a later one.
     fn disorder(&self, from: u64) -> Option<u64>
         ensures { MatchOption result (is_disorder from (last_pending (state_of self.now)) ≡ false) (λ last. (last_pending (state_of self.now) ≡ Some last) × (nat_le from last ≡ true)) }
     {
