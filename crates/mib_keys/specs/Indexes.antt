@@ -1,5 +1,5 @@
 -- What a map from keys says of rows: the first place of each key, or how many rows have it. [This profile.]
-use Rattle.std.specs.Prelude.{ℕ, nat_lt, Bool, false, List, length, Option, Some, None, position, if◌then◌else◌}
+use Rattle.std.specs.Prelude.{◌≡◌, ℕ, ◌+◌, nat_lt, Bool, false, List, length, Option, Some, None, unwrap_or, position, if◌then◌else◌}
 use Rattle.std.specs.List.{filter}
 
 -- whether a row's key is this key
@@ -23,3 +23,7 @@ count_with eq key rows q = length (filter (λ row. has_by eq q (key row)) rows)
 abbrev pub cut : ℕ → Option ℕ → Option ℕ
 cut n None = None
 cut n (Some i) = if nat_lt i n then Some i else None
+
+-- the count of a key grew by one, and that of each other key stays
+abbrev pub CountsOnce : {K : Type 0} → (K → K → Bool) → Option K → (K → Option ℕ) → (K → Option ℕ) → Type 0
+CountsOnce {K} eq key old new = (q : K) → unwrap_or (new q) 0 ≡ (if has_by eq q key then unwrap_or (old q) 0 + 1 else unwrap_or (old q) 0)

@@ -3,7 +3,7 @@ ghost use Rattle.std.specs.Prelude.{◌≡◌, ◌+◌, ◌<◌, ◌≤◌, leng
 ghost use Rattle.std.specs.HashMap.{get};
 ghost use Rattle.std.specs.Option.{option_or};
 ghost use Rattle.mib_keys.specs.Alike.{AreKeyPlaces, key_eq};
-ghost use Rattle.mib_keys.specs.Indexes.{has_by, first_place, some_if, count_with};
+ghost use Rattle.mib_keys.specs.Indexes.{CountsOnce, has_by, first_place, some_if, count_with};
 ghost use Rattle.mib_model.specs.declared.limits.TheConstants.{HELD_MOST};
 
 use crate::keys::By;
@@ -52,7 +52,7 @@ fn count_key<K: Eq + Hash + Copy + Drop>(
     key: Option<K>,
 ) -> Result<(), AllocError>
     requires { (q : K) → unwrap_or (get K.eq counts.old q) 0 < HELD_MOST }
-    ensures { OnOk result ((q : K) → unwrap_or (get K.eq counts.new q) 0 ≡ (if has_by K.eq q key then unwrap_or (get K.eq counts.old q) 0 + 1 else unwrap_or (get K.eq counts.old q) 0)) }
+    ensures { OnOk result (CountsOnce K.eq key (get K.eq counts.old) (get K.eq counts.new)) }
 {
     let Some(key) = key else {
         return Ok(());
