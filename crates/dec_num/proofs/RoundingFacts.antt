@@ -28,6 +28,9 @@ pow-positive k = one-le-pow k 10 (omega arith)
 pub pow-fits : (k : ℕ) → k ≤ 38 → 10 ^ k < 2 ^ 128
 pow-fits k few = let bound : 10 ^ k ≤ 10 ^ 38 = pow-le-pow_right {n = 10} (omega arith) few in omega arith
 
+pub pow-fits_word : (k : ℕ) → k ≤ 19 → 10 ^ k < 2 ^ 64
+pow-fits_word k few = let bound : 10 ^ k ≤ 10 ^ 19 = pow-le-pow_right {n = 10} (omega arith) few in omega arith
+
 signed-zero : (minus : Bool) → pos 0 ≡ with_sign minus 0
 signed-zero true = refl
 signed-zero false = refl
@@ -43,4 +46,4 @@ half-nothing z k small many =
 pub pow-fits_signed : (k : ℕ) → k ≤ 36 → 10 ^ k < 2 ^ 127
 pow-fits_signed k few = let bound : 10 ^ k ≤ 10 ^ 36 = pow-le-pow_right {n = 10} (omega arith) few in omega arith
 
-pub ruleset powers = (pow-positive, pow-fits, pow-fits_signed, half-nothing)
+pub ruleset powers = (pow-positive, pow-fits, pow-fits_word, pow-fits_signed, half-nothing)

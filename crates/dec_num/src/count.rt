@@ -1,10 +1,10 @@
 // Engineering values as counts of 10^-12, and their texts.
-ghost use Rattle.std.specs.Prelude.{◌≡◌, ◌<◌, ◌≤◌, ◌+◌, ◌*ℤ◌, ◌++◌, ◌^◌, pos, length, replicate};
+ghost use Rattle.std.specs.Prelude.{◌≡◌, ◌<◌, ◌≤◌, ◌+◌, ◌*ℤ◌, ◌++◌, ◌^◌, pos, length, replicate, decimal};
 ghost use Rattle.mib_model.specs.Counts as Spec;
 ghost use Rattle.mib_model.specs.Digits.{decimal_of_width};
 ghost use Rattle.mib_model.specs.declared.line.TheConstants.{LINE_ROOM};
 
-use crate::rounding::{power, rounded, scaled_down};
+use crate::rounding::{divided, power, rounded, scaled_down};
 use crate::steps::scaled_up;
 use itoa::Buffer;
 use mib_model::{Dec, Eng, Line, STEP_BOUND};
@@ -51,6 +51,17 @@ fn zeros(count: usize) -> &'static [u8]
     &b"000000000000"[..count]
 }
 
+// The digits of a number, by words of 64 bits where it is that small.
+fn digits_in(number: u128, buffer: &mut Buffer) -> &[u8]
+    ensures text { result.now ≡ decimal number }
+    ensures room { length result.now ≤ 40 }
+{
+    match u64::try_from(number) {
+        Ok(number) => buffer.format(number).as_bytes(),
+        Err(_) => buffer.format(number).as_bytes(),
+    }
+}
+
 // Appends a number in so many decimals, with zeros in front.
 #[tactic(auto, using(crate::proofs::TextFacts::decimals))]
 fn write_decimals(number: u128, places: u8, out: &mut Line)
@@ -62,7 +73,7 @@ fn write_decimals(number: u128, places: u8, out: &mut Line)
     ensures room { length out.new ≤ length out.old + 12 }
 {
     let mut buffer = Buffer::new();
-    let digits = buffer.format(number).as_bytes();
+    let digits = digits_in(number, &mut buffer);
     let missing = usize::from(places) - digits.len();
     out.add(zeros(missing));
     out.add(digits);
@@ -75,12 +86,12 @@ fn write_pointed(number: u128, places: u8, out: &mut Line)
     ensures text { out.new ≡ out.old ++ Spec.pointed places number }
     ensures room { length out.new ≤ length out.old + 59 }
 {
-    let unit = power(u32::from(places));
+    let (whole, rest) = divided(number, power(u32::from(places)));
     let mut buffer = Buffer::new();
-    out.add(buffer.format(number / unit).as_bytes());
+    out.add(digits_in(whole, &mut buffer));
     if places > 0 {
         out.add(b".");
-        write_decimals(number % unit, places, out);
+        write_decimals(rest, places, out);
     }
 }
 

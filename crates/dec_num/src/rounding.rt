@@ -1,6 +1,21 @@
 // Quotients and powers of 10, rounded half away from zero.
-ghost use Rattle.std.specs.Prelude.{◌≡◌, ◌<◌, ◌≤◌, ◌+◌, ◌*◌, ◌/◌, ◌^◌, nat_abs};
+ghost use Rattle.std.specs.Prelude.{◌≡◌, ◌<◌, ◌≤◌, ◌+◌, ◌*◌, ◌/◌, ◌%◌, ◌^◌, nat_abs};
 ghost use Rattle.mib_model.specs.Counts as Spec;
+
+/// A quotient and its rest, by words of 64 bits where both numbers are that small.
+pub fn divided(dividend: u128, divisor: u128) -> (u128, u128)
+    requires { 0 < divisor }
+    ensures quotient { result.0 ≡ dividend / divisor }
+    ensures rest { result.1 ≡ dividend % divisor }
+{
+    match (u64::try_from(dividend), u64::try_from(divisor)) {
+        (Ok(dividend), Ok(divisor)) => (
+            u128::from(dividend / divisor),
+            u128::from(dividend % divisor),
+        ),
+        _ => (dividend / divisor, dividend % divisor),
+    }
+}
 
 /// The whole number nearest to a quotient; a tie goes up.
 #[tactic(auto, using(crate::proofs::RoundingFacts::nearest))]
@@ -9,8 +24,7 @@ pub fn rounded(dividend: u128, divisor: u128) -> u128
     ensures value { result ≡ (2 * dividend + divisor) / (2 * divisor) }
     ensures within { result ≤ dividend }
 {
-    let whole = dividend / divisor;
-    let rest = dividend % divisor;
+    let (whole, rest) = divided(dividend, divisor);
     if rest < divisor - rest {
         whole
     } else {
@@ -37,7 +51,11 @@ pub fn power(exponent: u32) -> u128
     ensures value { result ≡ 10 ^ exponent }
     ensures positive { 0 < result }
 {
-    10_u128.pow(exponent)
+    if exponent <= 19 {
+        u128::from(10_u64.pow(exponent))
+    } else {
+        10_u128.pow(exponent)
+    }
 }
 
 /// A number divided by a power of 10, and rounded.

@@ -13,7 +13,7 @@ pub fn run_batch<W: Work + Sync, R: Threads + Sync>(
 )
     requires { 1 ≤ workers }
     ensures length { length cells.new ≡ length cells.old }
-    ensures made { (place : ℕ) (d : W.Cell) → place < length cells.old → W.made (slice_index_or cells.old place d) (slice_index_or cells.new place d) }
+    ensures made { (place : ℕ) (d : W.Cell) → place < length cells.old → W.made work.now (slice_index_or cells.old place d) (slice_index_or cells.new place d) }
 {
     thread::for_each_mut(rt, cells, usize::from(workers), &|_, cell| work.work(cell));
 }

@@ -29,7 +29,7 @@ impl Pool {
         passes: &mut [Pass<W::Cell>],
     )
         requires ready { Ready jobs.now results.now passes.old }
-        ensures serves { AllServe jobs.now results.now W.made W.Cell.number_of passes.old passes.new }
+        ensures serves { AllServe jobs.now results.now (W.made work.now) W.Cell.number_of passes.old passes.new }
     {
         serve_pairs(rt, work, gate, jobs, results, passes);
     }
@@ -46,11 +46,11 @@ fn serve_pairs<W: Work + Sync, G: Gate + Sync, R: Threads + Wait + Sync>(
 )
     requires ready { (start : ℕ) (pair : _) → IsChunk passes.old 2 start pair → (length pair ≡ 2) × Ready jobs.now results.now pair }
     ensures length { length passes.new ≡ length passes.old }
-    ensures serves { (n : ℕ) → n * 2 < length passes.old → AllServe jobs.now results.now W.made W.Cell.number_of (slice_chunk passes.old 2 n) (slice_chunk passes.new 2 n) }
+    ensures serves { (n : ℕ) → n * 2 < length passes.old → AllServe jobs.now results.now (W.made work.now) W.Cell.number_of (slice_chunk passes.old 2 n) (slice_chunk passes.new 2 n) }
 {
     let one = |_: usize, pair: &mut [Pass<W::Cell>]|
         requires { IsSync R.row × (length pair.now ≡ 2) × Ready jobs.now results.now pair.now }
-        ensures { AllServe jobs.entry.now results.entry.now W.made W.Cell.number_of pair.entry.now pair.exit.now }
+        ensures { AllServe jobs.entry.now results.entry.now (W.made work.entry.now) W.Cell.number_of pair.entry.now pair.exit.now }
     { work_pair(rt, work, gate, jobs, results, pair) };
     thread::for_each_chunk_mut(rt, passes, 2, &one);
 }
@@ -66,7 +66,7 @@ fn work_pair<W: Work + Sync, G: Gate + Sync, R: Wait>(
 )
     requires length { length pair.old ≡ 2 }
     requires ready { Ready jobs.now results.now pair.old }
-    ensures serves { AllServe jobs.now results.now W.made W.Cell.number_of pair.old pair.new }
+    ensures serves { AllServe jobs.now results.now (W.made work.now) W.Cell.number_of pair.old pair.new }
 {
     let (taken, given) = pair.split_at_mut(1);
     work_all(rt, work, gate, jobs, results, &mut taken[0], &mut given[0]);
@@ -85,7 +85,7 @@ fn work_all<W: Work + Sync, G: Gate + Sync, R: Wait>(
     requires taken { IsOf jobs.now taken.old }
     requires given { IsOf results.now given.old }
     ensures passes { IsOf jobs.now taken.new × IsOf results.now given.new }
-    ensures serves { Serves W.made W.Cell.number_of (account_of taken.old) (account_of given.old) (account_of taken.new) (account_of given.new) }
+    ensures serves { Serves (W.made work.now) W.Cell.number_of (account_of taken.old) (account_of given.old) (account_of taken.new) (account_of given.new) }
 {
     for _ in rt.forever() {
         match jobs.get(rt, taken) {

@@ -34,7 +34,7 @@ struct Tripled;
 impl Work for Tripled {
     type Cell = Cell;
 
-    ghost made = { λ before after. after.number ≡ before.number };
+    ghost made = { λ _ before after. after.number ≡ before.number };
 
     fn work(&self, cell: &mut Cell) {
         cell.value = cell.value.wrapping_mul(3).wrapping_add(cell.number);

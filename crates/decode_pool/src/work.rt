@@ -6,23 +6,23 @@ use work_queue::Numbered;
 pub trait Work {
     type Cell: Numbered + Send + Drop;
 
-    /// Whether the second cell may be made of the first.
-    ghost made: { Self.Cell → Self.Cell → Type 0 };
+    /// Whether a value may make the second cell of the first.
+    ghost made: { Self → Self.Cell → Self.Cell → Type 0 };
 
     /// Makes the cell's result in its place.
     fn work(&self, cell: &mut Self::Cell)
-        ensures { made cell.old cell.new };
+        ensures { made self.now cell.old cell.new };
 }
 
 /// What `Pool::serve` leaves in the accounts of all passes together, with no work of its own: the jobs that were worked, an
 /// end for each worker, and a result for each job that was worked.
 pub fn accounts_of_a_pool<W: Work>()
-    ensures { AccountsOfAPool W.made W.Cell.number_of }
+    ensures { (work : W) → AccountsOfAPool (W.made work) W.Cell.number_of }
 {}
 
 /// The law of a pool, with no work of its own: where workers keep the numbers of cells, and no two jobs have one number
 /// but for 0, each result that was taken is the one that `work` makes of the job put under its number, and none was taken
 /// twice.
 pub fn each_result_is_of_its_job<W: Work>()
-    ensures { EachResultIsOfItsJob W.made W.Cell.number_of }
+    ensures { (work : W) → EachResultIsOfItsJob (W.made work) W.Cell.number_of }
 {}

@@ -1,2 +1,4 @@
 pub mod RowFacts
-pub mod LayoutFacts
+pub mod CountFacts
+pub mod NamedPlans
+pub mod TouchedFacts

@@ -1,68 +1,138 @@
-ghost use Rattle.std.specs.Prelude.{◌≡◌, ◌==◌, ℕ, List, IfOk, option_and_then};
+ghost use Rattle.std.specs.Prelude.{◌≡◌, ◌==◌, ◌+◌, IfErr, IfOk, OnOk, length, option_and_then};
 ghost use Rattle.std.specs.List.{find};
 ghost use Rattle.std.specs.Option.{option_copied};
-ghost use Rattle.mib_model.specs.declared.database.Database.{Database};
+ghost use Rattle.edition.specs.Faults.{Refuses};
+ghost use Rattle.edition_plans.specs.Layouts.{layout_of, HasPlaces};
+ghost use Rattle.mib_model.specs.Plans.{plans};
 ghost use Rattle.mib_model.specs.Soundness.{IsSound};
-ghost use Rattle.edition.specs.Layouts.{layout_of, HasLayout, HasPlaces};
-ghost use Rattle.mib_model.specs.Match.{match_of};
+ghost use Rattle.mib_model.specs.Touched.{touched};
 
-use crate::layouts::layouts;
+use crate::fault::SaveFault;
+use crate::ident::{ident_beside, ident_of};
+use crate::sets::{Made, PlanSets};
 use crate::ways::ByTitled;
+use edition_plans::Plans;
 use first_rows::FirstRows;
 use ident_plan::Ident;
 use layout_plan::Layout;
-use mib_model::{Steps, Text};
+use mib_keys::sound;
+use mib_model::{Rows, Steps, Text, TypeItem};
 use mib_tables::Book;
+use param_plan::Params;
 use std::alloc::{AllocError, Global};
-use std::collections::HashMap;
 use std::marker::Model;
+use std::sync::Arc;
 use std::sync::ledger::Ledger;
+use struct_plan::{Structure, Structures};
 
 /// Sound tables with their plans. Contracts see the database of the tables.
 #[derive(Drop)]
 pub struct Edition {
     book: Book,
-    ident: Ident,
-    layouts: HashMap<u32, Layout>,
+    ident: Arc<Ident>,
+    sets: PlanSets,
     titles: FirstRows<ByTitled>,
 }
 
 impl Model for Edition {
-    ghost use Rattle.std.specs.Prelude.{◌≡◌, ℕ, nat_eq};
-    ghost use Rattle.std.specs.HashMap.{get};
+    ghost use Rattle.std.specs.Prelude.{◌≡◌};
+    ghost use Rattle.std.specs.Arc.{arc_value};
+    ghost use Rattle.edition.specs.Editions.{ident_rows};
     ghost use Rattle.mib_model.specs.declared.database.Database.{Database};
     ghost use Rattle.mib_model.specs.Soundness.{IsSound};
-    ghost use Rattle.edition.specs.Layouts.{layout_of};
 
     ghost Value = { Database };
 
     ghost view = { λ edition. edition.book };
 
-    ghost invariant = { λ edition. IsSound edition.book
-        × (edition.ident ≡ record { pids = edition.book.pid; pics = edition.book.pic })
-        × ((spid : ℕ) → get nat_eq edition.layouts spid ≡ layout_of edition.book spid)
-        × (edition.titles ≡ edition.book.tpcf) };
+    ghost invariant = { λ edition. IsSound edition.book × (arc_value edition.ident ≡ ident_rows edition.book)
+        × (edition.sets ≡ edition.book) × (edition.titles ≡ edition.book.tpcf) };
+}
+
+/// An edition, and how many of its plans were compiled, not shared with the base.
+#[derive(Drop)]
+pub struct Amended {
+    pub edition: Edition,
+    pub plans: u32,
 }
 
 impl Edition {
-    /// Compiles the plans of sound tables. An error is want of memory.
-    pub fn compile<L: Ledger>(
+    /// Compiles all plans of a sound book. An error is want of memory.
+    pub fn of_sound<L: Ledger>(
         alloc: Global,
         book: Book,
         steps: &mut Steps<L>,
     ) -> Result<Edition, AllocError>
         requires { IsSound book }
-        ensures { IfOk result (λ edition. edition ≡ book) }
+        ensures made { IfOk result (λ edition. edition ≡ book) }
+        ensures steps { OnOk result (steps.new ≡ steps.old + length (plans book)) }
     {
-        let ident = Ident::compile(alloc, book.pid(), book.pic(), steps)?;
-        let layouts = layouts(alloc, &book, steps)?;
+        let sets = PlanSets::alone(alloc, &book, steps)?;
+        let ident = ident_of(alloc, &book, steps)?;
         let titles = FirstRows::new(alloc, book.tpcf())?;
         Ok(Edition {
             book,
             ident,
-            layouts,
+            sets,
             titles,
         })
+    }
+
+    // Compiles the plans of a sound book, of which those of the same rows are shared with a base.
+    fn beside<L: Ledger>(
+        alloc: Global,
+        base: &Edition,
+        book: &Book,
+        steps: &mut Steps<L>,
+    ) -> Result<Amended, AllocError>
+        requires { IsSound book.now }
+        ensures edition { IfOk result (λ amended. amended.edition ≡ book.now) }
+        ensures plans { IfOk result (λ amended. amended.plans ≡ length (touched base.now book.now)) }
+        ensures steps { OnOk result (steps.new ≡ steps.old + length (touched base.now book.now)) }
+    {
+        let Made { sets, compiled } = PlanSets::new(alloc, &base.sets, &base.book, book, steps)?;
+        let made = ident_beside(alloc, &base.ident, &base.book, book, steps)?;
+        let plans = compiled + made.compiled;
+        let titles = FirstRows::new(alloc, book.tpcf())?;
+        let edition = Edition {
+            book: book.copy()?,
+            ident: made.ident,
+            sets,
+            titles,
+        };
+        Ok(Amended { edition, plans })
+    }
+
+    /// Compiles all plans of a book: refused where it isn't sound.
+    pub fn compile<L: Ledger>(
+        alloc: Global,
+        book: Book,
+        steps: &mut Steps<L>,
+    ) -> Result<Edition, SaveFault>
+        ensures made { IfOk result (λ edition. edition ≡ book) }
+        ensures refused { IfErr result (Refuses book) }
+        ensures steps { OnOk result (steps.new ≡ steps.old + length (plans book)) }
+    {
+        sound(alloc, &book)?;
+        Ok(Edition::of_sound(alloc, book, steps)?)
+    }
+
+    /// Compiles a book beside a base: a plan that the base has of the same rows is shared with it, each other is compiled.
+    /// It is refused where the book isn't sound.
+    pub fn amend<L: Ledger>(
+        alloc: Global,
+        base: &Edition,
+        book: &Book,
+        steps: &mut Steps<L>,
+    ) -> Result<Amended, SaveFault>
+        ensures edition { IfOk result (λ amended. amended.edition ≡ book.now) }
+        ensures plans { IfOk result (λ amended. amended.plans ≡ length (touched base.now book.now)) }
+        ensures sound { OnOk result (IsSound book.now) }
+        ensures refused { IfErr result (Refuses book.now) }
+        ensures steps { OnOk result (steps.new ≡ steps.old + length (touched base.now book.now)) }
+    {
+        sound(alloc, book)?;
+        Ok(Edition::beside(alloc, base, book, steps)?)
     }
 
     /// Its tables, which are sound.
@@ -72,34 +142,45 @@ impl Edition {
     {
         &self.book
     }
+}
 
-    /// The plan of identification.
-    pub fn ident(&self) -> &Ident
-        ensures { result.now ≡ record { pids = self.now.pid; pics = self.now.pic } }
-    {
+impl Rows for Edition {
+    ghost use Rattle.mib_model.specs.Plans.{plans};
+
+    ghost tables = { λ edition. edition };
+
+    ghost plans = { plans };
+}
+
+impl Structures for Edition {
+    ghost tables = { λ edition. edition };
+
+    fn structure(&self, tpsd: i128) -> Option<&Structure> {
+        self.sets.structures().structure(tpsd)
+    }
+
+    fn deduced(&self, pid: i128) -> Option<TypeItem> {
+        self.sets.structures().deduced(pid)
+    }
+}
+
+impl Plans for Edition {
+    fn ident(&self) -> &Ident {
         &self.ident
     }
 
-    /// The layout of a SPID, none exactly where no packet of that SPID has a fixed layout.
-    pub fn layout(&self, spid: u32) -> Option<&Layout>
-        ensures rows { option_copied result ≡ layout_of self.now spid }
-        ensures places { HasPlaces self.now spid (option_copied result) }
-    {
-        self.layouts.get(&spid)
+    fn layout(&self, spid: u32) -> Option<&Layout> {
+        self.sets.layouts().layout(spid)
     }
 
-    /// The name of the packets of a SPID, where they have one.
-    pub fn title(&self, spid: u32) -> Option<&Text>
-        ensures { option_copied result ≡ option_and_then (λ row. row.name) (find (λ row. row.spid == spid) self.now.tpcf) }
-    {
+    fn params(&self) -> &Params {
+        self.sets.params()
+    }
+
+    fn title(&self, spid: u32) -> Option<&Text> {
         match self.titles.find(&spid) {
             Some(row) => row.name.as_ref(),
             None => None,
         }
     }
 }
-
-/// A packet that is found and is of no structure has a layout.
-pub fn found_packets_have_layouts()
-    ensures { (db : Database) (packet : List ℕ) → HasLayout db (match_of db packet) }
-{}

@@ -1,13 +1,18 @@
 //! Editions: sound tables with the plans that are compiled of them.
 //!
 //! An `Edition` is seen by contracts as its database. Its type keeps that the database is sound, and that its plans are
-//! those of the database: the plan of identification, a layout for each packet of fixed layout, and the names of
-//! packets. It rests on the crates of the plans and on rows found by their keys.
+//! those of the database: the plan of identification, a layout for each packet of fixed layout, a structure for each TPSD,
+//! a plan for each parameter, and the names of packets. `compile` makes one of a book alone, `amend` one beside a base, with
+//! which it shares each plan that depends on the same rows. It rests on mib_keys for soundness and on the crates of the
+//! plans.
 #![tactic(auto)]
 
 mod edition;
-mod layouts;
-mod sources;
+mod fault;
+mod ident;
+mod sets;
 mod ways;
 
-pub use edition::{Edition, found_packets_have_layouts};
+pub use edition::{Amended, Edition};
+pub use edition_plans::{Ident, Layout, Param, Params, Plans, Structure, Structures};
+pub use fault::SaveFault;

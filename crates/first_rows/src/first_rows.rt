@@ -26,11 +26,12 @@ pub trait By {
 #[derive(Drop)]
 pub struct FirstRows<B: By> {
     firsts: HashMap<B::Key, B::Row>,
+    count: usize,
     rows: Snapshot<Vec<B::Row>>,
 }
 
 impl<B: By> Model for FirstRows<B> {
-    ghost use Rattle.std.specs.Prelude.{◌≡◌, List, Some};
+    ghost use Rattle.std.specs.Prelude.{◌≡◌, List, Some, length};
     ghost use Rattle.std.specs.List.{find};
     ghost use Rattle.std.specs.Option.{option_eq};
     ghost use Rattle.std.specs.HashMap.{get};
@@ -39,7 +40,7 @@ impl<B: By> Model for FirstRows<B> {
 
     ghost view = { λ all. all.rows.value.items };
 
-    ghost invariant = { λ all. (key : B.Key) → get B.Key.eq all.firsts key ≡ find (λ row. option_eq B.Key.eq (B.key_of row) (Some key)) all.rows.value.items };
+    ghost invariant = { λ all. (all.count ≡ length all.rows.value.items) × ((key : B.Key) → get B.Key.eq all.firsts key ≡ find (λ row. option_eq B.Key.eq (B.key_of row) (Some key)) all.rows.value.items) };
 }
 
 // Notes a row whose key has none yet.
@@ -74,14 +75,22 @@ impl<B: By> FirstRows<B> {
     {
         let kept = Vec::from_slice(alloc, rows)?;
         let firsts = firsts::<B>(alloc, &kept)?;
+        let count = kept.len();
         let rows = Snapshot::of(&kept);
-        Ok(FirstRows { firsts, rows })
+        Ok(FirstRows {
+            firsts,
+            count,
+            rows,
+        })
     }
 
     /// The first row that has this key, in one probe.
     pub fn find(&self, key: &B::Key) -> Option<&B::Row>
         ensures { option_copied result ≡ find (λ row. option_eq B.Key.eq (B.key_of row) (Some key.now)) self.now }
     {
+        if self.count == 0 {
+            return None;
+        }
         self.firsts.get(key)
     }
 }

@@ -16,6 +16,8 @@ use std::sync::Arc;
 pub struct Board {
     names: Vec<Name>,
     slots: Vec<Slot>,
+    // The place that was found last behind each place, and behind none: where the next one is looked for first.
+    likely: Vec<usize>,
 }
 
 impl Model for Board {
@@ -49,7 +51,12 @@ impl Board {
     {
         let names = names_of(alloc, params.plans())?;
         let slots = vec![in alloc; Slot::new(); names.len()]?;
-        Ok(Board { names, slots })
+        let likely = vec![in alloc; 0; names.len()]?;
+        Ok(Board {
+            names,
+            slots,
+            likely,
+        })
     }
 
     /// A board of no names. It takes no memory.
@@ -60,6 +67,7 @@ impl Board {
         Board {
             names: Vec::new(alloc),
             slots: Vec::new(alloc),
+            likely: Vec::new(alloc),
         }
     }
 
@@ -71,6 +79,49 @@ impl Board {
             Ok(at) => Some(at),
             Err(_) => None,
         }
+    }
+
+    // The place of a name, which is looked for first at a likely one.
+    fn place_near(&self, near: usize, name: Name) -> Option<usize>
+        ensures { result ≡ place_of self.now name }
+    {
+        if near < self.names.len() && self.names[near] == name {
+            return Some(near);
+        }
+        self.place(name)
+    }
+
+    // Where the name behind a place is looked for first.
+    fn likely(&self, last: usize) -> usize {
+        match self.likely.get(last) {
+            Some(near) => *near,
+            None => last,
+        }
+    }
+
+    // Notes the place that was found behind another.
+    fn note(&mut self, last: usize, at: usize)
+        ensures { self.new ≡ self.old }
+    {
+        if last < self.likely.len() {
+            self.likely[last] = at;
+        }
+    }
+
+    /// The place of a name that comes behind a place: packets of one kind have their values in one order, so it is looked
+    /// for first where it was found last.
+    pub(crate) fn place_behind(&mut self, last: usize, name: Name) -> Option<usize>
+        ensures place { result ≡ place_of self.old name }
+        ensures same { self.new ≡ self.old }
+    {
+        let near = self.likely(last);
+        let at = self.place_near(near, name);
+        if let Some(at) = at {
+            if at != near {
+                self.note(last, at);
+            }
+        }
+        at
     }
 
     /// What is kept at a place.

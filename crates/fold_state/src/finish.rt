@@ -75,13 +75,19 @@ impl Board {
         (tail_for(plan.rows().pcf.decim, given), change)
     }
 
-    // Finishes a value by the plan of its name.
-    fn finish_by<'a>(&mut self, params: &'a Params, value: &Value) -> (Tail<'a>, Option<Change>)
+    // Finishes a value by the plan of its name, which is at this place.
+    fn finish_by<'a>(
+        &mut self,
+        params: &'a Params,
+        place: Option<usize>,
+        value: &Value,
+    ) -> (Tail<'a>, Option<Change>)
+        requires place { place ≡ place_of self.old value.now.name }
         ensures names { self.new.names ≡ self.old.names }
         ensures finished { (db : Database) → IsParamsOf db params.now → self.old.names ≡ plan_names params.now → HasSlot self.old value.now.name → IsRaw value.now
             → (memory_of self.new, record { value = value.now; tail = tail_as result.0; change = result.1 }) ≡ Spec.finished db (memory_of self.old) value.now }
     {
-        let Some(at) = self.place(value.name) else {
+        let Some(at) = place else {
             return (Tail::Plain, None);
         };
         let plans = params.plans();
@@ -91,8 +97,15 @@ impl Board {
         self.finish_at(at, &plans[at], value)
     }
 
-    // Finishes a value, and appends its line and that of what its check tells.
-    fn finish_value(&mut self, params: &Params, value: &Value, packet: &[u8], out: &mut Lines)
+    // Finishes a value that comes behind a place, appends its line and that of what its check tells, and gives its own place.
+    fn finish_value(
+        &mut self,
+        params: &Params,
+        last: usize,
+        value: &Value,
+        packet: &[u8],
+        out: &mut Lines,
+    ) -> usize
         requires inside { is_inside packet.now value.now.at value.now.shape.width ≡ true }
         requires room { length out.old + VALUE_ROOM + LINE_MOST ≤ LINES_ROOM }
         ensures names { self.new.names ≡ self.old.names }
@@ -100,9 +113,11 @@ impl Board {
             → IsFinished db packet.now value.now (memory_of self.old) (memory_of self.new) out.old out.new }
         ensures room { length out.new ≤ length out.old + (VALUE_ROOM + NOTE_ROOM) }
     {
-        let (tail, change) = self.finish_by(params, value);
+        let place = self.place_behind(last, value.name);
+        let (tail, change) = self.finish_by(params, place, value);
         value_line(value, packet, &tail, out);
         add_change(value, change, out);
+        place.unwrap_or(last)
     }
 
     // Finishes values in their order, and appends their lines.
@@ -115,8 +130,9 @@ impl Board {
             → AreFinished db packet.now values.now (memory_of self.old) (memory_of self.new) out.old out.new }
         ensures room { length out.new ≤ length out.old + most_values * (VALUE_ROOM + NOTE_ROOM) }
     {
+        let mut last = 0;
         for value in values {
-            self.finish_value(params, value, packet, out);
+            last = self.finish_value(params, last, value, packet, out);
         }
     }
 

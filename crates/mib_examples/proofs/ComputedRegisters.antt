@@ -40,7 +40,6 @@ use Rattle.mib_model.specs.Soundness.{flaws}
 use Rattle.mib_model.specs.Structures.{structure, deduced}
 use Rattle.mib_model.specs.Texts.{head_text, value_text, record_body, record_text}
 use Rattle.mib_model.specs.Touched.{same_slice, touched}
-use Rattle.mib_model.specs.Unbuilt.{unbuilt}
 use Rattle.mib_model.specs.Walk.{step, walked, structure_values}
 use Rattle.mib_model.specs.WholeNumbers.{decimal_whole, whole_number}
 use Rattle.mib_model.specs.Words.{parted, command_of}
@@ -51,25 +50,25 @@ use Rattle.mib_examples.specs.CarryExamples.{CarryExamples}
 use Rattle.mib_examples.specs.RegisterExamples.{ReplyExamples, DeskExamples, PlanExamples, EditionExamples}
 
 pub reply_examples : ReplyExamples
-unfolding decoded database first_fault digits alarm bits little_bits raw_number is_carried carry checks_of class_of content_of cell_of calibration curve_named selections curve_of database_read dec_of half count_of count_text way_of request_of rows_of put_in without_key type_of encoding_of code_of_ending fault_text code_line finished all_finished places places_inside values_at table_flaws values_of title_of record_for course_after interpret course_after_all same_key lines_of trimmed criterion match_of sorted_by stamped_by output stamped_from output_of_one param_plans layout_plans structure_plans plans knots interpolated by_points polynomial quoted raw_text row_at rows_from table_of row_read key_read answer_to after reply_words desk_text row_of key_of line_of same_cells script reaches_limit flaws structure deduced head_text value_text record_body record_text same_slice touched unbuilt step walked structure_values decimal_whole whole_number parted command_of decimal_text
+unfolding decoded database first_fault digits alarm bits little_bits raw_number is_carried carry checks_of class_of content_of cell_of calibration curve_named selections curve_of database_read dec_of half count_of count_text way_of request_of rows_of put_in without_key type_of encoding_of code_of_ending fault_text code_line finished all_finished places places_inside values_at table_flaws values_of title_of record_for course_after interpret course_after_all same_key lines_of trimmed criterion match_of sorted_by stamped_by output stamped_from output_of_one param_plans layout_plans structure_plans plans knots interpolated by_points polynomial quoted raw_text row_at rows_from table_of row_read key_read answer_to after reply_words desk_text row_of key_of line_of same_cells script reaches_limit flaws structure deduced head_text value_text record_body record_text same_slice touched step walked structure_values decimal_whole whole_number parted command_of decimal_text
 reply_examples = record { no_edition = refl; late = refl; used = refl; disorder = refl; drops_pending = refl; added = refl; stale = refl; newest = refl; stamped = refl; next = refl }
 
 pub desk_examples : DeskExamples
-unfolding decoded database first_fault digits alarm bits little_bits raw_number is_carried carry checks_of class_of content_of cell_of calibration curve_named selections curve_of database_read dec_of half count_of count_text way_of request_of rows_of put_in without_key type_of encoding_of code_of_ending fault_text code_line finished all_finished places places_inside values_at table_flaws values_of title_of record_for course_after interpret course_after_all same_key lines_of trimmed criterion match_of sorted_by stamped_by output stamped_from output_of_one param_plans layout_plans structure_plans plans knots interpolated by_points polynomial quoted raw_text row_at rows_from table_of row_read key_read answer_to after reply_words desk_text row_of key_of line_of same_cells script reaches_limit flaws structure deduced head_text value_text record_body record_text same_slice touched unbuilt step walked structure_values decimal_whole whole_number parted command_of decimal_text
+unfolding decoded database first_fault digits alarm bits little_bits raw_number is_carried carry checks_of class_of content_of cell_of calibration curve_named selections curve_of database_read dec_of half count_of count_text way_of request_of rows_of put_in without_key type_of encoding_of code_of_ending fault_text code_line finished all_finished places places_inside values_at table_flaws values_of title_of record_for course_after interpret course_after_all same_key lines_of trimmed criterion match_of sorted_by stamped_by output stamped_from output_of_one param_plans layout_plans structure_plans plans knots interpolated by_points polynomial quoted raw_text row_at rows_from table_of row_read key_read answer_to after reply_words desk_text row_of key_of line_of same_cells script reaches_limit flaws structure deduced head_text value_text record_body record_text same_slice touched step walked structure_values decimal_whole whole_number parted command_of decimal_text
 desk_examples = record { put = refl; no_tab = refl; bad_table = refl; delete = refl; use_from = refl; no_edition = refl; bad_number = refl; comment = refl; blank = refl; trailing_space = refl; take_alone = refl; take_of_several = refl; added = refl; saves = refl; one_plan = refl }
 
 pub plan_examples : PlanExamples
-unfolding decoded database first_fault digits alarm bits little_bits raw_number is_carried carry checks_of class_of content_of cell_of calibration curve_named selections curve_of database_read dec_of half count_of count_text way_of request_of rows_of put_in without_key type_of encoding_of code_of_ending fault_text code_line finished all_finished places places_inside values_at table_flaws values_of title_of record_for course_after interpret course_after_all same_key lines_of trimmed criterion match_of sorted_by stamped_by output stamped_from output_of_one param_plans layout_plans structure_plans plans knots interpolated by_points polynomial quoted raw_text row_at rows_from table_of row_read key_read answer_to after reply_words desk_text row_of key_of line_of same_cells script reaches_limit flaws structure deduced head_text value_text record_body record_text same_slice touched unbuilt step walked structure_values decimal_whole whole_number parted command_of decimal_text
+unfolding decoded database first_fault digits alarm bits little_bits raw_number is_carried carry checks_of class_of content_of cell_of calibration curve_named selections curve_of database_read dec_of half count_of count_text way_of request_of rows_of put_in without_key type_of encoding_of code_of_ending fault_text code_line finished all_finished places places_inside values_at table_flaws values_of title_of record_for course_after interpret course_after_all same_key lines_of trimmed criterion match_of sorted_by stamped_by output stamped_from output_of_one param_plans layout_plans structure_plans plans knots interpolated by_points polynomial quoted raw_text row_at rows_from table_of row_read key_read answer_to after reply_words desk_text row_of key_of line_of same_cells script reaches_limit flaws structure deduced head_text value_text record_body record_text same_slice touched step walked structure_values decimal_whole whole_number parted command_of decimal_text
 plan_examples = record { three = refl; new_point = refl; unchanged = refl }
 
 pub edition_examples : EditionExamples
-unfolding decoded database first_fault digits alarm bits little_bits raw_number is_carried carry checks_of class_of content_of cell_of calibration curve_named selections curve_of database_read dec_of half count_of count_text way_of request_of rows_of put_in without_key type_of encoding_of code_of_ending fault_text code_line finished all_finished places places_inside values_at table_flaws values_of title_of record_for course_after interpret course_after_all same_key lines_of trimmed criterion match_of sorted_by stamped_by output stamped_from output_of_one param_plans layout_plans structure_plans plans knots interpolated by_points polynomial quoted raw_text row_at rows_from table_of row_read key_read answer_to after reply_words desk_text row_of key_of line_of same_cells script reaches_limit flaws structure deduced head_text value_text record_body record_text same_slice touched unbuilt step walked structure_values decimal_whole whole_number parted command_of decimal_text
+unfolding decoded database first_fault digits alarm bits little_bits raw_number is_carried carry checks_of class_of content_of cell_of calibration curve_named selections curve_of database_read dec_of half count_of count_text way_of request_of rows_of put_in without_key type_of encoding_of code_of_ending fault_text code_line finished all_finished places places_inside values_at table_flaws values_of title_of record_for course_after interpret course_after_all same_key lines_of trimmed criterion match_of sorted_by stamped_by output stamped_from output_of_one param_plans layout_plans structure_plans plans knots interpolated by_points polynomial quoted raw_text row_at rows_from table_of row_read key_read answer_to after reply_words desk_text row_of key_of line_of same_cells script reaches_limit flaws structure deduced head_text value_text record_body record_text same_slice touched step walked structure_values decimal_whole whole_number parted command_of decimal_text
 edition_examples = record { legal = (refl, (refl, (refl, (refl, (refl, tt))))); stamps = refl; printed = refl }
 
 pub carry_examples : CarryExamples
-unfolding decoded database first_fault digits alarm bits little_bits raw_number is_carried carry checks_of class_of content_of cell_of calibration curve_named selections curve_of database_read dec_of half count_of count_text way_of request_of rows_of put_in without_key type_of encoding_of code_of_ending fault_text code_line finished all_finished places places_inside values_at table_flaws values_of title_of record_for course_after interpret course_after_all same_key lines_of trimmed criterion match_of sorted_by stamped_by output stamped_from output_of_one param_plans layout_plans structure_plans plans knots interpolated by_points polynomial quoted raw_text row_at rows_from table_of row_read key_read answer_to after reply_words desk_text row_of key_of line_of same_cells script reaches_limit flaws structure deduced head_text value_text record_body record_text same_slice touched unbuilt step walked structure_values decimal_whole whole_number parted command_of decimal_text
+unfolding decoded database first_fault digits alarm bits little_bits raw_number is_carried carry checks_of class_of content_of cell_of calibration curve_named selections curve_of database_read dec_of half count_of count_text way_of request_of rows_of put_in without_key type_of encoding_of code_of_ending fault_text code_line finished all_finished places places_inside values_at table_flaws values_of title_of record_for course_after interpret course_after_all same_key lines_of trimmed criterion match_of sorted_by stamped_by output stamped_from output_of_one param_plans layout_plans structure_plans plans knots interpolated by_points polynomial quoted raw_text row_at rows_from table_of row_read key_read answer_to after reply_words desk_text row_of key_of line_of same_cells script reaches_limit flaws structure deduced head_text value_text record_body record_text same_slice touched step walked structure_values decimal_whole whole_number parted command_of decimal_text
 carry_examples = record { legal = (refl, (refl, (refl, (refl, tt)))); printed = refl }
 
 pub edition_runs : EditionRuns
-unfolding decoded database first_fault digits alarm bits little_bits raw_number is_carried carry checks_of class_of content_of cell_of calibration curve_named selections curve_of database_read dec_of half count_of count_text way_of request_of rows_of put_in without_key type_of encoding_of code_of_ending fault_text code_line finished all_finished places places_inside values_at table_flaws values_of title_of record_for course_after interpret course_after_all same_key lines_of trimmed criterion match_of sorted_by stamped_by output stamped_from output_of_one param_plans layout_plans structure_plans plans knots interpolated by_points polynomial quoted raw_text row_at rows_from table_of row_read key_read answer_to after reply_words desk_text row_of key_of line_of same_cells script reaches_limit flaws structure deduced head_text value_text record_body record_text same_slice touched unbuilt step walked structure_values decimal_whole whole_number parted command_of decimal_text printed
+unfolding decoded database first_fault digits alarm bits little_bits raw_number is_carried carry checks_of class_of content_of cell_of calibration curve_named selections curve_of database_read dec_of half count_of count_text way_of request_of rows_of put_in without_key type_of encoding_of code_of_ending fault_text code_line finished all_finished places places_inside values_at table_flaws values_of title_of record_for course_after interpret course_after_all same_key lines_of trimmed criterion match_of sorted_by stamped_by output stamped_from output_of_one param_plans layout_plans structure_plans plans knots interpolated by_points polynomial quoted raw_text row_at rows_from table_of row_read key_read answer_to after reply_words desk_text row_of key_of line_of same_cells script reaches_limit flaws structure deduced head_text value_text record_body record_text same_slice touched step walked structure_values decimal_whole whole_number parted command_of decimal_text printed
 edition_runs = record { latest = refl; previous = refl; lessened = refl; dropped = refl }

@@ -43,7 +43,6 @@ use Rattle.mib_model.specs.Soundness.{flaws}
 use Rattle.mib_model.specs.Structures.{structure, deduced}
 use Rattle.mib_model.specs.Texts.{head_text, value_text, record_body, record_text}
 use Rattle.mib_model.specs.Touched.{same_slice, touched}
-use Rattle.mib_model.specs.Unbuilt.{unbuilt}
 use Rattle.mib_model.specs.Walk.{step, walked, structure_values}
 use Rattle.mib_model.specs.WholeNumbers.{decimal_whole, whole_number}
 use Rattle.mib_model.specs.Words.{parted, command_of}
@@ -71,7 +70,7 @@ unfolding request_of
 prelude_examples = record { first_go = refl; no_go = refl }
 
 pub worded_examples : WordedExamples
-unfolding decoded database first_fault digits alarm bits little_bits raw_number is_carried carry checks_of class_of content_of cell_of calibration curve_named selections curve_of database_read dec_of half count_of count_text way_of request_of rows_of put_in without_key type_of encoding_of code_of_ending fault_text code_line finished all_finished places places_inside values_at table_flaws values_of title_of record_for course_after interpret course_after_all same_key lines_of trimmed criterion match_of sorted_by stamped_by output stamped_from output_of_one param_plans layout_plans structure_plans plans knots interpolated by_points polynomial quoted raw_text row_at rows_from table_of row_read key_read answer_to after reply_words desk_text row_of key_of line_of same_cells script reaches_limit flaws structure deduced head_text value_text record_body record_text same_slice touched unbuilt step walked structure_values decimal_whole whole_number parted command_of decimal_text
+unfolding decoded database first_fault digits alarm bits little_bits raw_number is_carried carry checks_of class_of content_of cell_of calibration curve_named selections curve_of database_read dec_of half count_of count_text way_of request_of rows_of put_in without_key type_of encoding_of code_of_ending fault_text code_line finished all_finished places places_inside values_at table_flaws values_of title_of record_for course_after interpret course_after_all same_key lines_of trimmed criterion match_of sorted_by stamped_by output stamped_from output_of_one param_plans layout_plans structure_plans plans knots interpolated by_points polynomial quoted raw_text row_at rows_from table_of row_read key_read answer_to after reply_words desk_text row_of key_of line_of same_cells script reaches_limit flaws structure deduced head_text value_text record_body record_text same_slice touched step walked structure_values decimal_whole whole_number parted command_of decimal_text
 worded_examples = record {
   known = refl;
   unknown = refl;

@@ -17,7 +17,6 @@ use Rattle.mib_model.specs.Endings.{code_of_ending}
 use Rattle.mib_model.specs.Headers.{header_of}
 use Rattle.mib_model.specs.Kept.{empty_memory, entered, holds}
 use Rattle.mib_model.specs.Packets.{IsPacket, IsCut}
-use Rattle.mib_model.specs.Unbuilt.{unbuilt}
 use Rattle.mib_examples.specs.Given.{database, packet_a, shared}
 
 -- the value 7 of a parameter of 8 bits
@@ -42,7 +41,6 @@ pub record StateExamples : Type 0 where
   pub not_yet : alarm (None, 0) Soft 2 ≡ ((None, 1), None)
   pub changed : alarm (Some Soft, 2) Hard 2 ≡ ((Some Hard, 2), Some (Alarm Hard))
   pub cleared : alarm (Some Soft, 2) Nominal 2 ≡ ((None, 0), Some (Clear Soft))
-  pub built : unbuilt (database shared) ≡ None
 
 -- how runs end, and a desk of three lines
 pub record EndExamples : Type 0 where

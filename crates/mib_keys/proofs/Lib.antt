@@ -3,7 +3,7 @@ pub mod PlaceFacts
 mod LookupFacts
 mod KeyFacts
 mod PointFacts
-mod OrderFacts
+pub mod OrderFacts
 mod GroupFacts
 mod SweepFacts
 mod FlawFacts

@@ -1,9 +1,4 @@
-ghost use Rattle.mib_laws.specs.Runs.{OneEditionIsLegal, OneEditionPrints, PlainRuns, RunsInParts};
-
-/// Where no row asks for what decoding doesn't do yet, the interpreter gives every value with no tail and no change.
-pub fn plain_runs()
-    ensures { PlainRuns }
-{}
+ghost use Rattle.mib_laws.specs.Runs.{OneEditionIsLegal, OneEditionPrints, RunsInParts};
 
 /// The records of packets are those of the first packets, and then those of the others from where the first have left.
 pub fn runs_in_parts()

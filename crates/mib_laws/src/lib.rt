@@ -14,7 +14,7 @@ mod walk;
 
 pub use cut::each_feed_is_cut;
 pub use desk::{desk_goes_by_parts, lines_decide};
-pub use interpreter::{one_edition, plain_runs, runs_in_parts};
+pub use interpreter::{one_edition, runs_in_parts};
 pub use layout::slices_suffice;
 pub use matching::unknown_without_a_row;
 pub use register::{editions_only_grow, seat_shows_stamps, stamps_count_up, what_is_stamped_stays};

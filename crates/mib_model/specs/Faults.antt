@@ -28,7 +28,6 @@ fault_number fault.Group = 12
 fault_number fault.Width = 13
 fault_number fault.Both = 14
 fault_number fault.Big = 15
-fault_number fault.Unbuilt = 16
 
 -- the word of a fault
 abbrev pub fault_word : MibCode → List ℕ
@@ -47,7 +46,6 @@ fault_word fault.Group = codes "GROUP"
 fault_word fault.Width = codes "WIDTH"
 fault_word fault.Both = codes "BOTH"
 fault_word fault.Big = codes "BIG"
-fault_word fault.Unbuilt = codes "UNBUILT"
 
 -- a number behind a space, and nothing for 0
 abbrev pub number_behind : ℕ → List ℕ

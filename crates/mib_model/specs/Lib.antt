@@ -75,7 +75,6 @@ pub mod Codes
 pub mod Endings
 pub mod Faults
 pub mod Replies
-pub mod Unbuilt
 pub mod Words
 pub mod OctetsLayout
 pub mod CalibrationViews

@@ -33,8 +33,6 @@ pub enum MibCode {
     Both,
     /// The text has more than 67,108,864 octets.
     Big,
-    /// What the row asks of decoding isn't built.
-    Unbuilt,
 }
 
 /// What is wrong with the tables, and where. Rows and columns count from 1, and 0 means none; `first` is the

@@ -94,8 +94,8 @@ pub enum Ended {
 /// one.
 #[derive(Clone, Copy)]
 pub struct Value {
-    pub name: Name,
-    pub at: u64,
     pub raw: i128,
+    pub at: u64,
+    pub name: Name,
     pub shape: Shape,
 }

@@ -12,8 +12,8 @@ use Rattle.session.specs.Causes.{Failed}
 use Rattle.session.specs.Sources.{Files}
 use Rattle.std.specs.Io.KnownBytes.{Appends}
 use Rattle.mibtm.specs.Objects.{ShelfView, SinkView, Took}
-use Rattle.mibtm.specs.Run.{Ran, Says, EndsWhole, EndsCut, EndsAtLimit}
-use Rattle.mibtm.specs.Sources.{built_in, sound_in}
+use Rattle.decode_session.specs.Run.{Ran, Says, EndsWhole, EndsCut, EndsAtLimit}
+use Rattle.mibtm.specs.Sources.{sound_in}
 use Rattle.mibtm.specs.Statement.{Checked, Decoded, Printed, RanBy}
 use Rattle.mibtm.specs.Tool.{Completes, CompletesCheck, IsUnfailed, PrintsWhole, PrintsCut, PrintsMost}
 
@@ -59,11 +59,11 @@ held (Some f) files name octets P is found said =
     subst (λ (x : Option (List ℕ)). IsSomeAnd x P) found (subst (λ (x : Option Files). IfSome x (λ g. IsSomeAnd (g name) P)) is said)
 
 module _ {T F O : Type 0} (folder name octets : List ℕ) (files feeds : Files) (db : Database) (tables : ShelfView T) (feed : ShelfView F) (out : SinkView O)
-    (is_told : tables.holds tables.before ≡ Some files) (is_read : built_in files folder ≡ Ok db) (is_held : feed.holds feed.before ≡ Some feeds) (is_found : feeds name ≡ Some octets) where
+    (is_told : tables.holds tables.before ≡ Some files) (is_read : sound_in files folder ≡ Ok db) (is_held : feed.holds feed.before ≡ Some feeds) (is_found : feeds name ≡ Some octets) where
   ran : (says : Says) → Printed says folder name tables feed out → RanBy says feed out db octets
   ran says printed =
       held (feed.holds feed.before) feeds name octets (RanBy says feed out db) is_held is_found
-      (told (tables.holds tables.before) (λ f. built_in f folder) files db (λ d. IfSome (feed.holds feed.before) (λ f. IsSomeAnd (f name) (RanBy says feed out d))) is_told is_read printed)
+      (told (tables.holds tables.before) (λ f. sound_in f folder) files db (λ d. IfSome (feed.holds feed.before) (λ f. IsSomeAnd (f name) (RanBy says feed out d))) is_told is_read printed)
 
   all-decoded : (c : Code) → Decoded c folder name tables feed out → IsUnfailed (tables.faults tables.before) (tables.faults tables.now) → IsUnfailed (feed.faults feed.before) (feed.faults feed.now)
       → IsUnfailed (out.faults out.before) (out.faults out.now) → Completes c db octets out
@@ -73,13 +73,13 @@ module _ {T F O : Type 0} (folder name octets : List ℕ) (files feeds : Files) 
   all-decoded code.Want said t f o = inr (inr (inr refl))
   all-decoded (code.BadMib fault) (stood, uncalled, same, refused) t f o = absurd (no-refusal refused)
     where
-      no-refusal : IfSome (tables.holds tables.before) (λ f. built_in f folder ≡ Err fault) → ⊥
-      no-refusal said = (let bad : built_in files folder ≡ Err fault = subst (λ (x : Option Files). IfSome x (λ g. built_in g folder ≡ Err fault)) is_told said in cc (bad, is_read))
+      no-refusal : IfSome (tables.holds tables.before) (λ f. sound_in f folder ≡ Err fault) → ⊥
+      no-refusal said = (let bad : sound_in files folder ≡ Err fault = subst (λ (x : Option Files). IfSome x (λ g. sound_in g folder ≡ Err fault)) is_told said in cc (bad, is_read))
   all-decoded (code.NoFile input.Feed) (stood, read, same, missing) t f o = absurd (no-feed missing)
     where
-      no-feed : IfSome (tables.holds tables.before) (λ f. IsOkAnd (built_in f folder) (λ d. IfSome (feed.holds feed.before) (λ g. g name ≡ None))) → ⊥
+      no-feed : IfSome (tables.holds tables.before) (λ f. IsOkAnd (sound_in f folder) (λ d. IfSome (feed.holds feed.before) (λ g. g name ≡ None))) → ⊥
       no-feed said =
-          let here = told (tables.holds tables.before) (λ f. built_in f folder) files db (λ d. IfSome (feed.holds feed.before) (λ g. g name ≡ None)) is_told is_read said in
+          let here = told (tables.holds tables.before) (λ f. sound_in f folder) files db (λ d. IfSome (feed.holds feed.before) (λ g. g name ≡ None)) is_told is_read said in
           let bad : feeds name ≡ None = subst (λ (x : Option Files). IfSome x (λ g. g name ≡ None)) is_held here in cc (bad, is_found)
   all-decoded code.TablesFault (failed, uncalled, same) t f o = absurd (not_failed _ _ t failed)
   all-decoded code.FeedFault (stood, failed, handed, faulty) t f o = absurd (not_failed _ _ f failed)
@@ -90,7 +90,7 @@ module _ {T F O : Type 0} (folder name octets : List ℕ) (files feeds : Files) 
   all-decoded code.ReplyFault said t f o = absurd said
 
 pub completes : {T F O : Type 0} (c : Code) (folder name octets : List ℕ) (files feeds : Files) (db : Database) (tables : ShelfView T) (feed : ShelfView F) (out : SinkView O)
-    → tables.holds tables.before ≡ Some files → built_in files folder ≡ Ok db → feed.holds feed.before ≡ Some feeds → feeds name ≡ Some octets
+    → tables.holds tables.before ≡ Some files → sound_in files folder ≡ Ok db → feed.holds feed.before ≡ Some feeds → feeds name ≡ Some octets
     → Decoded c folder name tables feed out
     → IsUnfailed (tables.faults tables.before) (tables.faults tables.now) → IsUnfailed (feed.faults feed.before) (feed.faults feed.now) → IsUnfailed (out.faults out.before) (out.faults out.now)
     → Completes c db octets out

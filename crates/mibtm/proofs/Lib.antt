@@ -1,6 +1,3 @@
-pub mod PlainRecords
-pub mod ValueFacts
-pub mod RunSteps
 pub mod LoadSteps
 pub mod DecodeSteps
 pub mod StatementSteps

@@ -7,7 +7,7 @@ use Rattle.mib_model.specs.declared.database.Database.{Database}
 use Rattle.mib_model.specs.declared.fault.MibFault.{MibFault}
 use Rattle.mib_model.specs.Attempts.{◌>>=◌}
 use Rattle.session.specs.Sources.{Files, database_in}
-use Rattle.mibtm.specs.Sources.{built_in, if_built, if_sound, sound_in}
+use Rattle.mibtm.specs.Sources.{if_sound, sound_in}
 
 -- a fault that ends the first step ends all
 refuses-first : {A B : Type 0} (r : Refusal) (read : Result A MibFault) (next : A → Result B MibFault) → Refuses r read → Refuses r (read >>= next)
@@ -20,23 +20,12 @@ unfolding sound_in
 refused_unread None folder c refused = tt
 refused_unread (Some files) folder c refused = refuses-first c (database_in files folder) if_sound refused
 
-pub refused_unsound : (holds : Option Files) (folder : List ℕ) (c : Refusal) → IfSome holds (λ files. Refuses c (sound_in files folder)) → IfSome holds (λ files. Refuses c (built_in files folder))
-unfolding built_in
-refused_unsound None folder c refused = tt
-refused_unsound (Some files) folder c refused = refuses-first c (sound_in files folder) if_built refused
-
 -- what is said of the second step is said of both, where the first gave its database
 second_sound : (P : Result Database MibFault → Type 0) (holds : Option Files) (folder : List ℕ) (db : Database) → IfSome holds (λ files. database_in files folder ≡ Ok db)
     → P (if_sound db) → IfSome holds (λ files. P (sound_in files folder))
 unfolding sound_in
 second_sound P None folder db read said = tt
 second_sound P (Some files) folder db read said = rw read said
-
-second_built : (P : Result Database MibFault → Type 0) (holds : Option Files) (folder : List ℕ) (db : Database) → IfSome holds (λ files. sound_in files folder ≡ Ok db)
-    → P (if_built db) → IfSome holds (λ files. P (built_in files folder))
-unfolding built_in
-second_built P None folder db read said = tt
-second_built P (Some files) folder db read said = rw read said
 
 -- the answers of the second step
 pub told_sound : (holds : Option Files) (folder : List ℕ) (db : Database) (result : Result Database Refusal) → IfSome holds (λ files. database_in files folder ≡ Ok db)
@@ -48,14 +37,3 @@ pub refused_sound : {A : Type 0} (holds : Option Files) (folder : List ℕ) (db 
     → IfErr result (λ c. Refuses c (if_sound db)) → IfErr result (λ c. IfSome holds (λ files. Refuses c (sound_in files folder)))
 refused_sound holds folder db (Ok kept) read refused = tt
 refused_sound holds folder db (Err c) read refused = second_sound (Refuses c) holds folder db read refused
-
--- and of the third
-pub told_built : (holds : Option Files) (folder : List ℕ) (db : Database) (result : Result Database Refusal) → IfSome holds (λ files. sound_in files folder ≡ Ok db)
-    → IfOk result (λ kept. if_built db ≡ Ok kept) → IfOk result (λ kept. IfSome holds (λ files. built_in files folder ≡ Ok kept))
-told_built holds folder db (Ok kept) read told = second_built (λ r. r ≡ Ok kept) holds folder db read told
-told_built holds folder db (Err c) read told = tt
-
-pub refused_built : {A : Type 0} (holds : Option Files) (folder : List ℕ) (db : Database) (result : Result A Refusal) → IfSome holds (λ files. sound_in files folder ≡ Ok db)
-    → IfErr result (λ c. Refuses c (if_built db)) → IfErr result (λ c. IfSome holds (λ files. Refuses c (built_in files folder)))
-refused_built holds folder db (Ok kept) read refused = tt
-refused_built holds folder db (Err c) read refused = second_built (Refuses c) holds folder db read refused

@@ -4,12 +4,12 @@ use Rattle.mib_model.specs.declared.code.Code.{Code}
 use Rattle.mib_model.specs.declared.code.Code.TheVariants as code
 use Rattle.mibtm.specs.declared.load.Refusal.{Refusal}
 use Rattle.mibtm.specs.declared.load.Refusal.TheVariants as refusal
-use Rattle.mibtm.specs.declared.print.Stop.{Stop}
-use Rattle.mibtm.specs.declared.print.Stop.TheVariants as stop
-use Rattle.mibtm.specs.declared.run.RunEnd.{RunEnd}
-use Rattle.mibtm.specs.declared.run.RunEnd.TheVariants as end
-use Rattle.mibtm.specs.declared.run.RunFault.{RunFault}
-use Rattle.mibtm.specs.declared.run.RunFault.TheVariants as fault
+use Rattle.decode_session.specs.declared.ending.Stop.{Stop}
+use Rattle.decode_session.specs.declared.ending.Stop.TheVariants as stop
+use Rattle.decode_session.specs.declared.ending.RunEnd.{RunEnd}
+use Rattle.decode_session.specs.declared.ending.RunEnd.TheVariants as end
+use Rattle.decode_session.specs.declared.ending.RunFault.{RunFault}
+use Rattle.decode_session.specs.declared.ending.RunFault.TheVariants as fault
 
 -- the code of a refusal
 abbrev pub code_of_refusal : Refusal → Code

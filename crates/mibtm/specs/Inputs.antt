@@ -1,27 +1,18 @@
--- The words that are understood: `check` and a folder of tables, or `decode`, such a folder and a feed. [This profile.]
-use Rattle.std.specs.Prelude.{ℕ, List, [], ◌∷◌, codes, ◌||◌, if◌then◌else◌, Result, Ok, Err, ⊤}
+-- The words that are understood so far: `check` and `decode` with what the definitions say of them. [This profile.]
+use Rattle.std.specs.Prelude.{ℕ, Bool, List, [], ◌∷◌, codes, ◌||◌, if◌then◌else◌, Result, Ok, Err, ⊤}
 use Rattle.std.specs.Str.{bytes_eq}
 use Rattle.mib_model.specs.declared.code.Misuse.{Misuse}
 use Rattle.mib_model.specs.declared.code.Misuse.TheVariants as misuse
-use Rattle.mib_model.specs.Words.{Command, Check, Decode, is_option}
+use Rattle.mib_model.specs.Words.{Command, Check, Decode, command_of}
 
--- one word, which is no option
-abbrev pub check_in : List (List ℕ) → Result Command Misuse
-check_in (folder ∷ []) = if is_option folder then Err misuse.Words else Ok (Check folder)
-check_in other = Err misuse.Words
+-- a command that is defined and not built
+abbrev pub is_to_come : List ℕ → Bool
+is_to_come word = bytes_eq word (codes "live") || bytes_eq word (codes "drill")
 
--- two words, of which none is an option; there is one worker
-abbrev pub decode_in : List (List ℕ) → Result Command Misuse
-decode_in (folder ∷ feed ∷ []) = if is_option folder || is_option feed then Err misuse.Words else Ok (Decode folder feed 1)
-decode_in other = Err misuse.Words
-
--- what words ask for, or what is wrong with them: the command before the rest
+-- what words ask for, or what is wrong with them; a command that isn't built is none
 abbrev pub command_in : List (List ℕ) → Result Command Misuse
 command_in [] = Err misuse.Command
-command_in (word ∷ words) =
-    if bytes_eq word (codes "check") then check_in words
-    else if bytes_eq word (codes "decode") then decode_in words
-    else Err misuse.Command
+command_in (word ∷ words) = if is_to_come word then Err misuse.Command else command_of (word ∷ words)
 
 -- what is said of the folder, where words ask for a check
 abbrev pub IfCheck : Result Command Misuse → (List ℕ → Type 0) → Type 0

@@ -1,11 +1,7 @@
-pub mod Readings
-pub mod Causes
-pub mod Run
 pub mod Codes
 pub mod Inputs
 pub mod Sources
 pub mod Refusals
-pub mod Requests
 pub mod Tool
 pub mod Objects
 pub mod Statement

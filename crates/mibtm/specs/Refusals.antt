@@ -3,6 +3,8 @@ use Rattle.std.specs.Prelude.{◌≡◌, ℕ, Result, Err, ⊤}
 use Rattle.session.specs.Causes.{Failed}
 use Rattle.session.specs.declared.load_fault.LoadFault.{LoadFault}
 use Rattle.session.specs.declared.load_fault.LoadFault.TheVariants as loads
+use Rattle.edition.specs.declared.fault.SaveFault.{SaveFault}
+use Rattle.edition.specs.declared.fault.SaveFault.TheVariants as saves
 use Rattle.mib_keys.specs.declared.fault.SoundFault.{SoundFault}
 use Rattle.mib_keys.specs.declared.fault.SoundFault.TheVariants as sounds
 use Rattle.mib_model.specs.declared.fault.MibFault.{MibFault}
@@ -19,6 +21,11 @@ refusal_of loads.Memory = refusal.Memory
 abbrev pub refusal_of_flaw : SoundFault → Refusal
 refusal_of_flaw (sounds.Mib fault) = refusal.Mib fault
 refusal_of_flaw sounds.Memory = refusal.Memory
+
+-- the refusal that a fault of compiling is
+abbrev pub refusal_of_save : SaveFault → Refusal
+refusal_of_save (saves.Mib fault) = refusal.Mib fault
+refusal_of_save saves.Memory = refusal.Memory
 
 -- tables are refused with just the fault that reading them gives
 abbrev pub Refuses : {Made : Type 0} → Refusal → Result Made MibFault → Type 0

@@ -4,7 +4,6 @@ use Rattle.mib_model.specs.declared.database.Database.{Database}
 use Rattle.mib_model.specs.declared.fault.MibFault.{MibFault}
 use Rattle.mib_model.specs.Attempts.{◌>>=◌}
 use Rattle.mib_model.specs.Soundness.{first_flaw}
-use Rattle.mib_model.specs.Unbuilt.{unbuilt}
 use Rattle.session.specs.Sources.{Files, database_in}
 
 -- a database without a fault, or its fault
@@ -16,14 +15,6 @@ free_of db (Some fault) = Err fault
 abbrev pub if_sound : Database → Result Database MibFault
 if_sound db = free_of db (first_flaw db)
 
--- a database without a row that isn't built, or the fault of the first such row
-abbrev pub if_built : Database → Result Database MibFault
-if_built db = free_of db (unbuilt db)
-
 -- the sound database that the tables of a folder are, or the fault for which they are refused
 unfoldable pub sound_in : Files → List ℕ → Result Database MibFault
 sound_in files folder = database_in files folder >>= if_sound
-
--- the sound database without a row that isn't built that the tables of a folder are, or the fault for which they are refused
-unfoldable pub built_in : Files → List ℕ → Result Database MibFault
-built_in files folder = sound_in files folder >>= if_built

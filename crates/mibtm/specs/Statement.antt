@@ -11,9 +11,8 @@ use Rattle.mib_model.specs.Summaries.{summary}
 use Rattle.session.specs.Causes.{Failed}
 use Rattle.mibtm.specs.Objects.{ShelfView, SinkView, HasStood, HasFailed, IsUncalled, IsUnwritten, HasBroken, Took, IsHandedOn, TookNothing}
 use Rattle.session.specs.Sources.{Files}
-use Rattle.mibtm.specs.Sources.{built_in, sound_in}
-use Rattle.mibtm.specs.Run.{Ran, Says, EndsWhole, EndsCut, EndsAtLimit, EndsUnread, EndsUnwritten}
-use Rattle.mibtm.specs.Tool.{PrintsFront}
+use Rattle.mibtm.specs.Sources.{sound_in}
+use Rattle.decode_session.specs.Run.{Ran, Says, EndsWhole, EndsCut, EndsAtLimit, EndsUnread, EndsUnwritten}
 
 -- The objects of a call are views of what they show before and now. A command with a desk, as `live` is to be, has the views of
 -- the desk and of its replies beside those of the feed and the output, and equations of its own below, one for each status.
@@ -23,10 +22,6 @@ use Rattle.mibtm.specs.Tool.{PrintsFront}
 -- the tables, read so, are a database of which this is said
 abbrev pub ByTables : {T : Type 0} → ShelfView T → (Files → Result Database MibFault) → (Database → Type 0) → Type 0
 ByTables t read says = IfSome (t.holds t.before) (λ files. IsOkAnd (read files) says)
-
--- if the tables, read so, are a database, this is said of it
-abbrev pub IfTables : {T : Type 0} → ShelfView T → (Files → Result Database MibFault) → (Database → Type 0) → Type 0
-IfTables t read says = IfSome (t.holds t.before) (λ files. IfOk (read files) says)
 
 -- the tables, read so, are refused for this fault
 abbrev pub IsRefused : {T : Type 0} → ShelfView T → (Files → Result Database MibFault) → MibFault → Type 0
@@ -40,10 +35,10 @@ OfFeed f name says = IfSome (f.holds f.before) (λ files. says (files name))
 abbrev pub RanBy : {F O : Type 0} → Says → ShelfView F → SinkView O → Database → List ℕ → Type 0
 RanBy says feed out db octets = Took out (Ran says db (Some octets) (feed.left feed.now))
 
--- the tables are built, and the feed is held and was read and printed, of which this is said
+-- the tables are sound, and the feed is held and was read and printed, of which this is said
 abbrev pub Printed : {T F O : Type 0} → Says → List ℕ → List ℕ → ShelfView T → ShelfView F → SinkView O → Type 0
 Printed says folder name tables feed out =
-    ByTables tables (λ files. built_in files folder) (λ db. OfFeed feed name (λ found. IsSomeAnd found (RanBy says feed out db)))
+    ByTables tables (λ files. sound_in files folder) (λ db. OfFeed feed name (λ found. IsSomeAnd found (RanBy says feed out db)))
 
 -- the turn to the feed failed, and nothing was written
 abbrev pub MissedFeed : {F O : Type 0} → ShelfView F → SinkView O → Type 0
@@ -58,8 +53,7 @@ Checked code.TablesFault folder tables out = HasFailed tables × IsUnwritten out
 Checked code.OutFault folder tables out =
     HasStood tables × HasBroken out
     × ByTables tables (λ files. sound_in files folder) (λ db. Took out (λ old new. AppendsPrefix old new (summary db)))
-Checked code.Want folder tables out =
-    HasStood tables × IsHandedOn out × IfTables tables (λ files. sound_in files folder) (λ db. TookNothing out)
+Checked code.Want folder tables out = HasStood tables × IsUnwritten out
 Checked other folder tables out = ⊥
 
 -- what each status of `decode` says, in the order of the statuses; no other comes
@@ -67,24 +61,21 @@ abbrev pub Decoded : {T F O : Type 0} → Code → List ℕ → List ℕ → She
 Decoded code.Ok folder name tables feed out =
     HasStood tables × HasStood feed × IsHandedOn out × Printed EndsWhole folder name tables feed out
 Decoded (code.BadMib fault) folder name tables feed out =
-    HasStood tables × IsUncalled feed × IsUnwritten out × IsRefused tables (λ files. built_in files folder) fault
+    HasStood tables × IsUncalled feed × IsUnwritten out × IsRefused tables (λ files. sound_in files folder) fault
 Decoded (code.NoFile input.Feed) folder name tables feed out =
     HasStood tables × HasStood feed × IsUnwritten out
-    × ByTables tables (λ files. built_in files folder) (λ db. OfFeed feed name (λ found. found ≡ None))
+    × ByTables tables (λ files. sound_in files folder) (λ db. OfFeed feed name (λ found. found ≡ None))
 Decoded (code.Cut count) folder name tables feed out =
     HasStood tables × HasStood feed × IsHandedOn out × Printed (EndsCut count) folder name tables feed out
 Decoded code.TablesFault folder name tables feed out = HasFailed tables × IsUncalled feed × IsUnwritten out
 Decoded code.FeedFault folder name tables feed out =
     HasStood tables × HasFailed feed × IsHandedOn out
-    × ByTables tables (λ files. built_in files folder)
+    × ByTables tables (λ files. sound_in files folder)
     (λ db. OfFeed feed name (λ found. MissedFeed feed out ⊎ IsSomeAnd found (RanBy EndsUnread feed out db)))
 Decoded code.OutFault folder name tables feed out =
     HasStood tables × (feed.faults feed.before ≤ feed.faults feed.now) × HasBroken out
     × Printed (EndsUnwritten (feed.faults feed.before) (feed.faults feed.now)) folder name tables feed out
 Decoded code.Limit folder name tables feed out =
     HasStood tables × HasStood feed × IsHandedOn out × Printed EndsAtLimit folder name tables feed out
-Decoded code.Want folder name tables feed out =
-    HasStood tables × HasStood feed × IsHandedOn out
-    × IfTables tables (λ files. built_in files folder)
-    (λ db. OfFeed feed name (λ found. MatchOption found (TookNothing out) (λ octets. Took out (PrintsFront db octets))))
+Decoded code.Want folder name tables feed out = HasStood tables × HasStood feed × IsUnwritten out
 Decoded other folder name tables feed out = ⊥

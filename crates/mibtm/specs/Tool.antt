@@ -10,13 +10,7 @@ use Rattle.mib_model.specs.Summaries.{summary}
 use Rattle.mib_model.specs.Texts.{cut_text}
 use Rattle.session.specs.Sources.{Files}
 use Rattle.mibtm.specs.Objects.{ShelfView, SinkView, Took}
-use Rattle.mibtm.specs.Run.{Writes, most_packets}
-
--- packets at the front of the feed were printed, and nothing else
-abbrev pub PrintsFront : Database → List ℕ → Option (List ℕ) → Option (List ℕ) → Type 0
-PrintsFront db octets old new =
-    (packets : List (List ℕ)) × (more : List ℕ)
-    × (octets ≡ concat packets ++ more) × All IsPacket packets × Writes db packets [] old new
+use Rattle.decode_session.specs.Run.{Writes, most_packets}
 
 -- the feed is cut into packets and nothing else, which were printed
 abbrev pub PrintsWhole : Database → List ℕ → Option (List ℕ) → Option (List ℕ) → Type 0

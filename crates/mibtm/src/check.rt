@@ -2,14 +2,15 @@
 ghost use Rattle.std.specs.Prelude.{◌≡◌, ◌≢◌, IfErr, OnOk, Err};
 ghost use Rattle.std.specs.Io.KnownBytes.{Appends};
 ghost use Rattle.mib_model.specs.Summaries.{summary};
-ghost use Rattle.mibtm.specs.Causes.{HasStopCause};
-ghost use Rattle.mibtm.specs.Run.{StopsAt};
+ghost use Rattle.decode_session.specs.Causes.{HasStopCause};
+ghost use Rattle.tm_io.specs.Octets.{AppendsPrefix};
 ghost use Rattle.mibtm.specs.Objects.{shelf, sink};
 ghost use Rattle.mibtm.specs.Statement.{Checked};
 
+use crate::codes::stop_code;
 use crate::load::sound_book;
-use crate::print::Stop;
 use book_summary::summary_of;
+use decode_session::Stop;
 use mib_model::Code;
 use mib_tables::Book;
 use std::alloc::Global;
@@ -18,7 +19,8 @@ use tm_io::{Shelf, Sink, write_all};
 // Writes the summary of a book, and hands it on.
 fn print_summary<O: Sink>(alloc: Global, book: &Book, out: &mut O) -> Result<(), Stop>
     ensures all { OnOk result (Appends (O.written out.old) (O.written out.new) (summary book.now)) }
-    ensures part { IfErr result (λ stop. StopsAt stop (summary book.now) (O.written out.old) (O.written out.new)) }
+    ensures part { result ≡ Err Stop.Out → AppendsPrefix (O.written out.old) (O.written out.new) (summary book.now) }
+    ensures untouched { result ≡ Err Stop.Memory → out.new ≡ out.old }
     ensures handed { result ≢ Err Stop.Out → O.handed out.old ≡ O.written out.old → O.handed out.new ≡ O.written out.new }
     ensures ok { OnOk result (O.faults out.new ≡ O.faults out.old) }
     ensures cause { IfErr result (λ stop. HasStopCause stop (O.faults out.old) (O.faults out.new)) }
@@ -47,7 +49,7 @@ pub(crate) fn check<T: Shelf, O: Sink>(
     match sound_book(alloc, folder, tables) {
         Ok(book) => match print_summary(alloc, &book, out) {
             Ok(()) => Code::Ok,
-            Err(stop) => Code::from(stop),
+            Err(stop) => stop_code(stop),
         },
         Err(refusal) => Code::from(refusal),
     }

@@ -9,7 +9,7 @@ use std::thread::Threads;
 use tm_io::{MemFile, MemShelf};
 
 // A table that a case changes: its file, and its text with `|` for each tab.
-type Change<'a> = (&'a str, &'a [u8]);
+pub(crate) type Change<'a> = (&'a str, &'a [u8]);
 
 // The text of a table.
 fn text(alloc: Global, short: &[u8]) -> Result<Vec<u8>, Fail> {
@@ -21,7 +21,7 @@ fn text(alloc: Global, short: &[u8]) -> Result<Vec<u8>, Fail> {
 }
 
 // A folder of one parameter at one place of one packet, with these changes.
-fn folder(alloc: Global, changes: &[Change<'_>]) -> Result<MemShelf, Fail> {
+pub(crate) fn folder(alloc: Global, changes: &[Change<'_>]) -> Result<MemShelf, Fail> {
     let mut files = Vec::new(alloc);
     for change in changes {
         files.push(MemFile {
@@ -69,16 +69,6 @@ fn refused<X: Abort + Threads + Wait + Sync>(
     line: &[u8],
 ) -> Result<(), Fail> {
     says(rt, alloc, &["check", "mib"], changes, line, b"")
-}
-
-// A decoding is refused so.
-fn not_decoded<X: Abort + Threads + Wait + Sync>(
-    rt: &X,
-    alloc: Global,
-    changes: &[Change<'_>],
-    line: &[u8],
-) -> Result<(), Fail> {
-    says(rt, alloc, &["decode", "mib", "feed"], changes, line, b"")
 }
 
 #[test]
@@ -370,64 +360,6 @@ fn groups_end_with_their_structure(rt: HostRuntime) -> Result<(), Fail> {
         &[("mib/vpd.dat", b"10|1|T1|||Y|Y")],
         b"BADMIB vpd 1 GROUP",
     )
-}
-
-#[test]
-fn rows_that_are_not_built_are_refused_where_all_is_sound(rt: HostRuntime) -> Result<(), Fail> {
-    let alloc = rt.alloc();
-    let condition: Change<'_> = ("mib/pcf.dat", b"A||||3|12\nT1||||3|12||A||N|R");
-    not_decoded(&rt, alloc, &[condition], b"BADMIB pcf 2 UNBUILT")?;
-    not_decoded(
-        &rt,
-        alloc,
-        &[condition, ("mib/plf.dat", b"T1|4009|10|0")],
-        b"BADMIB plf 1 NOREF 2",
-    )?;
-    not_decoded(
-        &rt,
-        alloc,
-        &[
-            ("mib/pid.dat", b"3|25|100|||4001|||10"),
-            ("mib/vpd.dat", b"10|1|T1"),
-        ],
-        b"BADMIB pid 1 UNBUILT",
-    )?;
-    let curve: Change<'_> = ("mib/mcf.dat", b"M1||1");
-    not_decoded(
-        &rt,
-        alloc,
-        &[("mib/cur.dat", b"T1|1|T1|1|M1"), curve],
-        b"BADMIB cur 1 UNBUILT",
-    )?;
-    not_decoded(
-        &rt,
-        alloc,
-        &[("mib/ocf.dat", b"T1|1||C")],
-        b"BADMIB ocf 1 UNBUILT",
-    )
-}
-
-#[test]
-fn a_check_does_not_refuse_what_is_not_built(rt: HostRuntime) -> Result<(), Fail> {
-    let alloc = rt.alloc();
-    let mut out = sink(alloc, &[], 4096)?;
-    let code = call(
-        &rt,
-        alloc,
-        &["check", "mib"],
-        &mut folder(
-            alloc,
-            &[
-                ("mib/pcf.dat", b"A||||3|12\nT1||||3|12||A||N|R"),
-                ("mib/ocf.dat", b"T1|1||C"),
-            ],
-        )?,
-        &mut MemShelf::new(Vec::new(alloc), 1),
-        &mut out,
-    )?;
-    assert_eq!(rt; code, Code::Ok);
-    assert!(rt; out.bytes().ends_with(b"ocp 0\nPLANS 4\n"));
-    Ok(())
 }
 
 #[test]

@@ -1,69 +1,23 @@
 // The command `decode`: tables, then a feed.
-ghost use Rattle.std.specs.Prelude.{◌≡◌, ◌≢◌, IfSome, IfOk, IfErr, OnOk, Ok};
-ghost use Rattle.mib_model.specs.Soundness.{IsSound};
-ghost use Rattle.mibtm.specs.Readings.{IsBuilt};
-ghost use Rattle.mibtm.specs.Refusals.{HasRefusalCause, Refuses};
-ghost use Rattle.mibtm.specs.Sources.{built_in, if_built};
+ghost use Rattle.std.specs.Prelude.{◌≡◌};
 ghost use Rattle.mibtm.specs.Objects.{shelf, sink};
 ghost use Rattle.mibtm.specs.Statement.{Decoded};
 
 use crate::codes::run_code;
-use crate::load::{Refusal, sound_book};
-use crate::run::run;
-use crate::unbuilt::first_unbuilt;
-use edition::Edition;
-use mib_model::{Code, Input, Steps};
-use mib_tables::Book;
-use std::alloc::{AllocError, Global};
-use std::marker::Brand;
-use std::sync::ledger::{Blank, Ledger};
+use crate::load::folder_edition;
+use decode_session::decode_run;
+use mib_model::{Code, Input};
+use std::alloc::Global;
+use std::thread::Threads;
 use tm_io::{Shelf, Sink};
 
-// The edition of sound tables, on a ledger of its own.
-fn compile<L: Ledger>(alloc: Global, book: Book, blank: Blank) -> Result<Edition, AllocError>
-    requires sound { IsSound book }
-    requires name { blank.name ≡ L.name }
-    requires parts { blank.parts ≡ L.parts }
-    requires one { blank.parts ≡ 1 }
-    ensures { IfOk result (λ edition. edition ≡ book) }
-{
-    Edition::compile(alloc, book, &mut Steps::<L>::new(blank))
-}
-
-// The edition of sound tables, where all their rows are built.
-fn built_edition(alloc: Global, book: Book) -> Result<Edition, Refusal>
-    requires sound { IsSound book }
-    ensures told { IfOk result (λ edition. if_built book ≡ Ok edition) }
-    ensures refused { IfErr result (λ refusal. Refuses refusal (if_built book)) }
-    ensures built { IfOk result (λ edition. IsBuilt edition) }
-    ensures cause { IfErr result (λ refusal. refusal ≢ Refusal.Failed) }
-{
-    if let Some(fault) = first_unbuilt(&book) {
-        return Err(Refusal::Mib(fault));
-    }
-    match compile::<Brand>(alloc, book, Blank::new(1)) {
-        Ok(edition) => Ok(edition),
-        Err(_) => Err(Refusal::Memory),
-    }
-}
-
-// The edition of the tables of a folder.
-fn folder_edition<T: Shelf>(alloc: Global, folder: &str, tables: &mut T) -> Result<Edition, Refusal>
-    ensures told { IfOk result (λ edition. IfSome (T.holds tables.old) (λ files. built_in files folder.now ≡ Ok edition)) }
-    ensures refused { IfErr result (λ code. IfSome (T.holds tables.old) (λ files. Refuses code (built_in files folder.now))) }
-    ensures built { IfOk result (λ edition. IsBuilt edition) }
-    ensures ok { OnOk result (T.faults tables.new ≡ T.faults tables.old) }
-    ensures cause { IfErr result (λ refusal. HasRefusalCause refusal (T.faults tables.old) (T.faults tables.new)) }
-{
-    let book = sound_book(alloc, folder, tables)?;
-    built_edition(alloc, book)
-}
-
-/// Prints the feed of that name by the tables of a folder.
-pub(crate) fn decode<T: Shelf, F: Shelf, O: Sink>(
+/// Prints the feed of that name by the tables of a folder, decoded by so many workers, and by one at least.
+pub(crate) fn decode<T: Shelf, F: Shelf, O: Sink, X: Threads + Sync>(
+    rt: &X,
     alloc: Global,
     folder: &str,
     name: &str,
+    workers: u8,
     tables: &mut T,
     feed: &mut F,
     out: &mut O,
@@ -78,7 +32,7 @@ pub(crate) fn decode<T: Shelf, F: Shelf, O: Sink>(
         Err(refusal) => return Code::from(refusal),
     };
     match feed.aim(name) {
-        Ok(true) => run_code(run(alloc, &edition, feed, out)),
+        Ok(true) => run_code(decode_run(rt, alloc, &edition, feed, out, workers.max(1))),
         Ok(false) => Code::NoFile(Input::Feed),
         Err(_) => Code::FeedFault,
     }

@@ -7,17 +7,11 @@
 //! `book_summary` for the summary, on `packet_feed` for packets, and on `mib_model` for all definitions.
 #![tactic(auto)]
 
-mod buffer;
 mod check;
 mod codes;
 mod decode;
 mod load;
-mod print;
-mod record;
-mod run;
 mod tool;
-mod unbuilt;
-mod values;
 mod words;
 
 use crate::tool::tool;
@@ -118,5 +112,7 @@ fn main(rt: HostRuntime) -> ExitCode {
 
 #[cfg(test)]
 mod check_tests;
+#[cfg(test)]
+mod decode_tests;
 #[cfg(test)]
 mod tests;

@@ -209,7 +209,7 @@ fn behind_a_fault_of_the_feed_nothing_is_read(rt: HostRuntime) -> Result<(), Fai
 
 #[test]
 fn a_fault_of_the_output_leaves_what_was_written_before(rt: HostRuntime) -> Result<(), Fail> {
-    for at in 0..RECORDS.len() {
+    for at in [0_usize, 1, 20, 42, 43, 52, 53, 54, 95, 105] {
         let mut out = sink(rt.alloc(), &[at as u64], 9)?;
         let code = two_packets(&rt, rt.alloc(), &[], &mut out)?;
         assert_eq!(rt; code, Code::OutFault, "at {at}");

@@ -1,20 +1,21 @@
-ghost use Rattle.std.specs.Prelude.{◌≡◌, ℕ, List, Some, Ok, map, string_bytes, IfErr};
+ghost use Rattle.std.specs.Prelude.{◌≡◌, ◌⊎◌, ℕ, List, Some, Ok, map, string_bytes, IfErr};
 ghost use Rattle.mib_model.specs.declared.database.Database.{Database};
 ghost use Rattle.mibtm.specs.Inputs.{IfCheck, IfDecode, command_in};
 ghost use Rattle.mibtm.specs.Objects.{ShelfView, SinkView, shelf, sink};
-ghost use Rattle.mibtm.specs.Sources.{built_in, sound_in};
+ghost use Rattle.mibtm.specs.Sources.{sound_in};
 ghost use Rattle.mibtm.specs.Statement.{Checked, Decoded};
 ghost use Rattle.mibtm.specs.Tool.{Completes, CompletesCheck, Held, IsSteady, IsSteadySink};
 ghost use Rattle.session.specs.Sources.{Files};
 
 use crate::check::check;
 use crate::decode::decode;
-use crate::words::{Request, request_in};
-use mib_model::Code;
+use crate::words::command_in;
+use mib_model::{Code, Misuse};
 use std::alloc::Global;
 use std::sync::Wait;
 use std::thread::Threads;
 use tm_io::{Gate, Shelf, Sink};
+use tool_words::{Request, WordsFault};
 
 /// How a call of the tool ended.
 #[derive(Clone, Copy, Debug, PartialEq, Eq)]
@@ -23,7 +24,8 @@ pub struct Status {
 }
 
 /// Does what the words ask for, which stand behind the program's name. `check DIR` reads tables from `tables` and writes
-/// their summary to `out`; `decode DIR FEED` reads packets from `feed` too, and writes what is decoded of them. `desk`,
+/// their summary to `out`; `decode DIR FEED` reads packets from `feed` too, and writes
+/// what is decoded of them, by as many workers as `--workers` says. `desk`,
 /// `replies` and `gate` are not called, nor is `feed` by a check.
 pub fn tool<
     T: Shelf,
@@ -44,8 +46,8 @@ pub fn tool<
     replies: &mut R,
     gate: &G,
 ) -> Status
-    // Wrong words are answered before any object is called.
-    ensures misuse { IfErr (command_in (map string_bytes words.now)) (λ misuse. result.code ≡ Code.Usage misuse) }
+    // Wrong words are answered before any object is called, unless memory runs out first.
+    ensures misuse { IfErr (command_in (map string_bytes words.now)) (λ misuse. (result.code ≡ Code.Usage misuse) ⊎ (result.code ≡ Code.Want)) }
     ensures misuse_tables { IfErr (command_in (map string_bytes words.now)) (λ misuse. tables.new ≡ tables.old) }
     ensures misuse_feed { IfErr (command_in (map string_bytes words.now)) (λ misuse. feed.new ≡ feed.old) }
     ensures misuse_out { IfErr (command_in (map string_bytes words.now)) (λ misuse. out.new ≡ out.old) }
@@ -63,12 +65,18 @@ pub fn tool<
     ensures desk { desk.new ≡ desk.old }
     ensures replies { replies.new ≡ replies.old }
 {
-    let code = match request_in(words) {
+    let code = match command_in(alloc, words) {
         Ok(Request::Check { folder }) => check(alloc, folder, tables, out),
-        Ok(Request::Decode { folder, feed: name }) => {
-            decode(alloc, folder, name, tables, feed, out)
-        }
-        Err(misuse) => Code::Usage(misuse),
+        Ok(
+            Request::Decode {
+                folder,
+                feed: name,
+                workers,
+            },
+        ) => decode(rt, alloc, folder, name, workers, tables, feed, out),
+        Ok(Request::Live { .. } | Request::Drill { .. }) => Code::Usage(Misuse::Command),
+        Err(WordsFault::Misuse(misuse)) => Code::Usage(misuse),
+        Err(WordsFault::Memory) => Code::Want,
     };
     Status { code }
 }
@@ -78,7 +86,7 @@ pub fn tool<
 pub fn decoding_is_complete<T, F, O>()
     ensures { (c : Code) (folder name octets : List ℕ) (files feeds : Files) (db : Database)
         → (tables : ShelfView T) (feed : ShelfView F) (out : SinkView O)
-        → Held tables files → built_in files folder ≡ Ok db → Held feed feeds → feeds name ≡ Some octets
+        → Held tables files → sound_in files folder ≡ Ok db → Held feed feeds → feeds name ≡ Some octets
         → Decoded c folder name tables feed out → IsSteady tables → IsSteady feed → IsSteadySink out
         → Completes c db octets out }
 {}

@@ -49,7 +49,6 @@ pub(crate) fn fault_word(code: MibCode) -> &'static [u8]
         MibCode::Width => b"WIDTH",
         MibCode::Both => b"BOTH",
         MibCode::Big => b"BIG",
-        MibCode::Unbuilt => b"UNBUILT",
     }
 }
 

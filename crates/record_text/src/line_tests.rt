@@ -55,7 +55,6 @@ fn a_fault_is_told_by_its_word(rt: HostRuntime) {
         (MibCode::Width, b"BADMIB cap 3 WIDTH 4"),
         (MibCode::Both, b"BADMIB cap 3 BOTH 4"),
         (MibCode::Big, b"BADMIB cap 3 BIG 4"),
-        (MibCode::Unbuilt, b"BADMIB cap 3 UNBUILT 4"),
     ];
     for (code, line) in words {
         ends(&rt, Code::BadMib(fault(code, 4, 0)), 3, line);

@@ -74,6 +74,7 @@ impl Lines {
     }
 
     // Appends an octet.
+    #[inline(always)]
     pub(crate) fn push(&mut self, octet: u8)
         requires { length self.old < LINES_ROOM }
         ensures text { self.new ≡ self.old ++ octet ∷ [] }
@@ -83,6 +84,7 @@ impl Lines {
     }
 
     // Appends octets.
+    #[inline(always)]
     pub(crate) fn add(&mut self, octets: &[u8])
         requires { length self.old + length octets.now ≤ LINES_ROOM }
         ensures text { self.new ≡ self.old ++ octets.now }

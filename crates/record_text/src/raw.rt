@@ -1,5 +1,6 @@
 // The texts of raw values.
 ghost use Rattle.std.specs.Prelude.{◌≡◌, ◌≤◌, ◌<◌, ◌+◌, ◌*◌, ◌/◌, ◌++◌, length, codes, decimal, true};
+ghost use Rattle.std.specs.Fmt.{signed_decimal};
 ghost use Rattle.std.specs.List.{flat_map};
 ghost use Rattle.mib_model.specs.Bits as Bits;
 ghost use Rattle.mib_model.specs.RawTexts as Spec;
@@ -14,6 +15,18 @@ use mib_model::{Shape, Sort, Value};
 
 /// The most octets of a raw text: 1,024 octets of 4 octets each, and 4 around them.
 pub(crate) const RAW_ROOM: usize = 4100;
+
+// Appends a raw number's digits, by a word of 64 bits where it is that small.
+fn add_integer(raw: i128, out: &mut Lines)
+    requires room { length out.old + 40 ≤ LINES_ROOM }
+    ensures text { out.new ≡ out.old ++ signed_decimal raw }
+    ensures room { length out.new ≤ length out.old + 40 }
+{
+    match i64::try_from(raw) {
+        Ok(raw) => out.add_number(raw),
+        Err(_) => out.add_number(raw),
+    }
+}
 
 // The hexadecimal digits of a real number.
 fn real_digits(shape: Shape) -> u8
@@ -110,7 +123,7 @@ pub(crate) fn add_raw(value: &Value, packet: &[u8], out: &mut Lines)
     let Value { at, shape, .. } = *value;
     let width = shape.width();
     match shape.sort() {
-        Sort::Unsigned | Sort::Signed => out.add_number(value.raw),
+        Sort::Unsigned | Sort::Signed => add_integer(value.raw, out),
         Sort::Real => add_real(shape, packet, at, out),
         Sort::Octets => add_hex_field(packet, at, width / 8, out),
         Sort::Chars => add_quoted_field(packet, at, width / 8, out),

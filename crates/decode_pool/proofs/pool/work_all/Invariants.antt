@@ -6,5 +6,5 @@ abbrev pub invariant-loop : goal.invariant-loop
 invariant-loop g l = record {
   taken : IsOf l.jobs l.taken;
   given : IsOf l.results l.given;
-  works : Works g.W.Work.made g.W.Cell.Numbered.number_of (account_of l.fn.taken) (account_of l.fn.given) (account_of l.taken) (account_of l.given);
+  works : Works (g.W.Work.made l.work) g.W.Cell.Numbered.number_of (account_of l.fn.taken) (account_of l.fn.given) (account_of l.taken) (account_of l.given);
 }

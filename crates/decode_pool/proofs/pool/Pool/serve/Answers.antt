@@ -6,5 +6,5 @@ serve_pairs-requires-clause-ready g c κs within = chunk_ready c.args.jobs.now c
 
 pub returns : goal.returns
 returns g c = record {
-  serves = all_serve c.args.jobs.now c.args.results.now g.W.Work.made g.W.Cell.Numbered.number_of _ _ c.requires.ready c.serve_pairs.ensures.length c.serve_pairs.ensures.serves;
+  serves = all_serve c.args.jobs.now c.args.results.now (g.W.Work.made c.args.work.now) g.W.Cell.Numbered.number_of _ _ c.requires.ready c.serve_pairs.ensures.length c.serve_pairs.ensures.serves;
 }

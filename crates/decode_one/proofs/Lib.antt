@@ -1,0 +1,5 @@
+mod FinishFacts
+mod NumberFacts
+pub mod ParamFacts
+mod SoundFacts
+mod ValueFacts

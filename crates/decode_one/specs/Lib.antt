@@ -1,0 +1,3 @@
+pub mod Halves
+pub mod Values
+pub mod Steps

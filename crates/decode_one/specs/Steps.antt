@@ -1,0 +1,18 @@
+-- A step of the interpreter, before and after. [This profile.]
+use Rattle.std.specs.Prelude.{◌≡◌, ℕ, List, ◌++◌}
+use Rattle.mib_model.specs.declared.database.Database.{Database}
+use Rattle.mib_model.specs.Interpreter.{Course, StampedPacket, memory_for, record_for, course_after}
+use Rattle.mib_model.specs.Kept.{Memory}
+use Rattle.mib_model.specs.Texts.{record_body}
+
+-- the interpreter comes to a packet with this number, of an edition with these tables, with this memory
+pub record ComesTo (c : Course) (s : StampedPacket) (count : ℕ) (octets : List ℕ) (db : Database) (before : Memory) : Type 0 where
+  pub number : s.number ≡ count
+  pub packet : s.packet ≡ octets
+  pub tables : s.tables ≡ db
+  pub memory : memory_for c s ≡ before
+
+-- the packet's record without its edition stands behind a text, and the step leaves this memory
+pub record HasStepped (c : Course) (s : StampedPacket) (after : Memory) (old new : List ℕ) : Type 0 where
+  pub text : new ≡ old ++ record_body (record_for c s)
+  pub memory : (course_after c s).memory ≡ after

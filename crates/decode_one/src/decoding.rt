@@ -1,0 +1,110 @@
+// What a packet is, and its values.
+ghost use Rattle.std.specs.Prelude.{◌≡◌, ◌≢◌, ◌≤◌, true, false, pos, int_lt, [], is_some, length};
+ghost use Rattle.bit_field.specs.Taken.{taken};
+ghost use Rattle.decode_one.specs.Halves.{IsHalf};
+ghost use Rattle.edition_plans.specs.Layouts.{layout_of};
+ghost use Rattle.mib_model.specs.Fixed.{fixed_values, most_values};
+ghost use Rattle.mib_model.specs.Headers.{header_of};
+ghost use Rattle.mib_model.specs.Interpreter.{values_of};
+ghost use Rattle.mib_model.specs.Match.{match_of};
+ghost use Rattle.mib_model.specs.Soundness.{IsSound};
+ghost use Rattle.mib_model.specs.Structures.{structure};
+ghost use Rattle.mib_model.specs.Walk.{structure_values};
+
+use crate::half::Half;
+use bit_field::Values;
+use edition_plans::Plans;
+use mib_model::{Ended, Found, Header, Value};
+use struct_plan::walk;
+
+// What a packet is.
+#[tactic(auto, unfolding(mib_model::specs::Match::match_of))]
+fn identify<P: Plans>(plans: &P, header: &Header, packet: &[u8]) -> Found
+    requires header { header.now ≡ header_of packet.now }
+    requires packet { 7 ≤ length packet.now }
+    ensures found { result ≡ match_of (P.tables plans.now) packet.now }
+    ensures sound { IsSound (P.tables plans.now) }
+{
+    plans.ident().find_by(header, packet)
+}
+
+// The values of a packet by the layout of its SPID, which there is, and how they end.
+fn fixed<P: Plans>(plans: &P, spid: u32, packet: &[u8], values: &mut Values) -> Ended
+    requires layout { is_some (layout_of (P.tables plans.now) spid) ≡ true }
+    requires slots { length values.old.slots.now ≡ most_values }
+    requires used { values.old.used ≡ 0 }
+    ensures values { (taken values.new, result) ≡ fixed_values (P.tables plans.now) spid packet.now }
+    ensures used { values.new.used ≤ most_values }
+    ensures slots { length values.new.slots.now ≡ most_values }
+    ensures borrow { values.new.slots.ghost_name ≡ values.old.slots.ghost_name }
+{
+    match plans.layout(spid) {
+        Some(layout) => layout.extract(packet, values),
+        None => unreachable!(),
+    }
+}
+
+// The values of a packet of variable structure, which there is, and how they end.
+fn walked<P: Plans>(plans: &P, tpsd: i32, dfhsize: u8, packet: &[u8], values: &mut Values) -> Ended
+    requires some { int_lt tpsd (pos 1) ≡ false }
+    requires there { structure (P.tables plans.now) tpsd ≢ [] }
+    requires packet { length packet.now ≤ 65542 }
+    requires slots { length values.old.slots.now ≡ most_values }
+    requires used { values.old.used ≡ 0 }
+    ensures values { (taken values.new, result) ≡ structure_values (P.tables plans.now) tpsd dfhsize packet.now }
+    ensures used { values.new.used ≤ most_values }
+    ensures slots { length values.new.slots.now ≡ most_values }
+    ensures borrow { values.new.slots.ghost_name ≡ values.old.slots.ghost_name }
+{
+    let start = 8 * (6 + u64::from(dfhsize));
+    walk(plans, tpsd as u32, start, packet, values)
+}
+
+// The values of a packet that is found so, and how they end: by its structure where it names one, else by its layout.
+fn extract<P: Plans>(plans: &P, found: &Found, packet: &[u8], values: &mut Values) -> Ended
+    requires sound { IsSound (P.tables plans.now) }
+    requires found { found.now ≡ match_of (P.tables plans.now) packet.now }
+    requires packet { length packet.now ≤ 65542 }
+    requires slots { length values.old.slots.now ≡ most_values }
+    requires used { values.old.used ≡ 0 }
+    ensures values { (taken values.new, result) ≡ values_of (P.tables plans.now) packet.now found.now }
+    ensures used { values.new.used ≤ most_values }
+    ensures slots { length values.new.slots.now ≡ most_values }
+    ensures borrow { values.new.slots.ghost_name ≡ values.old.slots.ghost_name }
+{
+    match *found {
+        Found::Spid {
+            spid,
+            tpsd,
+            dfhsize,
+            ..
+        } => {
+            if tpsd < 1 {
+                fixed(plans, spid, packet, values)
+            } else {
+                walked(plans, tpsd, dfhsize, packet, values)
+            }
+        }
+        _ => Ended::Whole,
+    }
+}
+
+/// Decodes a packet: tells what it is, and takes its values into the front of the slots. It takes no memory.
+pub fn decode<P: Plans>(plans: &P, header: Header, packet: &[u8], slots: &mut [Value]) -> Half
+    requires header { header ≡ header_of packet.now }
+    requires long { 7 ≤ length packet.now }
+    requires short { length packet.now ≤ 65542 }
+    requires slots { length slots.old ≡ most_values }
+    ensures half { IsHalf (P.tables plans.now) packet.now result slots.new }
+    ensures slots { length slots.new ≡ most_values }
+{
+    let found = identify(plans, &header, packet);
+    let mut values = Values { slots, used: 0 };
+    let ended = extract(plans, &found, packet, &mut values);
+    Half {
+        header,
+        found,
+        ended,
+        used: values.used,
+    }
+}

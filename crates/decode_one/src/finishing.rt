@@ -1,0 +1,59 @@
+// The record of a packet that was decoded, and what is kept after it.
+ghost use Rattle.std.specs.Prelude.{◌≡◌, ◌≤◌, ◌+◌, length, take};
+ghost use Rattle.std.specs.Option.{option_copied};
+ghost use Rattle.decode_one.specs.Halves.{IsHalf};
+ghost use Rattle.decode_one.specs.Steps.{ComesTo, HasStepped};
+ghost use Rattle.edition_plans.specs.Params.{param_slices};
+ghost use Rattle.fold_state.specs.Boards.{memory_of, plan_names};
+ghost use Rattle.mib_model.specs.Interpreter.{Course, StampedPacket, title_of};
+ghost use Rattle.record_text.specs.declared.lines.TheConstants.{LINES_ROOM, LINE_MOST};
+
+use crate::half::Half;
+use edition_plans::Plans;
+use fold_state::{Board, Seen, finish_is_a_step};
+use mib_model::{Found, Text, Value};
+use record_text::Lines;
+
+// The name of a packet that was found, where it has one.
+#[tactic(auto, unfolding(mib_model::specs::Interpreter::title_of))]
+fn title<'a, P: Plans>(plans: &'a P, found: &Found) -> Option<&'a Text>
+    ensures { option_copied result ≡ title_of (P.tables plans.now) found.now }
+{
+    match *found {
+        Found::Spid { spid, .. } => plans.title(spid),
+        _ => None,
+    }
+}
+
+/// Finishes a packet that was decoded so: appends its record, without the line of its edition, and leaves what is kept. The
+/// board was made for the parameters of these plans, and the text before has at most 100 octets. It takes no memory.
+pub fn finish<P: Plans>(
+    plans: &P,
+    number: u64,
+    packet: &[u8],
+    half: &Half,
+    values: &[Value],
+    board: &mut Board,
+    out: &mut Lines,
+)
+    requires half { IsHalf (P.tables plans.now) packet.now half.now values.now }
+    requires board { board.old.names ≡ plan_names (param_slices (P.tables plans.now)) }
+    requires room { length out.old ≤ 100 }
+    ensures names { board.new.names ≡ board.old.names }
+    ensures step { (c : Course) (s : StampedPacket) → ComesTo c s number packet.now (P.tables plans.now) (memory_of board.old)
+        → HasStepped c s (memory_of board.new) out.old out.new }
+    ensures room { length out.new + LINE_MOST ≤ LINES_ROOM }
+{
+    let params = plans.params();
+    let seen = Seen {
+        number,
+        header: &half.header,
+        found: &half.found,
+        ended: &half.ended,
+        packet,
+        values: &values[..half.used as usize],
+        title: title(plans, &half.found),
+    };
+    board.finish(params, &seen, out);
+    finish_is_a_step();
+}

@@ -1,0 +1,141 @@
+-- Records of packets of one edition, in parts.
+use Rattle.std.proofs.Common.{◌≡◌, ◌<◌, ◌+◌, ℕ, zero, suc, List, [], ◌∷◌, ◌++◌, Option, Some, None, true, cond, ◌==◌, length, take, drop, get_or, refl, sym, ap, ◌∙◌, append-nil, zero-add, arith, subst}
+use Rattle.std.proofs.lemmas.List.{take_more, map-append, take-append-drop}
+use Rattle.std.proofs.lemmas.Grind.{flat_map-append}
+use Rattle.std.proofs.KnownBytes.{Appends-trans}
+use Rattle.std.specs.Io.KnownBytes.{Appends}
+use Rattle.tm_io.specs.Octets.{AppendsPrefix}
+use Rattle.decode_one.specs.Steps.{ComesTo, HasStepped}
+use Rattle.decode_session.specs.declared.cell.Cell.{Cell}
+use Rattle.decode_session.specs.Cells.{packet_in, stamped_in, all_stamped}
+use Rattle.decode_session.specs.Finishing.{standing, next_text, batch_text, Leaves, LeavesAfter}
+use Rattle.mib_laws.proofs.RunFacts.{interpret-append}
+use Rattle.mib_model.specs.declared.database.Database.{Database}
+use Rattle.mib_model.specs.Interpreter.{Course, StampedPacket, record_for, course_after, interpret, course_after_all, records_text}
+use Rattle.mib_model.specs.Kept.{Memory}
+use Rattle.mib_model.specs.Texts.{edition_text_of, record_text, record_body}
+
+-- ---- one packet
+
+same-edition : (edition : ℕ) → (edition == edition) ≡ true
+same-edition edition = search arith
+
+-- the interpreter comes to the packet of a cell
+pub comes : (edition : ℕ) (db : Database) (memory : Memory) (cell : Cell) (packet : List ℕ) → packet ≡ packet_in cell
+    → ComesTo (standing edition db memory) (stamped_in edition db cell) cell.number packet db memory
+comes edition db memory cell packet is = record { number = refl; packet = sym is; tables = refl; memory = rw (same-edition edition) refl }
+
+-- a packet of the edition in use has no line of its edition
+body-text : (edition : ℕ) (db : Database) (memory : Memory) (cell : Cell) → next_text edition db memory (stamped_in edition db cell) ≡ record_body (record_for (standing edition db memory) (stamped_in edition db cell))
+unfolding record_text record_for
+body-text edition db memory cell = ap (λ b. edition_text_of (cond b None (Some edition)) ++ record_body (record_for (standing edition db memory) (stamped_in edition db cell))) (same-edition edition)
+
+pub stepped-text : (edition : ℕ) (db : Database) (memory after : Memory) (cell : Cell) (old new : List ℕ) → old ≡ []
+    → HasStepped (standing edition db memory) (stamped_in edition db cell) after old new → new ≡ next_text edition db memory (stamped_in edition db cell)
+stepped-text edition db memory after cell old new none step =
+    step.text ∙ ap (λ t. t ++ record_body (record_for (standing edition db memory) (stamped_in edition db cell))) none ∙ sym (body-text edition db memory cell)
+
+pub stepped-leaves : (edition : ℕ) (db : Database) (memory after : Memory) (cell : Cell) (old new : List ℕ)
+    → HasStepped (standing edition db memory) (stamped_in edition db cell) after old new → Leaves edition db memory (stamped_in edition db cell) after
+unfolding course_after
+stepped-leaves edition db memory after cell old new step = ap (standing edition db) (sym step.memory)
+
+-- ---- packets
+
+pub text-none : (edition : ℕ) (db : Database) (memory : Memory) → batch_text edition db memory [] ≡ []
+unfolding interpret
+text-none edition db memory = refl
+
+pub leaves-none : (edition : ℕ) (db : Database) (memory : Memory) → LeavesAfter edition db memory [] memory
+unfolding course_after_all
+leaves-none edition db memory = refl
+
+text-one : (edition : ℕ) (db : Database) (memory : Memory) (s : StampedPacket) → batch_text edition db memory (s ∷ []) ≡ next_text edition db memory s
+unfolding interpret
+text-one edition db memory s = append-nil (next_text edition db memory s)
+
+leaves-one : (edition : ℕ) (db : Database) (memory after : Memory) (s : StampedPacket) → Leaves edition db memory s after → LeavesAfter edition db memory (s ∷ []) after
+unfolding course_after_all
+leaves-one edition db memory after s leaves = leaves
+
+pub text-append : (edition : ℕ) (db : Database) (memory middle : Memory) (first others : List StampedPacket) → LeavesAfter edition db memory first middle
+    → batch_text edition db memory (first ++ others) ≡ batch_text edition db memory first ++ batch_text edition db middle others
+text-append edition db memory middle first others leaves =
+    ap records_text (interpret-append (standing edition db memory) first others)
+    ∙ flat_map-append record_text (interpret (standing edition db memory) first) (interpret (course_after_all (standing edition db memory) first) others)
+    ∙ ap (λ (c : Course). batch_text edition db memory first ++ records_text (interpret c others)) (sym leaves)
+
+course-append : (c : Course) (first others : List StampedPacket) → course_after_all c (first ++ others) ≡ course_after_all (course_after_all c first) others
+unfolding course_after_all
+course-append c [] others = refl
+course-append c (s ∷ first) others = course-append (course_after c s) first others
+
+pub leaves-append : (edition : ℕ) (db : Database) (memory middle after : Memory) (first others : List StampedPacket) → LeavesAfter edition db memory first middle → LeavesAfter edition db middle others after
+    → LeavesAfter edition db memory (first ++ others) after
+leaves-append edition db memory middle after first others leaves more =
+    more ∙ ap (λ (c : Course). course_after_all c others) leaves ∙ sym (course-append (standing edition db memory) first others)
+
+-- ---- a first part of a text
+
+take-less : (xs ys : List ℕ) (n : ℕ) → (k : ℕ) × (take k (xs ++ ys) ≡ take n xs)
+take-less xs ys zero = (0, refl)
+take-less [] ys (suc n) = (0, refl)
+take-less (x ∷ xs) ys (suc n) = let (k, is) = take-less xs ys n in (suc k, ap (λ l. x ∷ l) is)
+
+-- a first part of a text is one of a longer text
+pub part-longer : (xs ys : List ℕ) (old new : Option (List ℕ)) → AppendsPrefix old new xs → AppendsPrefix old new (xs ++ ys)
+part-longer xs ys old new (n, wrote) = let (k, is) = take-less xs ys n in (k, subst (Appends old new) (sym is) wrote)
+
+-- a first part of a text behind another
+pub part-behind : (text tail : List ℕ) (old mid new : Option (List ℕ)) → Appends old mid text → AppendsPrefix mid new tail → AppendsPrefix old new (text ++ tail)
+part-behind text tail old mid new wrote (count, printed) =
+    (length text + count, subst (Appends old new) (sym (take-behind text tail count)) (Appends-trans old mid new text (take count tail) wrote printed))
+  where
+    take-behind : (xs ys : List ℕ) (n : ℕ) → take (length xs + n) (xs ++ ys) ≡ xs ++ take n ys
+    take-behind [] ys n = ap (λ k. take k ys) (zero-add n)
+    take-behind (x ∷ xs) ys n = let next : suc (length xs) + n ≡ suc (length xs + n) = omega arith in rw next (ap (λ t. x ∷ t) (take-behind xs ys n))
+
+-- ---- cells in their order
+
+stamped-more : (edition : ℕ) (db : Database) (cells : List Cell) (i : ℕ) (cell : Cell) → i < length cells → cell ≡ get_or cells i cell
+    → all_stamped edition db (take (i + 1) cells) ≡ all_stamped edition db (take i cells) ++ stamped_in edition db cell ∷ []
+stamped-more edition db cells i cell below is =
+    ap (all_stamped edition db) (take_more cells i cell below) ∙ map-append (stamped_in edition db) (take i cells) (get_or cells i cell ∷ [])
+    ∙ ap (λ x. all_stamped edition db (take i cells) ++ stamped_in edition db x ∷ []) (sym is)
+
+stamped-parts : (edition : ℕ) (db : Database) (cells : List Cell) (i : ℕ) (cell : Cell) → i < length cells → cell ≡ get_or cells i cell
+    → all_stamped edition db cells ≡ (all_stamped edition db (take i cells) ++ stamped_in edition db cell ∷ []) ++ all_stamped edition db (drop (i + 1) cells)
+stamped-parts edition db cells i cell below is =
+    ap (all_stamped edition db) (sym (take-append-drop (i + 1) cells)) ∙ map-append (stamped_in edition db) (take (i + 1) cells) (drop (i + 1) cells)
+    ∙ ap (λ s. s ++ all_stamped edition db (drop (i + 1) cells)) (stamped-more edition db cells i cell below is)
+
+module _ (edition : ℕ) (db : Database) (memory middle : Memory) (cells : List Cell) (i : ℕ) (cell : Cell) (below : i < length cells) (is : cell ≡ get_or cells i cell) (leaves : LeavesAfter edition db memory (all_stamped edition db (take i cells)) middle) where
+  text-push : batch_text edition db memory (all_stamped edition db (take i cells) ++ stamped_in edition db cell ∷ []) ≡ batch_text edition db memory (all_stamped edition db (take i cells)) ++ next_text edition db middle (stamped_in edition db cell)
+  text-push =
+      text-append edition db memory middle (all_stamped edition db (take i cells)) (stamped_in edition db cell ∷ []) leaves
+      ∙ ap (λ t. batch_text edition db memory (all_stamped edition db (take i cells)) ++ t) (text-one edition db middle (stamped_in edition db cell))
+
+  -- one cell more was finished
+  pub finished-more : (old mid new : Option (List ℕ)) → Appends old mid (batch_text edition db memory (all_stamped edition db (take i cells))) → Appends mid new (next_text edition db middle (stamped_in edition db cell))
+      → Appends old new (batch_text edition db memory (all_stamped edition db (take (i + 1) cells)))
+  finished-more old mid new wrote printed =
+      subst (Appends old new) (sym (ap (batch_text edition db memory) (stamped-more edition db cells i cell below is) ∙ text-push))
+      (Appends-trans old mid new (batch_text edition db memory (all_stamped edition db (take i cells))) (next_text edition db middle (stamped_in edition db cell)) wrote printed)
+
+  pub leaves-more : (after : Memory) → Leaves edition db middle (stamped_in edition db cell) after → LeavesAfter edition db memory (all_stamped edition db (take (i + 1) cells)) after
+  leaves-more after next =
+      subst (λ s. LeavesAfter edition db memory s after) (sym (stamped-more edition db cells i cell below is))
+      (leaves-append edition db memory middle after (all_stamped edition db (take i cells)) (stamped_in edition db cell ∷ []) leaves (leaves-one edition db middle after (stamped_in edition db cell) next))
+
+  -- writing stopped in the record of a cell
+  pub finished-part : (after : Memory) (old mid new : Option (List ℕ)) → Leaves edition db middle (stamped_in edition db cell) after → Appends old mid (batch_text edition db memory (all_stamped edition db (take i cells)))
+      → AppendsPrefix mid new (next_text edition db middle (stamped_in edition db cell)) → AppendsPrefix old new (batch_text edition db memory (all_stamped edition db cells))
+  finished-part after old mid new next wrote printed =
+      let first = all_stamped edition db (take i cells) ++ stamped_in edition db cell ∷ [] in
+      let others = all_stamped edition db (drop (i + 1) cells) in
+      let left = leaves-append edition db memory middle after (all_stamped edition db (take i cells)) (stamped_in edition db cell ∷ []) leaves (leaves-one edition db middle after (stamped_in edition db cell) next) in
+      let parts : batch_text edition db memory (all_stamped edition db cells) ≡ (batch_text edition db memory (all_stamped edition db (take i cells)) ++ next_text edition db middle (stamped_in edition db cell)) ++ batch_text edition db after others =
+      ap (batch_text edition db memory) (stamped-parts edition db cells i cell below is) ∙ text-append edition db memory after first others left ∙ ap (λ t. t ++ batch_text edition db after others) text-push in
+      subst (AppendsPrefix old new) (sym parts)
+      (part-longer (batch_text edition db memory (all_stamped edition db (take i cells)) ++ next_text edition db middle (stamped_in edition db cell)) (batch_text edition db after others) old new
+      (part-behind (batch_text edition db memory (all_stamped edition db (take i cells))) (next_text edition db middle (stamped_in edition db cell)) old mid new wrote printed))

@@ -1,0 +1,5 @@
+pub mod CellFacts
+pub mod FinishFacts
+pub mod BatchFacts
+pub mod RunSteps
+pub mod SharedPlans

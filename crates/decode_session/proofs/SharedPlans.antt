@@ -1,0 +1,33 @@
+-- The plans of an edition may be read by several threads.
+use denote.Param.Send.{IsSend, IsSync, sendable}
+use Rattle.std.proofs.Crossing.{crosses}
+use Rattle.std.proofs.MapsCrossing.{crosses as map_crosses}
+use Rattle.check_plan.specs.contracts.checks.Checks as Checks
+use Rattle.ident_plan.specs.contracts.ident.Ident as Ident
+use Rattle.param_plan.specs.contracts.choice.Choice as Choice
+use Rattle.param_plan.specs.contracts.param.Param as Param
+use Rattle.param_plan.specs.contracts.params.Params as Params
+
+choice-sync : IsSync Choice.the_row
+choice-sync = search (crosses, sendable) depth 60 fits 20000
+
+choice-send : IsSend Choice.the_row
+choice-send = search (crosses, sendable) depth 60 fits 20000
+
+checks-sync : IsSync Checks.the_row
+checks-sync = search (crosses, sendable) depth 60 fits 20000
+
+checks-send : IsSend Checks.the_row
+checks-send = search (crosses, sendable) depth 60 fits 20000
+
+param-sync : IsSync Param.the_row
+param-sync = search (choice-sync, checks-sync, crosses, sendable) depth 60 fits 20000
+
+param-send : IsSend Param.the_row
+param-send = search (choice-send, checks-send, crosses, sendable) depth 60 fits 20000
+
+pub params-sync : IsSync Params.the_row
+params-sync = search (param-send, param-sync, crosses, sendable) depth 60 fits 20000
+
+pub ident-sync : IsSync Ident.the_row
+ident-sync = search (map_crosses, crosses, sendable) depth 60 fits 20000

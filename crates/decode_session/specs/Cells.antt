@@ -1,0 +1,32 @@
+-- Packets between their reading and their records. [This project's own.]
+use Rattle.std.specs.Prelude.{◌≡◌, ℕ, List, take, map}
+use Rattle.decode_one.specs.Halves.{IsHalf}
+use Rattle.decode_session.specs.declared.cell.Cell.{Cell}
+use Rattle.mib_model.specs.declared.database.Database.{Database}
+use Rattle.mib_model.specs.Interpreter.{StampedPacket}
+
+-- the packet of a cell
+abbrev pub packet_in : Cell → List ℕ
+packet_in cell = take cell.octets cell.frame
+
+-- the packets of cells
+abbrev pub packets_in : List Cell → List (List ℕ)
+packets_in cells = map packet_in cells
+
+-- the packet of a cell with its number, of an edition with these tables
+abbrev pub stamped_in : ℕ → Database → Cell → StampedPacket
+stamped_in edition db cell = record { number = cell.number; packet = packet_in cell; edition = edition; tables = db }
+
+-- the packets of cells with their numbers
+abbrev pub all_stamped : ℕ → Database → List Cell → List StampedPacket
+all_stamped edition db cells = map (stamped_in edition db) cells
+
+-- a cell's packet was decoded by a database
+abbrev pub IsReady : Database → Cell → Type 0
+IsReady db cell = IsHalf db (packet_in cell) cell.half cell.slots
+
+-- a worker decoded a cell's packet by a database
+pub record IsDecoded (db : Database) (before after : Cell) : Type 0 where
+  pub same_number : after.number ≡ before.number
+  pub same_packet : packet_in after ≡ packet_in before
+  pub is_half : IsHalf db (packet_in before) after.half after.slots

@@ -1,0 +1,39 @@
+-- Packets of one edition on the way to their records. [This project's own.]
+use Rattle.std.specs.Prelude.{◌≡◌, ℕ, ◌+◌, List, [], ◌++◌, length, Option, Some, None, ⊤}
+use Rattle.std.specs.List.{All, concat}
+use Rattle.decode_session.specs.Run.{Writes}
+use Rattle.mib_model.specs.declared.database.Database.{Database}
+use Rattle.mib_model.specs.Interpreter.{Course, StampedPacket, start, record_for, course_after, interpret, course_after_all, records_text}
+use Rattle.mib_model.specs.Kept.{Memory}
+use Rattle.mib_model.specs.Output.{stamped_from}
+use Rattle.mib_model.specs.Packets.{IsPacket}
+use Rattle.mib_model.specs.Texts.{record_text}
+
+-- where the interpreter stands with this edition, its tables and this kept
+abbrev pub standing : ℕ → Database → Memory → Course
+standing edition db memory = record { memory = memory; edition = edition; tables = db }
+
+-- the text of a packet that comes there
+abbrev pub next_text : ℕ → Database → Memory → StampedPacket → List ℕ
+next_text edition db memory s = record_text (record_for (standing edition db memory) s)
+
+-- the text of packets that come there
+abbrev pub batch_text : ℕ → Database → Memory → List StampedPacket → List ℕ
+batch_text edition db memory stamped = records_text (interpret (standing edition db memory) stamped)
+
+-- this is kept after a packet that comes there
+abbrev pub Leaves : ℕ → Database → Memory → StampedPacket → Memory → Type 0
+Leaves edition db memory s after = standing edition db after ≡ course_after (standing edition db memory) s
+
+-- this is kept after packets that come there
+abbrev pub LeavesAfter : ℕ → Database → Memory → List StampedPacket → Memory → Type 0
+LeavesAfter edition db memory stamped after = standing edition db after ≡ course_after_all (standing edition db memory) stamped
+
+-- in a run of edition 1 the packets before the one of this number were read and printed, and this is kept after them
+abbrev pub Going : Database → ℕ → Memory → Option (List ℕ) → Option (List ℕ) → Option (List ℕ) → Option (List ℕ) → Type 0
+Going db number memory None left old new = ⊤
+Going db number memory (Some octets) None old new = ⊥
+Going db number memory (Some octets) (Some left) old new =
+    (packets : List (List ℕ))
+    × (octets ≡ concat packets ++ left) × All IsPacket packets × (length packets + 1 ≡ number) × Writes db packets [] old new
+    × (standing 1 db memory ≡ course_after_all (start db) (stamped_from db 1 packets))

@@ -1,0 +1,42 @@
+// A batch is decoded.
+ghost use Rattle.std.specs.Prelude.{◌≡◌, ◌≤◌, vec_len, vec_capacity};
+ghost use Rattle.std.specs.List.{AllZip};
+ghost use Rattle.decode_session.specs.Cells.{IsDecoded};
+
+use crate::cell::Cell;
+use decode_one::decode;
+use decode_pool::{Work, run_batch};
+use edition_plans::Plans;
+use std::thread::Threads;
+
+/// What a worker does: it decodes a cell's packet by these plans.
+#[derive(Drop)]
+struct Decoding<'a, P> {
+    plans: &'a P,
+}
+
+impl<P: Plans + Sync> Work for Decoding<'_, P> {
+    type Cell = Cell;
+
+    ghost made = { λ work before after. IsDecoded (P.tables work.plans.now) before after };
+
+    fn work(&self, cell: &mut Cell) {
+        let packet = &cell.frame.slice()[..cell.octets as usize];
+        cell.half = decode(self.plans, cell.header, packet, cell.slots.slice_mut());
+    }
+}
+
+/// Decodes all cells by these plans, with so many workers.
+pub fn decode_batch<P: Plans + Sync, R: Threads + Sync>(
+    rt: &R,
+    plans: &P,
+    cells: &mut Vec<Cell>,
+    workers: u8,
+)
+    requires { 1 ≤ workers }
+    ensures decoded { AllZip (IsDecoded (P.tables plans.now)) cells.old.items cells.new.items }
+    ensures count { vec_len cells.new ≡ vec_len cells.old }
+    ensures room { vec_capacity cells.old ≤ vec_capacity cells.new }
+{
+    run_batch(rt, &Decoding { plans }, cells, workers);
+}

@@ -1,0 +1,87 @@
+// A batch is finished.
+ghost use Rattle.std.specs.Prelude.{◌≡◌, ℕ, ◌+◌, ◌≤◌, [], vec_len, vec_capacity, OnOk, OnErr};
+ghost use Rattle.std.specs.List.{All};
+ghost use Rattle.std.specs.Io.KnownBytes.{Appends};
+ghost use Rattle.decode_session.specs.Cells.{IsReady, stamped_in, all_stamped};
+ghost use Rattle.decode_session.specs.Finishing.{next_text, batch_text, Leaves, LeavesAfter};
+ghost use Rattle.edition_plans.specs.Params.{param_slices};
+ghost use Rattle.fold_state.specs.Boards.{memory_of, plan_names};
+ghost use Rattle.tm_io.specs.Causes.{HasCause};
+ghost use Rattle.tm_io.specs.Octets.{AppendsPrefix};
+
+use crate::cell::Cell;
+use crate::room::Room;
+use decode_one::finish;
+use edition_plans::Plans;
+use fold_state::Board;
+use record_text::Lines;
+use tm_io::{Failed, Sink, write_all};
+
+// Writes the record of a packet that was decoded, without the line of its edition.
+fn finish_cell<P: Plans, O: Sink>(
+    plans: &P,
+    cell: &Cell,
+    board: &mut Board,
+    lines: &mut Lines,
+    out: &mut O,
+) -> Result<(), Failed>
+    requires ready { IsReady (P.tables plans.now) cell.now }
+    requires board { board.old.names ≡ plan_names (param_slices (P.tables plans.now)) }
+    ensures board { board.new.names ≡ board.old.names }
+    ensures kept { (edition : ℕ) → Leaves edition (P.tables plans.now) (memory_of board.old) (stamped_in edition (P.tables plans.now) cell.now) (memory_of board.new) }
+    ensures all { (edition : ℕ) → let text = next_text edition (P.tables plans.now) (memory_of board.old) (stamped_in edition (P.tables plans.now) cell.now) in
+        OnOk result (Appends (O.written out.old) (O.written out.new) text) }
+    ensures part { (edition : ℕ) → let text = next_text edition (P.tables plans.now) (memory_of board.old) (stamped_in edition (P.tables plans.now) cell.now) in
+        OnErr result (AppendsPrefix (O.written out.old) (O.written out.new) text) }
+    ensures cause { HasCause (O.faults out.old) (O.faults out.new) result }
+{
+    lines.clear();
+    finish(
+        plans,
+        cell.number,
+        cell.packet(),
+        &cell.half,
+        cell.slots.slice(),
+        board,
+        lines,
+    );
+    write_all(out, lines.bytes())
+}
+
+/// Writes the records of packets that were decoded, in their order. They are of one edition, which is in use already.
+pub fn finish_batch<P: Plans, O: Sink>(
+    plans: &P,
+    cells: &[Cell],
+    board: &mut Board,
+    lines: &mut Lines,
+    out: &mut O,
+) -> Result<(), Failed>
+    requires ready { All (IsReady (P.tables plans.now)) cells.now }
+    requires board { board.old.names ≡ plan_names (param_slices (P.tables plans.now)) }
+    ensures board { board.new.names ≡ board.old.names }
+    ensures kept { (edition : ℕ) → let stamped = all_stamped edition (P.tables plans.now) cells.now in
+        OnOk result (LeavesAfter edition (P.tables plans.now) (memory_of board.old) stamped (memory_of board.new)) }
+    ensures all { (edition : ℕ) → let text = batch_text edition (P.tables plans.now) (memory_of board.old) (all_stamped edition (P.tables plans.now) cells.now) in
+        OnOk result (Appends (O.written out.old) (O.written out.new) text) }
+    ensures part { (edition : ℕ) → let text = batch_text edition (P.tables plans.now) (memory_of board.old) (all_stamped edition (P.tables plans.now) cells.now) in
+        OnErr result (AppendsPrefix (O.written out.old) (O.written out.new) text) }
+    ensures cause { HasCause (O.faults out.old) (O.faults out.new) result }
+{
+    for cell in cells {
+        finish_cell(plans, cell, board, lines, out)?;
+    }
+    Ok(())
+}
+
+/// Frees the rooms of cells.
+pub fn free_rooms(cells: &mut Vec<Cell>, rooms: &mut Vec<Room>)
+    requires { vec_len rooms.old + vec_len cells.old ≤ vec_capacity rooms.old }
+    ensures empty { cells.new.items ≡ [] }
+    ensures free { vec_len rooms.new ≡ vec_len rooms.old + vec_len cells.old }
+    ensures rooms { vec_capacity rooms.old ≤ vec_capacity rooms.new }
+    ensures cells { vec_capacity cells.old ≤ vec_capacity cells.new }
+{
+    while let Some(cell) = cells.pop() {
+        rooms.push_reserved(cell.into_room());
+    }
+}

@@ -1,0 +1,145 @@
+// The buffers of a run.
+ghost use Rattle.std.specs.Prelude.{◌≡◌, ◌+◌, ◌≤◌, [], vec_len, vec_capacity, IfOk, OnOk};
+ghost use Rattle.edition_plans.specs.Params.{param_slices};
+ghost use Rattle.fold_state.specs.Boards.{memory_of, plan_names};
+ghost use Rattle.mib_model.specs.Kept.{empty_memory};
+ghost use Rattle.decode_session.specs.Homes.{AreOut};
+ghost use Rattle.decode_session.specs.Run.{most_in_flight};
+
+use crate::cell::Cell;
+use crate::finishing::free_rooms;
+use crate::room::Room;
+use bit_field::{MOST_VALUES, shape_of};
+use edition_plans::Plans;
+use fold_state::Board;
+use frame_region::Region;
+use mib_model::{Endian, Name, Shape, Value};
+use packet_feed::PACKET_SIZE;
+use record_text::Lines;
+use std::alloc::{AllocError, Global};
+
+// The most packets of a batch.
+const BATCH: u16 = 64;
+
+/// Where the buffers of packets are at home.
+#[derive(Drop)]
+pub struct Home {
+    frames: Region<u8>,
+    slots: Region<Value>,
+}
+
+/// What a run needs: rooms that are free, and cells; what is kept from packet to packet; and the text of a record.
+#[derive(Drop)]
+pub struct Stock {
+    pub rooms: Vec<Room>,
+    pub cells: Vec<Cell>,
+    pub board: Board,
+    pub lines: Lines,
+}
+
+// The shape of one bit.
+#[tactic(auto, unfolding(mib_model::specs::Encodings::encoding_of, mib_model::specs::Encodings::type_of))]
+fn bit() -> Shape {
+    match shape_of(1, 0, Endian::B) {
+        Some(shape) => shape,
+        None => unreachable!(),
+    }
+}
+
+// A name of one octet.
+fn name() -> Name {
+    match Name::new(b"-") {
+        Some(name) => name,
+        None => unreachable!(),
+    }
+}
+
+// What stands in a slot that isn't in use.
+fn unused() -> Value {
+    Value {
+        name: name(),
+        at: 0,
+        raw: 0,
+        shape: bit(),
+    }
+}
+
+impl Home {
+    /// Buffers for a batch, all at home. An error is want of memory.
+    pub fn new(alloc: Global) -> Result<Home, AllocError>
+        ensures { IfOk result (λ home. AreOut 0 home) }
+    {
+        Ok(Home {
+            frames: Region::new(alloc, BATCH, PACKET_SIZE, 0)?,
+            slots: Region::new(alloc, BATCH, MOST_VALUES as usize, unused())?,
+        })
+    }
+
+    // Takes a room for each packet of a batch.
+    fn take_rooms(&mut self, alloc: Global) -> Result<Vec<Room>, AllocError>
+        requires { AreOut 0 self.old }
+        ensures out { OnOk result (AreOut most_in_flight self.new) }
+        ensures free { IfOk result (λ rooms. vec_len rooms ≡ most_in_flight) }
+        ensures room { IfOk result (λ rooms. most_in_flight ≤ vec_capacity rooms) }
+    {
+        let mut rooms = Vec::with_capacity(alloc, usize::from(BATCH))?;
+        for _ in 0..BATCH {
+            let Some(frame) = self.frames.take() else {
+                unreachable!()
+            };
+            let Some(slots) = self.slots.take() else {
+                unreachable!()
+            };
+            rooms.push_reserved(Room { frame, slots });
+        }
+        Ok(rooms)
+    }
+
+    // Takes rooms back.
+    fn give_rooms(&mut self, mut rooms: Vec<Room>)
+        requires { AreOut (vec_len rooms) self.old }
+        ensures { AreOut 0 self.new }
+    {
+        while let Some(Room { frame, slots }) = rooms.pop() {
+            self.frames.give(frame);
+            self.slots.give(slots);
+        }
+    }
+}
+
+impl Stock {
+    /// What a run that begins by these plans needs, which keeps nothing yet. An error is want of memory.
+    pub fn new<P: Plans>(alloc: Global, plans: &P, home: &mut Home) -> Result<Stock, AllocError>
+        requires { AreOut 0 home.old }
+        ensures out { OnOk result (AreOut most_in_flight home.new) }
+        ensures free { IfOk result (λ stock. vec_len stock.rooms ≡ most_in_flight) }
+        ensures rooms { IfOk result (λ stock. most_in_flight ≤ vec_capacity stock.rooms) }
+        ensures empty { IfOk result (λ stock. stock.cells.items ≡ []) }
+        ensures cells { IfOk result (λ stock. most_in_flight ≤ vec_capacity stock.cells) }
+        ensures names { IfOk result (λ stock. stock.board.names ≡ plan_names (param_slices (P.tables plans.now))) }
+        ensures memory { IfOk result (λ stock. memory_of stock.board ≡ empty_memory) }
+    {
+        Ok(Stock {
+            rooms: home.take_rooms(alloc)?,
+            cells: Vec::with_capacity(alloc, usize::from(BATCH))?,
+            board: Board::new(alloc, plans.params())?,
+            lines: Lines::new(alloc)?,
+        })
+    }
+
+    /// Gives all rooms back, those of cells too.
+    pub fn close(self, home: &mut Home)
+        requires out { AreOut (vec_len self.rooms + vec_len self.cells) home.old }
+        requires rooms { vec_len self.rooms + vec_len self.cells ≤ vec_capacity self.rooms }
+        ensures { AreOut 0 home.new }
+    {
+        let Stock {
+            mut rooms,
+            mut cells,
+            board: _,
+            lines: _,
+        } = self;
+        free_rooms(&mut cells, &mut rooms);
+        home.give_rooms(rooms);
+    }
+}

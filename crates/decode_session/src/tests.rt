@@ -1,0 +1,259 @@
+//! Whole runs over a database without rows.
+ghost use Rattle.std.specs.Prelude.{◌≡◌, ◌≤◌, [], IfOk};
+
+use super::*;
+use edition_plans::{Ident, Layout, Params, Plans, Structure, Structures};
+use mib_model::{Steps, Text, TypeItem};
+use std::alloc::{AllocError, Global};
+use std::marker::Brand;
+use std::sync::ledger::{Blank, Ledger};
+use std::test::Fail;
+use std::thread::Threads;
+use tm_io::{Failed, MemFile, MemShelf, MemSink, Shelf, Sink, Source};
+
+// The plans of a database without rows.
+#[derive(Drop)]
+struct Bare {
+    ident: Ident,
+    params: Params,
+    ghost no_ident: { ident ≡ record { pids = []; pics = [] } },
+    ghost no_params: { params ≡ [] },
+}
+
+impl Structures for Bare {
+    ghost use Rattle.mib_model.specs.Database.{no_rows};
+
+    ghost tables = { λ _. no_rows };
+
+    #[tactic(auto, unfolding(mib_model::specs::Soundness::flaws, mib_model::specs::Flaws::table_flaws, mib_model::specs::Structures::structure, mib_model::specs::Orders::sorted_by))]
+    fn structure(&self, _tpsd: i128) -> Option<&Structure> {
+        None
+    }
+
+    #[tactic(auto, unfolding(mib_model::specs::Structures::deduced))]
+    fn deduced(&self, _pid: i128) -> Option<TypeItem> {
+        None
+    }
+}
+
+impl Plans for Bare {
+    #[tactic(auto, unfolding(mib_model::specs::Soundness::flaws, mib_model::specs::Flaws::table_flaws))]
+    fn ident(&self) -> &Ident {
+        &self.ident
+    }
+
+    #[tactic(auto, unfolding(edition_plans::specs::Layouts::layout_of))]
+    fn layout(&self, _spid: u32) -> Option<&Layout> {
+        None
+    }
+
+    #[tactic(auto, unfolding(mib_model::specs::Soundness::flaws, mib_model::specs::Flaws::table_flaws, mib_model::specs::Orders::sorted_by, edition_plans::specs::Params::param_slices))]
+    fn params(&self) -> &Params {
+        &self.params
+    }
+
+    fn title(&self, _spid: u32) -> Option<&Text> {
+        None
+    }
+}
+
+fn ident_with<L: Ledger>(alloc: Global, blank: Blank) -> Result<Ident, AllocError>
+    requires name { blank.name ≡ L.name }
+    requires parts { blank.parts ≡ L.parts }
+    requires one { blank.parts ≡ 1 }
+    ensures { IfOk result (λ ident. ident ≡ record { pids = []; pics = [] }) }
+{
+    Ident::compile(alloc, &[], &[], &mut Steps::<L>::new(blank))
+}
+
+fn bare_plans(alloc: Global) -> Result<Bare, AllocError> {
+    Ok(Bare {
+        ident: ident_with::<Brand>(alloc, Blank::new(1))?,
+        params: Params::new(Vec::new(alloc)),
+    })
+}
+
+// A run with these plans.
+fn run<R: Threads + Sync, S: Source, O: Sink>(
+    rt: &R,
+    alloc: Global,
+    source: &mut S,
+    out: &mut O,
+    workers: u8,
+) -> Result<Result<RunEnd, RunFault>, Fail>
+    requires { 1 ≤ workers }
+{
+    let plans = bare_plans(alloc)?;
+    Ok(decode_run(rt, alloc, &plans, source, out, workers))
+}
+
+// A feed of this file, which fails at these positions and gives so many octets at once.
+fn feed(alloc: Global, octets: &[u8], fails: &[u64], most: usize) -> Result<MemShelf, Fail>
+    requires { 1 ≤ most }
+{
+    let file = MemFile {
+        name: String::from_str(alloc, "feed")?,
+        bytes: Vec::from_slice(alloc, octets)?,
+        fails: Vec::from_slice(alloc, fails)?,
+    };
+    let mut shelf = MemShelf::new(vec![in alloc; file]?, most);
+    let _turned = shelf.aim("feed");
+    Ok(shelf)
+}
+
+// So many packets of APID 100, counted from 0.
+fn packets(alloc: Global, count: u8) -> Result<Vec<u8>, Fail> {
+    let mut octets = Vec::new(alloc);
+    for n in 0..count {
+        octets.extend_from_slice(&[0x08, 0x64, 0xC0, n, 0x00, 0x02, 0x10, 0x03, 0x19])?;
+    }
+    Ok(octets)
+}
+
+// Their records.
+fn records(alloc: Global, count: u8) -> Result<String, Fail> {
+    let mut text = String::new(alloc);
+    for n in 0..count {
+        let number = u16::from(n) + 1;
+        text.push_str(&format!(in alloc; "PKT {number} APID 100 COUNT {n} TYPE 3/25 UNKNOWN\n")?)?;
+    }
+    Ok(text)
+}
+
+#[test]
+fn any_number_of_workers_prints_the_packets_in_their_order(rt: HostRuntime) -> Result<(), Fail> {
+    let alloc = rt.alloc();
+    let octets = packets(alloc, 150)?;
+    let text = records(alloc, 150)?;
+    for workers in [1u8, 3, 16] {
+        let workers = workers.max(1);
+        let mut out = MemSink::new(alloc, 4096, Vec::new(alloc))?;
+        let ended = run(
+            &rt,
+            alloc,
+            &mut feed(alloc, &octets, &[], 7)?,
+            &mut out,
+            workers,
+        )?;
+        assert_eq!(rt; ended, Ok(RunEnd::Whole), "by {workers}");
+        assert_eq!(rt; out.handed(), text.as_bytes(), "by {workers}");
+    }
+    Ok(())
+}
+
+#[test]
+fn a_rest_is_told_behind_the_records(rt: HostRuntime) -> Result<(), Fail> {
+    let alloc = rt.alloc();
+    let mut octets = packets(alloc, 3)?;
+    octets.truncate(23);
+    let mut text = records(alloc, 2)?;
+    text.push_str("CUT 5\n")?;
+    let mut out = MemSink::new(alloc, 10, Vec::new(alloc))?;
+    let ended = run(&rt, alloc, &mut feed(alloc, &octets, &[], 4)?, &mut out, 2)?;
+    assert_eq!(rt; ended, Ok(RunEnd::Cut(5)));
+    assert_eq!(rt; out.handed(), text.as_bytes());
+    Ok(())
+}
+
+#[test]
+fn a_fault_of_the_feed_leaves_the_records_before_it(rt: HostRuntime) -> Result<(), Fail> {
+    let alloc = rt.alloc();
+    let octets = packets(alloc, 9)?;
+    for at in [0u64, 36, 43, 81] {
+        let text = records(alloc, (at / 9) as u8)?;
+        let mut out = MemSink::new(alloc, 10, Vec::new(alloc))?;
+        let ended = run(
+            &rt,
+            alloc,
+            &mut feed(alloc, &octets, &[at], 5)?,
+            &mut out,
+            2,
+        )?;
+        assert_eq!(rt; ended, Err(RunFault::Feed), "at {at}");
+        assert_eq!(rt; out.handed(), text.as_bytes(), "at {at}");
+    }
+    Ok(())
+}
+
+#[test]
+fn a_fault_of_the_output_ends_the_run(rt: HostRuntime) -> Result<(), Fail> {
+    let alloc = rt.alloc();
+    let octets = packets(alloc, 9)?;
+    let text = records(alloc, 9)?;
+    let mut out = MemSink::new(alloc, 10, Vec::from_slice(alloc, &[100])?)?;
+    let ended = run(&rt, alloc, &mut feed(alloc, &octets, &[], 5)?, &mut out, 2)?;
+    assert_eq!(rt; ended, Err(RunFault::Print(Stop::Out)));
+    assert_eq!(rt; out.bytes().len(), 100);
+    assert!(rt; text.as_bytes().starts_with(out.bytes()));
+    Ok(())
+}
+
+// A source of which nothing is known to be there.
+#[derive(Drop)]
+struct Late<S> {
+    source: S,
+}
+
+impl<S: Source> Source for Late<S> {
+    ghost left = { λ late. S.left late.source };
+
+    ghost faults = { λ late. S.faults late.source };
+
+    ghost holds = { λ late. S.holds late.source };
+
+    ghost missed = { λ late. S.missed late.source };
+
+    ghost borrow = { λ late. S.borrow late.source };
+
+    fn read(&mut self, buf: &mut [u8]) -> Result<usize, Failed> {
+        self.source.read(buf)
+    }
+
+    fn at_hand(&self) -> &[u8] {
+        &[]
+    }
+}
+
+// Counts how often it was asked to hand on.
+#[derive(Drop)]
+struct Flushes {
+    count: u64,
+}
+
+impl Sink for Flushes {
+    ghost use Rattle.std.specs.Prelude.{None};
+
+    ghost written = { λ _. None };
+
+    ghost handed = { λ _. None };
+
+    ghost faults = { λ _. 0 };
+
+    fn write(&mut self, piece: &[u8]) -> Result<usize, Failed> {
+        Ok(piece.len())
+    }
+
+    fn flush(&mut self) -> Result<(), Failed> {
+        self.count = self.count.wrapping_add(1);
+        Ok(())
+    }
+}
+
+#[test]
+fn what_was_written_is_handed_on_before_a_wait(rt: HostRuntime) -> Result<(), Fail> {
+    let alloc = rt.alloc();
+    let octets = packets(alloc, 9)?;
+    let mut out = Flushes { count: 0 };
+    let mut source = feed(alloc, &octets, &[], 5)?;
+    let ended = run(&rt, alloc, &mut source, &mut out, 2)?;
+    assert_eq!(rt; ended, Ok(RunEnd::Whole));
+    assert_eq!(rt; out.count, 2);
+    out.count = 0;
+    let mut source = Late {
+        source: feed(alloc, &octets, &[], 5)?,
+    };
+    let ended = run(&rt, alloc, &mut source, &mut out, 2)?;
+    assert_eq!(rt; ended, Ok(RunEnd::Whole));
+    assert_eq!(rt; out.count, 11);
+    Ok(())
+}

@@ -1,0 +1,3 @@
+pub mod HandlingFacts
+pub mod KeyFacts
+pub mod ShownFacts

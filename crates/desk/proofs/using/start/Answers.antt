@@ -1,0 +1,11 @@
+use Rattle.std.proofs.Common.{◌∙◌, ap}
+use Rattle.edition_plans.specs.Params.{param_slices}
+use Rattle.fold_state.specs.Boards.{plan_names}
+use Rattle.desk.proofs.ShownFacts.{made-for}
+use Rattle.desk.proofs.using.start.Goals as goal
+
+pub returns : goal.returns
+returns c = (
+  c.in_ok-handle.ensures,
+  made-for _ c.in_ok-board.board (c.in_ok-board.ensures.names ∙ ap plan_names (c.params.ensures.slices ∙ ap param_slices (c.deref.ensures ∙ c.in_ok-handle.ensures))),
+)

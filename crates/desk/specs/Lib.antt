@@ -1,0 +1,4 @@
+pub mod State
+pub mod Handling
+pub mod Saving
+pub mod Using

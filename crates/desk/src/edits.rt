@@ -1,0 +1,72 @@
+// Lines that edit the draft.
+ghost use Rattle.std.specs.Prelude.{◌≡◌, Some, List};
+ghost use Rattle.mib_model.specs.DeskLines as Spec;
+
+use crate::desk::Desk;
+use mib_model::{Kind, Reply};
+use mib_rows::{ReadFault, read_key, read_row};
+use mib_tables::Put;
+use std::alloc::Global;
+
+impl Desk {
+    ghost use Rattle.mib_model.specs.RegisterHistories.{RegisterHistory};
+    ghost use Rattle.desk.specs.State.{desk_of, editions_of};
+    ghost use Rattle.desk.specs.Handling.{Handles};
+
+    // Puts a row into the draft.
+    pub(crate) fn put(&mut self, alloc: Global, table: Kind, row: &[u8]) -> Reply
+        ensures handles { (own : RegisterHistory) → Handles (Spec.Put table row.now) (desk_of self.old) own own (Some result) (desk_of self.new) }
+        ensures editions { editions_of self.new ≡ editions_of self.old }
+    {
+        let row = match read_row(alloc, table, row) {
+            Ok(row) => row,
+            Err(ReadFault::Mib(fault)) => {
+                return Reply::BadRow {
+                    code: fault.code,
+                    column: fault.column,
+                };
+            }
+            Err(ReadFault::Memory) => return Reply::Want,
+        };
+        match self.draft.put(row) {
+            Ok(Put::Added) => Reply::Added,
+            Ok(Put::Replaced) => Reply::Replaced,
+            Err(_) => Reply::Want,
+        }
+    }
+
+    // Takes the first row with a key out of the draft.
+    pub(crate) fn delete(&mut self, alloc: Global, table: Kind, key: &[u8]) -> Reply
+        ensures handles { (own : RegisterHistory) → Handles (Spec.Delete table key.now) (desk_of self.old) own own (Some result) (desk_of self.new) }
+        ensures editions { editions_of self.new ≡ editions_of self.old }
+    {
+        let key = match read_key(alloc, table, key) {
+            Ok(key) => key,
+            Err(ReadFault::Mib(fault)) => {
+                return Reply::BadRow {
+                    code: fault.code,
+                    column: fault.column,
+                };
+            }
+            Err(ReadFault::Memory) => return Reply::Want,
+        };
+        match self.draft.del(&key) {
+            Ok(()) => Reply::Deleted,
+            Err(_) => Reply::NoRow,
+        }
+    }
+
+    // Gives the draft the rows that it was made from.
+    pub(crate) fn restore(&mut self) -> Reply
+        ensures handles { (own : RegisterHistory) → Handles Spec.Drop (desk_of self.old) own own (Some result) (desk_of self.new) }
+        ensures editions { editions_of self.new ≡ editions_of self.old }
+    {
+        match self.base.book().copy() {
+            Ok(draft) => {
+                self.draft = draft;
+                Reply::Dropped
+            }
+            Err(_) => Reply::Want,
+        }
+    }
+}

@@ -1,0 +1,108 @@
+// A draft that is saved as an edition.
+ghost use Rattle.std.specs.Prelude.{◌≡◌, ◌<◌, ◌≤◌, ◌+◌, ◌^◌, length, Some, IfOk, MatchResult};
+ghost use Rattle.desk.specs.Saving.{IsReady, IsReadyFor, IsNoEdition};
+ghost use Rattle.std.specs.Arc.{arc_value};
+ghost use Rattle.histories.specs.History.{StartsWith};
+ghost use Rattle.turn_cell.specs.Seats.{own_moves, seen_by};
+ghost use Rattle.edition_register.specs.Seats.{IsSeat, first_of, shown_in};
+ghost use Rattle.mib_model.specs.DeskLines as Spec;
+
+use crate::desk::Desk;
+use edition::{Edition, SaveFault};
+use edition_register::{AddFault, Editions, Register};
+use fold_state::Board;
+use mib_model::{Reply, Steps};
+use mib_tables::Book;
+use std::alloc::{AllocError, Global};
+use std::sync::ledger::Ledger;
+use std::sync::{Arc, Wait};
+use turn_cell::Seat;
+
+/// An edition of the draft, ready to be added, with the handles that the desk keeps, and how many plans were compiled.
+#[derive(Drop)]
+pub(crate) struct Ready {
+    payload: Arc<Edition>,
+    kept: Arc<Edition>,
+    base: Arc<Edition>,
+    plans: u32,
+}
+
+// Three handles of one edition.
+fn three_handles(alloc: Global, edition: Edition, plans: u32) -> Result<Ready, AllocError>
+    ensures { IfOk result (IsReady edition plans) }
+{
+    let payload = Arc::new(alloc, edition)?;
+    let kept = Arc::try_clone(&payload)?;
+    let base = Arc::try_clone(&payload)?;
+    Ok(Ready {
+        payload,
+        kept,
+        base,
+        plans,
+    })
+}
+
+// The edition of a draft, or the reply to a draft that is none.
+fn amended<L: Ledger>(
+    alloc: Global,
+    base: &Edition,
+    draft: &Book,
+    steps: &mut Steps<L>,
+) -> Result<Ready, Reply>
+    ensures ready { MatchResult result (λ r. IsReadyFor base.now draft.now r) (IsNoEdition draft.now) }
+    ensures steps { IfOk result (λ r. steps.new ≡ steps.old + r.plans) }
+{
+    match Edition::amend(alloc, base, draft, steps) {
+        Ok(amended) => match three_handles(alloc, amended.edition, amended.plans) {
+            Ok(ready) => Ok(ready),
+            Err(_) => Err(Reply::Want),
+        },
+        Err(SaveFault::Mib(flaw)) => Err(Reply::Unsound(flaw)),
+        Err(SaveFault::Memory) => Err(Reply::Want),
+    }
+}
+
+impl Desk {
+    ghost use Rattle.desk.specs.State.{desk_of, editions_of};
+    ghost use Rattle.desk.specs.Handling.{Handles, Ticks};
+
+    // Saves the draft.
+    pub(crate) fn save<L: Ledger, R: Wait>(
+        &mut self,
+        rt: &R,
+        alloc: Global,
+        register: &Register<Edition, Board>,
+        seat: &mut Seat<Editions<Edition, Board>>,
+        steps: &mut Steps<L>,
+    ) -> Reply
+        requires seat { IsSeat 1 register.now seat.old }
+        requires room { length (own_moves seat.old) < 2 ^ 32 }
+        requires editions { editions_of self.old ≡ shown_in (first_of register.now) (own_moves seat.old) }
+        ensures seat { IsSeat 1 register.now seat.new }
+        ensures editions { editions_of self.new ≡ shown_in (first_of register.now) (own_moves seat.new) }
+        ensures handles { Handles Spec.Save (desk_of self.old) (own_moves seat.old) (own_moves seat.new) (Some result) (desk_of self.new) }
+        ensures few { length (own_moves seat.new) ≤ length (own_moves seat.old) + 1 }
+        ensures seen { StartsWith (seen_by seat.new) (seen_by seat.old) }
+        ensures steps { Ticks Spec.Save (Some result) steps.old steps.new }
+    {
+        let ready = match amended(alloc, &self.base, &self.draft, steps) {
+            Ok(ready) => ready,
+            Err(reply) => return reply,
+        };
+        let Ok(()) = self.editions.reserve(1) else {
+            return Reply::Want;
+        };
+        match register.add(rt, seat, ready.payload) {
+            Ok(edition) => {
+                self.editions.push_reserved(ready.kept);
+                self.base = ready.base;
+                self.edition = edition;
+                Reply::Saved {
+                    edition,
+                    plans: ready.plans,
+                }
+            }
+            Err(AddFault::Full { .. }) => Reply::FullEditions,
+        }
+    }
+}

@@ -1,0 +1,6 @@
+pub mod CutFacts
+pub mod WordFacts
+pub mod LongFacts
+pub mod AheadFacts
+pub mod PieceFacts
+pub mod ReaderFacts

@@ -1,0 +1,5 @@
+use Rattle.desk_lines.proofs.AheadFacts.{still-start}
+use Rattle.desk_lines.proofs.laws.still_at_start.Goals as goal
+
+pub returns : goal.returns
+returns c = still-start

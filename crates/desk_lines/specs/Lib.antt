@@ -1,0 +1,5 @@
+pub mod Ahead
+pub mod Pieces
+pub mod Reader
+pub mod Gives
+pub mod Requests

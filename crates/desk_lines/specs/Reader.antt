@@ -1,0 +1,11 @@
+-- What contracts see of a reader. [This profile.]
+use Rattle.desk_lines.specs.declared.reader.DeskReader.{DeskReader}
+use Rattle.desk_lines.specs.Ahead.{Reading}
+
+-- the source of a reader
+abbrev pub source_of : {S : Type 0} → DeskReader S → S
+source_of reader = reader.source
+
+-- how far a reader has read
+abbrev pub reading_of : {S : Type 0} → DeskReader S → Reading
+reading_of reader = record { lines = reader.lines; octets = reader.octets }

@@ -1,0 +1,35 @@
+-- The fixed layouts of a database beside those of a base. [SCOS-2000 Database Import ICD, pid and plf; this profile.]
+use Rattle.std.specs.Prelude.{ℕ, Bool, false, List, Option, Some, None, filter, ◌&&◌, not, if◌then◌else◌}
+use Rattle.edition_plans.specs.Layouts.{layout_of, layout_slice}
+use Rattle.layout_plan.specs.Slices.{LayoutRows}
+use Rattle.mib_model.specs.declared.database.Database.{Database}
+use Rattle.mib_model.specs.declared.plan.Slice.{Slice}
+use Rattle.mib_model.specs.declared.plan.Slice.TheVariants as slice
+use Rattle.mib_model.specs.declared.rows.PidRow.{PidRow}
+use Rattle.mib_model.specs.Fixed.{has_layout}
+use Rattle.mib_model.specs.Touched.{same_slice}
+
+-- what a layout is compiled of, as the slice of a plan
+abbrev pub as_slice : LayoutRows → Slice
+as_slice rows = slice.Layout rows.pid rows.plfs rows.types
+
+-- whether two layouts are compiled of the same rows and type items
+abbrev pub is_same : LayoutRows → LayoutRows → Bool
+is_same old new = same_slice (as_slice old) (as_slice new)
+
+-- whether a layout is there, and compiled of the same
+abbrev pub has_same : Option LayoutRows → LayoutRows → Bool
+has_same None new = false
+has_same (Some old) new = is_same old new
+
+-- a packet of fixed layout whose layout the base lacks, or has of other rows or type items
+abbrev pub is_new : Database → Database → PidRow → Bool
+is_new base db row = has_layout row && not (has_same (layout_of base row.spid) (layout_slice db row))
+
+-- the packets of fixed layout whose layouts the base lacks, or has of other rows or type items
+abbrev pub new_layouts : Database → Database → List PidRow
+new_layouts base db = filter (is_new base db) db.pid
+
+-- the SPID of a packet of fixed layout
+abbrev pub laid_out : PidRow → Option ℕ
+laid_out row = if has_layout row then Some row.spid else None

@@ -1,0 +1,104 @@
+ghost use Rattle.std.specs.Prelude.{◌≡◌, ◌+◌, ◌≤◌, IfOk, OnOk, length, option_map};
+ghost use Rattle.std.specs.Arc.{arc_value};
+ghost use Rattle.std.specs.Option.{option_copied};
+ghost use Rattle.edition_plans.specs.Layouts.{layout_of, HasPlaces};
+ghost use Rattle.layout_set.specs.Sets.{new_layouts};
+ghost use Rattle.mib_model.specs.Database.{no_rows};
+ghost use Rattle.mib_model.specs.Soundness.{IsSound};
+ghost use Rattle.mib_model.specs.declared.limits.TheConstants.{HELD_MOST};
+
+use crate::before::Before;
+use crate::building::{Building, build};
+use crate::sources::Sources;
+use layout_plan::Layout;
+use mib_model::Steps;
+use mib_tables::Book;
+use std::alloc::{AllocError, Global};
+use std::collections::HashMap;
+use std::marker::Model;
+use std::snapshot::Snapshot;
+use std::sync::Arc;
+use std::sync::ledger::Ledger;
+
+/// The fixed layouts of a database, compiled. Contracts see the database.
+#[derive(Drop)]
+pub struct LayoutSet {
+    layouts: HashMap<u32, Arc<Layout>>,
+    book: Snapshot<Book>,
+}
+
+impl Model for LayoutSet {
+    ghost use Rattle.std.specs.Prelude.{◌≡◌, ℕ};
+    ghost use Rattle.edition_plans.specs.Layouts.{layout_of};
+    ghost use Rattle.layout_set.specs.Building.{layout_at};
+    ghost use Rattle.mib_model.specs.declared.database.Database.{Database};
+
+    ghost Value = { Database };
+
+    ghost view = { λ set. set.book.value };
+
+    ghost invariant = { λ set. (spid : ℕ) → layout_at set.layouts spid ≡ layout_of set.book.value spid };
+}
+
+/// A set, and how many of its layouts were compiled for it, not shared.
+#[derive(Drop)]
+pub struct Made {
+    pub set: LayoutSet,
+    pub compiled: u32,
+}
+
+impl LayoutSet {
+    /// The set of a database without rows.
+    #[tactic(auto, unfolding(edition_plans::specs::Layouts::layout_of))]
+    pub fn empty(alloc: Global) -> LayoutSet
+        ensures { result ≡ no_rows }
+    {
+        LayoutSet {
+            layouts: HashMap::new(alloc),
+            book: Snapshot::of(&Book::empty(alloc)),
+        }
+    }
+
+    /// The set of a sound book, beside the set of another: a layout that this has of the same rows and type items is
+    /// shared with it, each other is compiled, in one step. An error is want of memory.
+    pub fn new<L: Ledger>(
+        alloc: Global,
+        base: &LayoutSet,
+        old: &Book,
+        book: &Book,
+        steps: &mut Steps<L>,
+    ) -> Result<Made, AllocError>
+        requires base { base.now ≡ old.now }
+        requires sound { IsSound book.now }
+        ensures set { IfOk result (λ made. made.set ≡ book.now) }
+        ensures compiled { IfOk result (λ made. made.compiled ≡ length (new_layouts base.now book.now)) }
+        ensures few { IfOk result (λ made. made.compiled ≤ HELD_MOST) }
+        ensures steps { OnOk result (steps.new ≡ steps.old + length (new_layouts base.now book.now)) }
+    {
+        let before = Before::new(alloc, base, old)?;
+        let new = Sources::new(alloc, book)?;
+        let Building { layouts, compiled } = build(alloc, &before, &new, book.pid(), steps)?;
+        let set = LayoutSet {
+            layouts,
+            book: Snapshot::of(book),
+        };
+        Ok(Made { set, compiled })
+    }
+
+    /// The layout of a SPID, which others may share.
+    pub fn handle(&self, spid: u32) -> Option<&Arc<Layout>>
+        ensures { option_map arc_value (option_copied result) ≡ layout_of self.now spid }
+    {
+        self.layouts.get(&spid)
+    }
+
+    /// The layout of a SPID, in one probe: none exactly where no packet of that SPID has a fixed layout.
+    pub fn layout(&self, spid: u32) -> Option<&Layout>
+        ensures rows { option_copied result ≡ layout_of self.now spid }
+    {
+        match self.handle(spid) {
+            Some(layout) => Some(layout),
+            None => None,
+        }
+    }
+}

@@ -1,0 +1,133 @@
+-- A desk's whole script: the lines up to the first `go`, and then the others.
+use Rattle.std.proofs.Common.{◌≡◌, ℕ, zero, suc, ◌+◌, ◌==◌, Bool, true, false, cond, List, [], ◌∷◌, ◌++◌, length, drop, Option, Some, None, refl, sym, ap, ◌∙◌, subst, append_assoc, append-nil, length-append, arith}
+use Rattle.std.specs.Prelude.{IfSome}
+use Rattle.std.specs.Io.KnownBytes.{Appends, Consumes}
+use Rattle.std.proofs.KnownBytes.{Appends-trans, Consumes-trans}
+use Rattle.std.proofs.lemmas.List.Elements.{filter-append}
+use Rattle.std.proofs.Math.Seq.{drop-append_seam, drop-length}
+use Rattle.decode_session.proofs.FinishFacts.{part-behind}
+use Rattle.desk.specs.Handling.{moves_by}
+use Rattle.desk_lines.specs.Ahead.{Reading, reading_start, still, meets_limit}
+use Rattle.desk_lines.proofs.AheadFacts.{still-start, limit-start}
+use Rattle.histories.specs.History.{StartsWith, moves_of}
+use Rattle.live_intake.specs.Intake.{Gives}
+use Rattle.live_desk.specs.declared.desk_end.DeskEnd.{DeskEnd}
+use Rattle.live_desk.specs.Lines.{is_reply_fault}
+use Rattle.live_desk.specs.Scripts.{DeskedBy, EndsEarly, Pauses, limit_text, tail_by}
+use Rattle.live_desk.proofs.LineFacts.{Known, desk-none, given-append, moves-append, text-append}
+use Rattle.mib_model.specs.declared.database.Database.{Database}
+use Rattle.mib_model.specs.Desk.{DeskReply, DeskState, desk_start}
+use Rattle.mib_model.specs.DeskRuns.{Calls, IsDesk, prelude}
+use Rattle.mib_model.specs.RegisterHistories.{RegisterHistory}
+use Rattle.mib_model.specs.Replies.{desk_text}
+use Rattle.mib_model.specs.Script.{script, reaches_limit}
+
+-- what goes on from a history goes on from its front
+pub starts-more : (initial old new : RegisterHistory) → StartsWith old initial → StartsWith new old → StartsWith new initial
+starts-more initial old new first later = (first.0 ++ later.0, later.1 ∙ ap (λ l. l ++ later.0) first.1 ∙ append_assoc initial first.0 later.0)
+
+gives-behind : (failed : Bool) (xs ys : List ℕ) (a b c : Known) → Appends a b xs → Gives failed b c ys → Gives failed a c (xs ++ ys)
+gives-behind false xs ys a b c front rest = Appends-trans a b c xs ys front rest
+gives-behind true xs ys a b c front rest = part-behind xs ys a b c front rest
+
+-- the moves of the first lines stand at the front
+in-front : (front seen o1 : RegisterHistory) (cs : Calls) → StartsWith front seen → moves_of 1 seen ≡ o1 → o1 ≡ moves_by cs → StartsWith (moves_of 1 front) (moves_by cs)
+in-front front seen o1 cs later listed own = (moves_of 1 later.0, ap (moves_of 1) later.1 ∙ filter-append (λ m. m.seat == 1) seen later.0 ∙ ap (λ l. l ++ moves_of 1 later.0) (listed ∙ own))
+
+-- ---- what the script was
+
+script-both : (mid : Reading) (left place : Known) (given : List ℕ) (first more others : List (List ℕ)) → Consumes left place given → IfSome left (λ l. IfSome place (λ b. still reading_start l ≡ first ++ still mid b)) → IfSome place (λ l. still mid l ≡ more ++ others)
+    → IfSome left (λ octets. script octets ≡ (first ++ more) ++ others)
+script-both mid None place given first more others taken ahead rest = tt
+script-both mid (Some l) None given first more others taken ahead rest = absurd taken
+script-both mid (Some l) (Some p) given first more others taken ahead rest = sym (still-start l) ∙ ahead ∙ ap (λ ls. first ++ ls) rest ∙ sym (append_assoc first more others)
+
+script-one : (left : Known) (handled others : List (List ℕ)) → IfSome left (λ l. still reading_start l ≡ handled ++ others) → IfSome left (λ octets. script octets ≡ handled ++ others)
+script-one None handled others parted = tt
+script-one (Some l) handled others parted = sym (still-start l) ∙ parted
+
+tail-both : (e : DeskEnd) (mid : Reading) (left place : Known) (given tail : List ℕ) → Consumes left place given → IfSome left (λ l. IfSome place (λ b. meets_limit reading_start l ≡ meets_limit mid b)) → IfSome place (λ l. tail ≡ tail_by e (meets_limit mid l))
+    → IfSome left (λ octets. tail ≡ limit_text e octets)
+tail-both e mid None place given tail taken limit is = tt
+tail-both e mid (Some l) None given tail taken limit is = absurd taken
+tail-both e mid (Some l) (Some p) given tail taken limit is = is ∙ ap (tail_by e) (sym limit ∙ limit-start l)
+
+tail-one : (e : DeskEnd) (left : Known) (tail : List ℕ) → IfSome left (λ l. tail ≡ tail_by e (meets_limit reading_start l)) → IfSome left (λ octets. tail ≡ limit_text e octets)
+tail-one e None tail is = tt
+tail-one e (Some l) tail is = is ∙ ap (tail_by e) (limit-start l)
+
+-- ---- the two parts
+
+module _ (e : DeskEnd) (first : Database) (all front seen : RegisterHistory) (starts : StartsWith all front) (no_stamp : moves_of 0 front ≡ []) (later : StartsWith front seen) where
+  -- the first lines, and then others
+  pub desked-both : (mid : Reading) (left place behind : Known) (s0 s1 s2 : DeskState) (o0 o1 o2 : RegisterHistory) (w0 w1 w2 : Known) → moves_of 1 seen ≡ o1 → o0 ≡ [] → s0 ≡ desk_start first
+      → Pauses true reading_start mid left place s0 s1 o0 o1 w0 w1 → EndsEarly false e mid place behind s1 s2 o1 o2 w1 w2 → DeskedBy e first o2 all left behind w0 w2
+  desked-both mid left place behind s0 s1 s2 o0 o1 o2 w0 w1 w2 listed unused begins p x =
+      let w = p.works in let r = x.ends in
+      let early : o1 ≡ moves_by w.calls = w.own ∙ ap (λ l. l ++ moves_by w.calls) unused in
+      let front_is : prelude false (w.handled ++ r.handled) ≡ w.handled = p.is_prelude r.handled in (
+        w.calls ++ r.calls,
+        r.own ∙ ap (λ l. l ++ moves_by r.calls) early ∙ sym (moves-append w.calls r.calls),
+        record {
+          given = w.given ++ r.given;
+          taken = Consumes-trans left place behind w.given r.given w.consumed r.consumed;
+          handled = w.handled ++ r.handled;
+          others = r.others;
+          of_script = script-both mid left place w.given w.handled r.handled r.others w.consumed w.ahead r.parted;
+          all = r.all;
+          whole = omega (arith, given-append w.given r.given, w.whole, r.whole, length-append w.handled r.handled);
+          early = w.calls;
+          late = r.calls;
+          early_replies = w.replies;
+          late_replies = r.replies;
+          middle = s1;
+          last = s2;
+          at_first = subst (λ ls. IsDesk false (desk_start first) ls w.calls w.replies s1) (sym front_is) (subst (λ s. IsDesk false s w.handled w.calls w.replies s1) begins w.is_desk);
+          later = subst (λ ls. IsDesk false s1 ls r.calls r.replies s2) (sym (ap (λ (ls : List (List ℕ)). drop (length ls) (w.handled ++ r.handled)) front_is ∙ drop-append_seam w.handled r.handled)) r.is_desk;
+          entered = refl;
+          tail = r.tail;
+          is_tail = tail-both e mid left place w.given r.tail w.consumed w.limit r.is_tail;
+          told = subst (Gives (is_reply_fault e) w0 w2) (sym (append_assoc (desk_text None w.replies) (desk_text None r.replies) r.tail) ∙ ap (λ t. t ++ r.tail) (sym (text-append w.replies r.replies)))
+              (gives-behind (is_reply_fault e) (desk_text None w.replies) (desk_text None r.replies ++ r.tail) w0 w1 w2 (subst (Appends w0 w1) w.told p.printed) r.told);
+          front = front;
+          starts = starts;
+          no_stamp = no_stamp;
+          before = in-front front seen o1 w.calls later listed early;
+        },
+      )
+
+  -- the script ended before a `go`
+  pub desked-early : (left behind : Known) (s0 s1 : DeskState) (o0 o1 : RegisterHistory) (w0 w1 : Known) → moves_of 1 seen ≡ o1 → o0 ≡ [] → s0 ≡ desk_start first
+      → EndsEarly true e reading_start left behind s0 s1 o0 o1 w0 w1 → DeskedBy e first o1 all left behind w0 w1
+  desked-early left behind s0 s1 o0 o1 w0 w1 listed unused begins x =
+      let r = x.ends in
+      let early : o1 ≡ moves_by r.calls = r.own ∙ ap (λ l. l ++ moves_by r.calls) unused in
+      let front_is : prelude false r.handled ≡ r.handled = x.is_prelude refl in (
+        r.calls,
+        early,
+        record {
+          given = r.given;
+          taken = r.consumed;
+          handled = r.handled;
+          others = r.others;
+          of_script = script-one left r.handled r.others r.parted;
+          all = r.all;
+          whole = r.whole;
+          early = r.calls;
+          late = [];
+          early_replies = r.replies;
+          late_replies = [];
+          middle = s1;
+          last = s1;
+          at_first = subst (λ ls. IsDesk false (desk_start first) ls r.calls r.replies s1) (sym front_is) (subst (λ s. IsDesk false s r.handled r.calls r.replies s1) begins r.is_desk);
+          later = subst (λ ls. IsDesk false s1 ls [] [] s1) (sym (ap (λ (ls : List (List ℕ)). drop (length ls) r.handled) front_is ∙ drop-length r.handled)) (desk-none s1);
+          entered = sym (append-nil r.calls);
+          tail = r.tail;
+          is_tail = tail-one e left r.tail r.is_tail;
+          told = subst (λ rs. Gives (is_reply_fault e) w0 w1 (desk_text None rs ++ r.tail)) (sym (append-nil r.replies)) r.told;
+          front = front;
+          starts = starts;
+          no_stamp = no_stamp;
+          before = in-front front seen o1 r.calls later listed early;
+        },
+      )

@@ -1,0 +1,4 @@
+mod LineFacts
+mod ComesFacts
+mod ScriptFacts
+mod DeskFacts

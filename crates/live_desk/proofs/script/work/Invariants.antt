@@ -1,0 +1,26 @@
+use Rattle.std.proofs.Common.{◌≡◌, ◌-◌, ◌≤◌, length}
+use Rattle.desk.specs.State.{desk_of, editions_of}
+use Rattle.desk_lines.specs.Reader.{reading_of, source_of}
+use Rattle.desk_lines.specs.declared.reader.TheConstants.{LINE_ROOM}
+use Rattle.edition_register.specs.Seats.{IsSeat, first_of, shown_in}
+use Rattle.histories.specs.History.{StartsWith}
+use Rattle.live_desk.specs.Scripts.{Working}
+use Rattle.live_desk.proofs.script.work.Given as goal
+use Rattle.turn_cell.specs.Seats.{own_moves, seen_by}
+
+abbrev pub invariant-loop-go : goal.invariant-loop-go
+invariant-loop-go g l = record {
+  seat : IsSeat 1 l.register l.seat;
+  editions : editions_of l.desk ≡ shown_in (first_of l.register) (own_moves l.seat);
+  room : length (own_moves l.seat) ≤ (reading_of l.reader).lines;
+  seen : StartsWith (seen_by l.seat) (seen_by l.initial.seat);
+  working : Working l.until_go (reading_of l.initial.reader) (reading_of l.reader) (g.D.Source.left (source_of l.initial.reader)) (g.D.Source.left (source_of l.reader)) (desk_of l.initial.desk) (desk_of l.desk) (own_moves l.initial.seat) (own_moves l.seat) (g.P.Sink.written l.initial.replies) (g.P.Sink.written l.replies);
+  buffer : length l.buffer ≡ LINE_ROOM;
+  script : g.D.Source.faults (source_of l.reader) ≡ g.D.Source.faults (source_of l.initial.reader);
+  replies : g.P.Sink.faults l.replies ≡ g.P.Sink.faults l.initial.replies;
+  missed : g.D.Source.missed (source_of l.reader) ≡ g.D.Source.missed (source_of l.initial.reader);
+  borrow : g.D.Source.borrow (source_of l.reader) ≡ g.D.Source.borrow (source_of l.initial.reader);
+}
+
+abbrev pub decreases-loop-go : goal.decreases-loop-go
+decreases-loop-go g l = 1000001 - (reading_of l.reader).lines

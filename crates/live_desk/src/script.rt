@@ -1,0 +1,73 @@
+// The lines of a desk, one after the other.
+ghost use Rattle.std.specs.Prelude.{◌≡◌, ◌≤◌, true, false, length, IsTrue};
+ghost use Rattle.desk.specs.State.{desk_of, editions_of};
+ghost use Rattle.desk_lines.specs.Reader.{reading_of, source_of};
+ghost use Rattle.desk_lines.specs.declared.reader.TheConstants.{LINE_ROOM};
+ghost use Rattle.edition_register.specs.Seats.{IsSeat, first_of, shown_in};
+ghost use Rattle.histories.specs.History.{StartsWith};
+ghost use Rattle.live_desk.specs.Scripts.{HasDeskCause, HasRepliesCause, Worked};
+ghost use Rattle.turn_cell.specs.Seats.{own_moves, seen_by};
+
+use crate::desk_end::DeskEnd;
+use crate::line::{Came, next_line};
+use desk::Desk;
+use desk_lines::DeskReader;
+use edition::Edition;
+use edition_register::{Editions, Register};
+use fold_state::Board;
+use mib_model::Steps;
+use std::alloc::Global;
+use std::sync::Wait;
+use std::sync::ledger::Ledger;
+use tm_io::{Sink, Source};
+use turn_cell::Seat;
+
+// Whether a line is the `go` that is waited for.
+fn is_awaited(go: bool, until_go: bool) -> bool
+    ensures yes { IsTrue result → (until_go ≡ true) × (go ≡ true) }
+    ensures no { result ≡ false → until_go ≡ true → go ≡ false }
+{
+    go && until_go
+}
+
+/// Handles the lines of a script to its end, or up to and with a `go` where that is to be waited for: then there is no end.
+pub fn work<L: Ledger, R: Wait, D: Source, P: Sink>(
+    rt: &R,
+    alloc: Global,
+    register: &Register<Edition, Board>,
+    seat: &mut Seat<Editions<Edition, Board>>,
+    desk: &mut Desk,
+    reader: &mut DeskReader<D>,
+    buffer: &mut [u8],
+    replies: &mut P,
+    steps: &mut Steps<L>,
+    until_go: bool,
+) -> Option<DeskEnd>
+    requires seat { IsSeat 1 register.now seat.old }
+    requires room { length (own_moves seat.old) ≤ (reading_of reader.old).lines }
+    requires editions { editions_of desk.old ≡ shown_in (first_of register.now) (own_moves seat.old) }
+    requires buffer { length buffer.old ≡ LINE_ROOM }
+    ensures seat { IsSeat 1 register.now seat.new }
+    ensures editions { editions_of desk.new ≡ shown_in (first_of register.now) (own_moves seat.new) }
+    ensures worked { Worked until_go result (reading_of reader.old) (reading_of reader.new) (D.left (source_of reader.old)) (D.left (source_of reader.new)) (desk_of desk.old) (desk_of desk.new) (own_moves seat.old) (own_moves seat.new) (P.written replies.old) (P.written replies.new) }
+    ensures room { length (own_moves seat.new) ≤ (reading_of reader.new).lines }
+    ensures seen { StartsWith (seen_by seat.new) (seen_by seat.old) }
+    ensures desk { HasDeskCause result (D.faults (source_of reader.old)) (D.faults (source_of reader.new)) }
+    ensures replies { HasRepliesCause result (P.faults replies.old) (P.faults replies.new) }
+    ensures buffer { length buffer.new ≡ LINE_ROOM }
+    ensures missed { D.missed (source_of reader.new) ≡ D.missed (source_of reader.old) }
+    ensures borrow { D.borrow (source_of reader.new) ≡ D.borrow (source_of reader.old) }
+{
+    loop {
+        match next_line(
+            rt, alloc, register, seat, desk, reader, buffer, replies, steps,
+        ) {
+            Came::Handled { go } => {
+                if is_awaited(go, until_go) {
+                    return None;
+                }
+            }
+            Came::Ended(end) => return Some(end),
+        }
+    }
+}

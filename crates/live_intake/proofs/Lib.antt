@@ -1,0 +1,7 @@
+mod StampedFacts
+mod OpeningFacts
+mod ReadingFacts
+mod GoingFacts
+mod StepFacts
+mod EndFacts
+pub mod SharedEdition

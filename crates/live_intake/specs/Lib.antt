@@ -1,0 +1,4 @@
+pub mod Stamped
+pub mod Reading
+pub mod Opening
+pub mod Intake

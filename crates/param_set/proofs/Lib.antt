@@ -1,0 +1,6 @@
+pub mod CountFacts
+pub mod OrderFacts
+pub mod SameFacts
+pub mod SharingFacts
+pub mod UniqueFacts
+pub mod PlanFacts

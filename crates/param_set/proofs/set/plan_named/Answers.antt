@@ -1,0 +1,40 @@
+use Rattle.std.proofs.Common.{◌≡◌, ◌∙◌, ℕ, Equal, Less, List, ap, sym, subst, rules, option_map, find, get_or, Global}
+use Rattle.std.proofs.lemmas.List.Sorted.{answers_always}
+use Rattle.std.specs.Arc.{arc_value}
+use Rattle.std.specs.Cmp.Lexicographic.{slice_cmp}
+use Rattle.std.specs.Ordering.{nat_cmp}
+use Rattle.std.specs.Str.{bytes_eq}
+use Rattle.std.specs.declared.sync.Arc.{Arc}
+use Rattle.param_plan.specs.Names.{Ascend}
+use Rattle.param_plan.specs.Slices.{ParamSlice}
+use Rattle.param_plan.proofs.NameFacts.{named-found, named-missing}
+use Rattle.param_plan.proofs.PlanFacts.{adjacent-map, find-map}
+use Rattle.param_set.proofs.set.plan_named.Goals as goal
+
+-- the name of a plan behind a handle
+abbrev key : Arc ParamSlice Global → List ℕ
+key plan = (arc_value plan).pcf.name
+
+pub returns-in-Ok : goal.returns-in-Ok
+returns-in-Ok c =
+    let name = c.args.name in
+    let plans = c.plans-plans.result.now in
+    let at = c.in-Ok.at in
+    let x = c.index-plans-at.result in
+    let rise = adjacent-map arc_value (λ x y. slice_cmp nat_cmp x.pcf.name y.pcf.name ≡ Less) plans (subst Ascend (sym c.plans-plans.ensures.plans) c.plans-plans.ensures.ascend) in
+    let by_key = c.in-Ok.ensures.position key (answers_always _ _ _ (λ f a r g called. search rules)) in
+    let is : get_or plans at x ≡ x = sym c.index-plans-at.is in
+    let same : slice_cmp nat_cmp (key x) name ≡ Equal = subst (λ y. slice_cmp nat_cmp (key y) name ≡ Equal) is (by_key x) in
+    let found = named-found key name plans rise at x c.in-Ok.ensures.bound is same in
+    ap (option_map arc_value) (sym found) ∙ (sym (find-map arc_value (λ slice. bytes_eq slice.pcf.name name) plans) ∙
+    ap (find (λ (slice : ParamSlice). bytes_eq slice.pcf.name name)) c.plans-plans.ensures.plans)
+
+pub returns-in-Err : goal.returns-in-Err
+returns-in-Err c =
+    let name = c.args.name in
+    let plans = c.plans-plans.result.now in
+    let rise = adjacent-map arc_value (λ x y. slice_cmp nat_cmp x.pcf.name y.pcf.name ≡ Less) plans (subst Ascend (sym c.plans-plans.ensures.plans) c.plans-plans.ensures.ascend) in
+    let by_key = c.in-Err.ensures.position key (answers_always _ _ _ (λ f a r g called. search rules)) in
+    let missing = named-missing key name plans rise c.in-Err.field-0 by_key in
+    ap (option_map arc_value) (sym missing) ∙ (sym (find-map arc_value (λ slice. bytes_eq slice.pcf.name name) plans) ∙
+    ap (find (λ (slice : ParamSlice). bytes_eq slice.pcf.name name)) c.plans-plans.ensures.plans)

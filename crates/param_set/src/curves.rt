@@ -1,0 +1,134 @@
+// Curves found by their names.
+ghost use Rattle.std.specs.Prelude.{◌≡◌, IfOk, option_map};
+ghost use Rattle.std.specs.Option.{option_or};
+ghost use Rattle.curve_plan.specs.Rows.{rows_of};
+ghost use Rattle.mib_model.specs.Curves as Spec;
+
+use crate::ways::{ByLogarithm, ByPoint, ByPointCurve, ByPolynomial, ByText, ByTextCurve};
+use curve_plan::CurveRows;
+use first_rows::FirstRows;
+use mib_model::Name;
+use mib_tables::Book;
+use row_groups::RowGroups;
+use std::alloc::{AllocError, Global};
+use std::marker::Model;
+use std::snapshot::Snapshot;
+
+/// The curves of a book by their names. Contracts see the book's database.
+#[derive(Drop)]
+pub struct Curves {
+    by_points: FirstRows<ByPointCurve>,
+    points: RowGroups<ByPoint>,
+    by_texts: FirstRows<ByTextCurve>,
+    texts: RowGroups<ByText>,
+    polynomials: FirstRows<ByPolynomial>,
+    logarithms: FirstRows<ByLogarithm>,
+    book: Snapshot<Book>,
+}
+
+impl Model for Curves {
+    ghost use Rattle.std.specs.Prelude.{◌≡◌};
+    ghost use Rattle.mib_model.specs.declared.database.Database.{Database};
+
+    ghost Value = { Database };
+
+    ghost view = { λ curves. curves.book.value };
+
+    ghost invariant = { λ curves. (curves.by_points ≡ curves.book.value.caf) × (curves.points ≡ curves.book.value.cap)
+        × (curves.by_texts ≡ curves.book.value.txf) × (curves.texts ≡ curves.book.value.txp)
+        × (curves.polynomials ≡ curves.book.value.mcf) × (curves.logarithms ≡ curves.book.value.lgf) };
+}
+
+impl Curves {
+    /// The curves of a book. An error is want of memory.
+    pub fn new(alloc: Global, book: &Book) -> Result<Curves, AllocError>
+        ensures { IfOk result (λ curves. curves ≡ book.now) }
+    {
+        Ok(Curves {
+            by_points: FirstRows::new(alloc, book.caf())?,
+            points: RowGroups::new(alloc, book.cap())?,
+            by_texts: FirstRows::new(alloc, book.txf())?,
+            texts: RowGroups::new(alloc, book.txp())?,
+            polynomials: FirstRows::new(alloc, book.mcf())?,
+            logarithms: FirstRows::new(alloc, book.lgf())?,
+            book: Snapshot::of(book),
+        })
+    }
+
+    // The curve by points of a name.
+    fn points_named(&self, alloc: Global, name: &Name) -> Result<Option<CurveRows>, AllocError>
+        ensures { IfOk result (λ rows. option_map rows_of rows ≡ Spec.points_named self.now name.now) }
+    {
+        match self.by_points.find(name) {
+            Some(caf) => {
+                let caps = Vec::from_slice(alloc, self.points.of(name))?;
+                Ok(Some(CurveRows::Points { caf: *caf, caps }))
+            }
+            None => Ok(None),
+        }
+    }
+
+    // The curve by texts of a name.
+    fn texts_named(&self, alloc: Global, name: &Name) -> Result<Option<CurveRows>, AllocError>
+        ensures { IfOk result (λ rows. option_map rows_of rows ≡ Spec.texts_named self.now name.now) }
+    {
+        match self.by_texts.find(name) {
+            Some(txf) => {
+                let txps = Vec::from_slice(alloc, self.texts.of(name))?;
+                Ok(Some(CurveRows::Texts { txf: *txf, txps }))
+            }
+            None => Ok(None),
+        }
+    }
+
+    // The polynomial of a name.
+    fn poly_named(&self, name: &Name) -> Option<CurveRows>
+        ensures { option_map rows_of result ≡ Spec.poly_named self.now name.now }
+    {
+        match self.polynomials.find(name) {
+            Some(mcf) => Some(CurveRows::Poly(*mcf)),
+            None => None,
+        }
+    }
+
+    // The logarithmic curve of a name.
+    fn log_named(&self, name: &Name) -> Option<CurveRows>
+        ensures { option_map rows_of result ≡ Spec.log_named self.now name.now }
+    {
+        match self.logarithms.find(name) {
+            Some(lgf) => Some(CurveRows::Log(*lgf)),
+            None => None,
+        }
+    }
+
+    // The first curve of a name that is by points, a polynomial or logarithmic.
+    fn number_named(&self, alloc: Global, name: &Name) -> Result<Option<CurveRows>, AllocError>
+        ensures { IfOk result (λ rows. option_map rows_of rows
+            ≡ option_or (Spec.points_named self.now name.now) (option_or (Spec.poly_named self.now name.now) (Spec.log_named self.now name.now))) }
+    {
+        if let Some(rows) = self.points_named(alloc, name)? {
+            return Ok(Some(rows));
+        }
+        if let Some(rows) = self.poly_named(name) {
+            return Ok(Some(rows));
+        }
+        Ok(self.log_named(name))
+    }
+
+    /// The curve of a name for a parameter of this category. An error is want of memory.
+    #[tactic(auto, unfolding(mib_model::specs::Curves::curve_named))]
+    pub fn named(
+        &self,
+        alloc: Global,
+        categ: u8,
+        name: &Name,
+    ) -> Result<Option<CurveRows>, AllocError>
+        ensures { IfOk result (λ rows. option_map rows_of rows ≡ Spec.curve_named self.now categ name.now) }
+    {
+        match categ {
+            b'S' => self.texts_named(alloc, name),
+            b'T' => Ok(None),
+            _ => self.number_named(alloc, name),
+        }
+    }
+}

@@ -1,0 +1,24 @@
+//! The plans of all parameters of a database, with those that an edit doesn't touch shared.
+//!
+//! `params_of` compiles a plan for each parameter that has one, and takes over by handle each plan of a base whose rows
+//! are the same, in the same order. The rows of a parameter are found by hash maps that are made once, so that its time
+//! grows with the rows, but for what is sorted. It rests on mib_tables for the rows, on first_rows and row_groups for
+//! finding them, and on param_plan for the plans.
+#![tactic(auto)]
+
+mod curves;
+mod laws;
+mod order;
+mod same;
+mod set;
+mod sources;
+mod ways;
+
+pub use laws::{
+    all_plans_are_new_to_nothing, new_plans_are_touched, param_slices_are_of_the_database,
+    param_slices_have_the_planned_names,
+};
+pub use set::{Made, params_of};
+
+#[cfg(test)]
+mod tests;

@@ -1,0 +1,143 @@
+// The plans of all parameters of a database.
+ghost use Rattle.std.specs.Prelude.{◌≡◌, ◌+◌, ◌≤◌, ◌∷◌, [], map, filter, length, option_map, is_none, IfSome, IfOk, OnOk};
+ghost use Rattle.std.specs.Arc.{arc_value};
+ghost use Rattle.std.specs.List.{All, find};
+ghost use Rattle.std.specs.Option.{option_copied};
+ghost use Rattle.std.specs.Str.{bytes_eq};
+ghost use Rattle.edition_plans.specs.Params.{param_slices};
+ghost use Rattle.mib_model.specs.Soundness.{IsSound};
+ghost use Rattle.mib_model.specs.declared.limits.TheConstants.{HELD_MOST};
+ghost use Rattle.param_plan.specs.Choices.{IsApart};
+ghost use Rattle.param_plan.specs.Slices.{slice_of, slice_for};
+ghost use Rattle.param_set.specs.Sharing.{is_new};
+
+use crate::order::parameters;
+use crate::same::same_rows;
+use crate::sources::ParamSources;
+use mib_model::{Name, PcfRow, Steps};
+use mib_tables::Book;
+use param_plan::{Param, ParamRows, Params};
+use std::alloc::{AllocError, Global};
+use std::sync::Arc;
+use std::sync::ledger::Ledger;
+
+// The handle of the plan of this name, found by halving.
+fn plan_named(base: &Params, name: Name) -> Option<&Arc<Param>>
+    ensures { option_map arc_value (option_copied result) ≡ find (λ slice. bytes_eq slice.pcf.name name) base.now }
+{
+    let plans = base.plans();
+    match plans.binary_search_by_key(&name, |plan| plan.name()) {
+        Ok(at) => Some(&plans[at]),
+        Err(_) => None,
+    }
+}
+
+// The plan of a base that has these rows, in their order.
+fn same_plan<'a>(base: &'a Params, rows: &ParamRows) -> Option<&'a Arc<Param>>
+    ensures same { IfSome result (λ plan. arc_value plan.now ≡ slice_of rows.now) }
+    ensures new { is_none result ≡ is_new base.now (slice_of rows.now) }
+{
+    let Some(plan) = plan_named(base, rows.pcf.name) else {
+        return None;
+    };
+    if same_rows(plan.rows(), rows) {
+        Some(plan)
+    } else {
+        None
+    }
+}
+
+// A plan, and whether it was compiled, not shared.
+#[derive(Drop)]
+struct Plan {
+    param: Arc<Param>,
+    is_new: bool,
+}
+
+// Plans, and how many of them were compiled, not shared.
+#[derive(Drop)]
+struct Plans {
+    params: Vec<Arc<Param>>,
+    compiled: u32,
+}
+
+/// The plans of a book's parameters, and how many of them were compiled, not shared with the base.
+#[derive(Drop)]
+pub struct Made {
+    pub params: Params,
+    pub compiled: u32,
+}
+
+// The plan of these rows: that of the base where it has one, and else compiled.
+fn plan_of<L: Ledger>(
+    alloc: Global,
+    base: &Params,
+    rows: ParamRows,
+    steps: &mut Steps<L>,
+) -> Result<Plan, AllocError>
+    requires { All IsApart (slice_of rows).curves }
+    ensures plan { IfOk result (λ plan. arc_value plan.param ≡ slice_of rows) }
+    ensures is_new { IfOk result (λ plan. plan.is_new ≡ is_new base.now (slice_of rows)) }
+    ensures steps { OnOk result (steps.new ≡ steps.old + length (filter (is_new base.now) (slice_of rows ∷ []))) }
+{
+    if let Some(plan) = same_plan(base, &rows) {
+        return Ok(Plan {
+            param: plan.clone()?,
+            is_new: false,
+        });
+    }
+    let param = Param::compile(alloc, rows, steps)?;
+    Ok(Plan {
+        param: Arc::new(alloc, param)?,
+        is_new: true,
+    })
+}
+
+// The plans of these parameters of a sound database.
+fn plans_of<L: Ledger>(
+    alloc: Global,
+    base: &Params,
+    sources: &ParamSources,
+    rows: &[PcfRow],
+    steps: &mut Steps<L>,
+) -> Result<Plans, AllocError>
+    requires sound { IsSound sources.now }
+    requires few { length rows.now ≤ u32.MAX }
+    ensures plans { IfOk result (λ plans. map arc_value plans.params.items ≡ map (slice_for sources.now) rows.now) }
+    ensures compiled { IfOk result (λ plans. plans.compiled ≡ length (filter (is_new base.now) (map (slice_for sources.now) rows.now))) }
+    ensures few { IfOk result (λ plans. plans.compiled ≤ length rows.now) }
+    ensures steps { OnOk result (steps.new ≡ steps.old + length (filter (is_new base.now) (map (slice_for sources.now) rows.now))) }
+{
+    let mut params = Vec::with_capacity(alloc, rows.len())?;
+    let mut compiled = 0;
+    for row in rows {
+        let rows = sources.rows(alloc, row)?;
+        let plan = plan_of(alloc, base, rows, steps)?;
+        compiled += u32::from(plan.is_new);
+        params.push(plan.param)?;
+    }
+    Ok(Plans { params, compiled })
+}
+
+/// The plans of the parameters of a sound book, by name. A plan whose rows the base has too, in the same order, is shared
+/// with it; each other is compiled, in one step. An error is want of memory, after the steps of what was compiled.
+#[tactic(auto, unfolding(edition_plans::specs::Params::param_slices))]
+pub fn params_of<L: Ledger>(
+    alloc: Global,
+    base: &Params,
+    book: &Book,
+    steps: &mut Steps<L>,
+) -> Result<Made, AllocError>
+    requires { IsSound book.now }
+    ensures params { IfOk result (λ made. made.params ≡ param_slices book.now) }
+    ensures compiled { IfOk result (λ made. made.compiled ≡ length (filter (is_new base.now) (param_slices book.now))) }
+    ensures few { IfOk result (λ made. made.compiled ≤ HELD_MOST) }
+    ensures steps { OnOk result (steps.new ≡ steps.old + length (filter (is_new base.now) (param_slices book.now))) }
+{
+    let sources = ParamSources::new(alloc, book)?;
+    let rows = parameters(alloc, book.pcf())?;
+    let plans = plans_of(alloc, base, &sources, &rows, steps)?;
+    let compiled = plans.compiled;
+    let params = Params::new(plans.params);
+    Ok(Made { params, compiled })
+}

@@ -1,0 +1,40 @@
+-- The structures of a database beside those of a base. [SCOS-2000 Database Import ICD, vpd and pcf; this profile.]
+use Rattle.std.specs.Prelude.{ℕ, ℤ, pos, Bool, false, List, Option, Some, None, map, filter, option_map, ◌&&◌, not, if◌then◌else◌}
+use Rattle.mib_model.specs.declared.database.Database.{Database}
+use Rattle.mib_model.specs.declared.plan.Slice.{Slice}
+use Rattle.mib_model.specs.declared.plan.Slice.TheVariants as slice
+use Rattle.mib_model.specs.declared.rows.PcfRow.{PcfRow}
+use Rattle.mib_model.specs.Parameters.{is_measured}
+use Rattle.mib_model.specs.Plans.{distinct}
+use Rattle.mib_model.specs.Structures.{structure, is_deduced}
+use Rattle.mib_model.specs.Touched.{same_slice}
+use Rattle.struct_plan.specs.Slices.{StructureRows, structure_found, with_types}
+
+-- what a structure is compiled of, as the slice of a plan
+abbrev pub as_slice : StructureRows → Slice
+as_slice rows = slice.Structure rows.vpds rows.types
+
+-- what the structure of a TPSD is compiled of
+abbrev pub structure_slice : Database → ℤ → StructureRows
+structure_slice db tpsd = with_types db (structure db tpsd)
+
+-- whether two structures are compiled of the same rows and type items
+abbrev pub is_same : StructureRows → StructureRows → Bool
+is_same old new = same_slice (as_slice old) (as_slice new)
+
+-- whether a structure is there, and compiled of the same
+abbrev pub has_same : Option StructureRows → StructureRows → Bool
+has_same None new = false
+has_same (Some old) new = is_same old new
+
+-- a structure that the base lacks, or has of other rows or type items
+abbrev pub is_new : Database → Database → ℤ → Bool
+is_new base db tpsd = not (has_same (structure_found base tpsd) (structure_slice db tpsd))
+
+-- the TPSDs of the structures that the base lacks, or has of other rows or type items
+abbrev pub new_structures : Database → Database → List ℕ
+new_structures base db = filter (λ tpsd. is_new base db (pos tpsd)) (distinct (map (λ row. row.tpsd) db.vpd))
+
+-- the number by which a deduced value finds a parameter: that of a measured parameter, not deduced itself, that has one
+abbrev pub number_of : PcfRow → Option ℤ
+number_of row = if is_measured row && not (is_deduced row) then option_map pos row.pid else None

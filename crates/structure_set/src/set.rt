@@ -1,0 +1,127 @@
+ghost use Rattle.std.specs.Prelude.{◌≡◌, ◌+◌, ◌≤◌, IfOk, OnOk, length, option_map};
+ghost use Rattle.std.specs.Arc.{arc_value};
+ghost use Rattle.std.specs.Option.{option_copied};
+ghost use Rattle.mib_model.specs.Database.{no_rows};
+ghost use Rattle.mib_model.specs.Plans.{type_item};
+ghost use Rattle.struct_plan.specs.Slices.{deduced_item, structure_found};
+ghost use Rattle.structure_set.specs.Sets.{new_structures};
+ghost use Rattle.mib_model.specs.declared.limits.TheConstants.{HELD_MOST};
+
+use crate::before::Before;
+use crate::building::{Building, build};
+use crate::sources::Sources;
+use crate::ways::ByNumber;
+use first_rows::FirstRows;
+use mib_model::{PcfRow, Steps, TypeItem};
+use mib_tables::Book;
+use std::alloc::{AllocError, Global};
+use std::collections::HashMap;
+use std::marker::Model;
+use std::snapshot::Snapshot;
+use std::sync::Arc;
+use std::sync::ledger::Ledger;
+use struct_plan::Structure;
+use type_items::item_of;
+
+/// The structures and the deduced parameters of a database, compiled. Contracts see the database.
+#[derive(Drop)]
+pub struct StructureSet {
+    structures: HashMap<i128, Arc<Structure>>,
+    deduced: FirstRows<ByNumber>,
+    book: Snapshot<Book>,
+}
+
+impl Model for StructureSet {
+    ghost use Rattle.std.specs.Prelude.{◌≡◌, ℤ};
+    ghost use Rattle.mib_model.specs.declared.database.Database.{Database};
+    ghost use Rattle.struct_plan.specs.Slices.{structure_found};
+    ghost use Rattle.structure_set.specs.Building.{structure_at};
+
+    ghost Value = { Database };
+
+    ghost view = { λ set. set.book.value };
+
+    ghost invariant = { λ set. ((tpsd : ℤ) → structure_at set.structures tpsd ≡ structure_found set.book.value tpsd) × (set.deduced ≡ set.book.value.pcf) };
+}
+
+/// A set, and how many of its structures were compiled for it, not shared.
+#[derive(Drop)]
+pub struct Made {
+    pub set: StructureSet,
+    pub compiled: u32,
+}
+
+impl StructureSet {
+    #[tactic(auto, unfolding(mib_model::specs::Structures::structure, mib_model::specs::Orders::sorted_by))]
+    /// The set of a database without rows. An error is want of memory.
+    pub fn empty(alloc: Global) -> Result<StructureSet, AllocError>
+        ensures { IfOk result (λ set. set ≡ no_rows) }
+    {
+        Ok(StructureSet {
+            structures: HashMap::new(alloc),
+            deduced: FirstRows::new(alloc, &[])?,
+            book: Snapshot::of(&Book::empty(alloc)),
+        })
+    }
+
+    /// The set of a book, beside the set of another: a structure that this has of the same rows and type items is shared
+    /// with it, each other is compiled, in one step. An error is want of memory.
+    pub fn new<L: Ledger>(
+        alloc: Global,
+        base: &StructureSet,
+        old: &Book,
+        book: &Book,
+        steps: &mut Steps<L>,
+    ) -> Result<Made, AllocError>
+        requires { base.now ≡ old.now }
+        ensures set { IfOk result (λ made. made.set ≡ book.now) }
+        ensures compiled { IfOk result (λ made. made.compiled ≡ length (new_structures base.now book.now)) }
+        ensures few { IfOk result (λ made. made.compiled ≤ HELD_MOST) }
+        ensures steps { OnOk result (steps.new ≡ steps.old + length (new_structures base.now book.now)) }
+    {
+        let before = Before::new(alloc, base, old)?;
+        let new = Sources::new(alloc, book)?;
+        let deduced = FirstRows::new(alloc, book.pcf())?;
+        let Building {
+            structures,
+            compiled,
+        } = build(alloc, &before, &new, book.vpd(), steps)?;
+        let set = StructureSet {
+            structures,
+            deduced,
+            book: Snapshot::of(book),
+        };
+        Ok(Made { set, compiled })
+    }
+
+    /// The structure of a TPSD, which others may share.
+    pub fn handle(&self, tpsd: i128) -> Option<&Arc<Structure>>
+        ensures { option_map arc_value (option_copied result) ≡ structure_found self.now tpsd }
+    {
+        self.structures.get(&tpsd)
+    }
+
+    /// The structure of a TPSD, in one probe: none exactly where there is no such structure.
+    pub fn structure(&self, tpsd: i128) -> Option<&Structure>
+        ensures { option_copied result ≡ structure_found self.now tpsd }
+    {
+        match self.handle(tpsd) {
+            Some(structure) => Some(structure),
+            None => None,
+        }
+    }
+
+    // The parameter of a deduced value.
+    fn deduced_row(&self, pid: &i128) -> Option<&PcfRow>
+        ensures { option_map type_item (option_copied result) ≡ deduced_item self.now pid.now }
+    {
+        self.deduced.find(pid)
+    }
+
+    /// The type item of the first measured parameter, not deduced itself, that has this number, in one probe.
+    pub fn deduced(&self, pid: i128) -> Option<TypeItem>
+        ensures { result ≡ deduced_item self.now pid }
+    {
+        Some(item_of(self.deduced_row(&pid)?))
+    }
+}

@@ -1,0 +1,162 @@
+ghost use Rattle.std.specs.Prelude.{◌≡◌, IfOk};
+
+use super::*;
+use mib_model::{Name, PcfRow, Row, Steps, VpdRow};
+use mib_tables::Book;
+use std::alloc::{AllocError, Global};
+use std::marker::Brand;
+use std::process::Abort;
+use std::sync::ledger::{Blank, Ledger};
+use std::test::Fail;
+
+fn name<R: Abort>(rt: &R, octets: &[u8]) -> Name {
+    Name::new(octets).expect(rt, "a name")
+}
+
+fn parameter(name: Name, pid: Option<u32>, pfc: u16) -> Row {
+    Row::Pcf(PcfRow {
+        name,
+        pid,
+        ptc: 3,
+        pfc,
+        width: 0,
+        valid: None,
+        categ: b'N',
+        natur: b'R',
+        curtx: None,
+        decim: 0,
+        valpar: 1,
+        endian: b'B',
+    })
+}
+
+fn row(tpsd: u32, pos: u16, name: Name) -> Row {
+    Row::Vpd(VpdRow {
+        tpsd,
+        pos,
+        name,
+        grpsize: 0,
+        fixrep: 0,
+        choice: b'N',
+        pidref: b'N',
+        offset: 0,
+    })
+}
+
+// A book of these rows.
+fn book_of(alloc: Global, rows: &[Row]) -> Result<Book, AllocError> {
+    let mut book = Book::empty(alloc);
+    for row in rows {
+        book.put(*row)?;
+    }
+    Ok(book)
+}
+
+// Structures 7 and 8 of two parameters, the second of this format.
+fn book<R: Abort>(rt: &R, alloc: Global, pfc: u16) -> Result<Book, AllocError> {
+    let (a, b) = (name(rt, b"A"), name(rt, b"B"));
+    let parameters = [parameter(a, Some(5), 12), parameter(b, None, pfc)];
+    let mut book = book_of(alloc, &parameters)?;
+    book.put(row(7, 2, a))?;
+    book.put(row(8, 1, a))?;
+    book.put(row(7, 1, b))?;
+    Ok(book)
+}
+
+// The set of a book, of which so many structures are compiled.
+fn set_of<L: Ledger, R: Abort>(
+    rt: &R,
+    base: &StructureSet,
+    old: &Book,
+    book: &Book,
+    compiled: u32,
+    steps: &mut Steps<L>,
+    alloc: Global,
+) -> Result<StructureSet, Fail>
+    requires { base.now ≡ old.now }
+    ensures { IfOk result (λ set. set ≡ book.now) }
+{
+    let made = StructureSet::new(alloc, base, old, book, steps)?;
+    assert_eq!(rt; made.compiled, compiled);
+    Ok(made.set)
+}
+
+fn first_set<L: Ledger, R: Abort>(
+    rt: &R,
+    book: &Book,
+    steps: &mut Steps<L>,
+    alloc: Global,
+) -> Result<StructureSet, Fail>
+    ensures { IfOk result (λ set. set ≡ book.now) }
+{
+    let nothing = StructureSet::empty(alloc)?;
+    set_of(rt, &nothing, &Book::empty(alloc), book, 2, steps, alloc)
+}
+
+fn finds<R: Abort>(rt: &R, set: &StructureSet) -> Result<(), Fail> {
+    assert!(rt; set.structure(9).is_none());
+    assert!(rt; set.structure(-7).is_none());
+    assert!(rt; set.handle(8).is_some());
+    assert!(rt; set.deduced(5).is_some());
+    assert!(rt; set.deduced(6).is_none());
+    match set.structure(7) {
+        Some(structure) => assert_eq!(rt; structure.len(), 2),
+        None => assert!(rt; false, "a structure"),
+    }
+    Ok(())
+}
+
+// Nothing is compiled for the same rows.
+fn again<L: Ledger, R: Abort>(
+    rt: &R,
+    base: &StructureSet,
+    book: &Book,
+    steps: &mut Steps<L>,
+    alloc: Global,
+) -> Result<(), Fail>
+    requires { base.now ≡ book.now }
+{
+    set_of(rt, base, book, book, 0, steps, alloc)?;
+    Ok(())
+}
+
+// One of structures is compiled for another type.
+fn differs<L: Ledger, R: Abort>(
+    rt: &R,
+    base: &StructureSet,
+    old: &Book,
+    steps: &mut Steps<L>,
+    alloc: Global,
+) -> Result<(), Fail>
+    requires { base.now ≡ old.now }
+{
+    let second = book(rt, alloc, 4)?;
+    set_of(rt, base, old, &second, 1, steps, alloc)?;
+    Ok(())
+}
+
+fn shares<L: Ledger, R: Abort>(
+    rt: &R,
+    book: &Book,
+    steps: &mut Steps<L>,
+    alloc: Global,
+) -> Result<(), Fail> {
+    let base = first_set(rt, book, steps, alloc)?;
+    finds(rt, &base)?;
+    again(rt, &base, book, steps, alloc)?;
+    differs(rt, &base, book, steps, alloc)
+}
+
+fn on_a_ledger<L: Ledger, R: Abort>(rt: &R, alloc: Global, blank: Blank) -> Result<(), Fail>
+    requires name { blank.name ≡ L.name }
+    requires parts { blank.parts ≡ L.parts }
+    requires one { blank.parts ≡ 1 }
+{
+    let book = book(rt, alloc, 12)?;
+    shares(rt, &book, &mut Steps::<L>::new(blank), alloc)
+}
+
+#[test]
+fn a_structure_is_compiled_where_its_rows_or_types_differ(rt: HostRuntime) -> Result<(), Fail> {
+    on_a_ledger::<Brand, HostRuntime>(&rt, rt.alloc(), Blank::new(1))
+}

@@ -1,0 +1,4 @@
+pub mod FeedFacts
+pub mod TextFacts
+pub mod CountFacts
+pub mod NameFacts
