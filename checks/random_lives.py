@@ -24,7 +24,7 @@ class Script:
     def changed(self):
         """A row that may stand in place of another, or beside it."""
         rng, tables = self.rng, self.mission.tables
-        table = rng.choice(["pcf", "ocp", "ocf", "mcf", "txp", "cap", "tpcf", "plf", "cur", "vpd", "pid"])
+        table = rng.choice(["pcf", "pcf", "ocp", "ocp", "ocf", "ocf", "mcf", "txp", "cap", "tpcf", "plf", "cur", "vpd", "pid"])
         if not tables[table]:
             return "tpcf", ["1", "ELSE"]
         row = list(rng.choice(tables[table]))
@@ -75,9 +75,19 @@ class Script:
             return rng.choice(["use %d" % edition, "use %d" % edition, "use %d from %d" % (edition, rng.randint(1, 40))])
         return rng.choice(["drop", "# a note", "", "sav", "use x", "go ", "drop\r"])
 
-    def lines(self):
+    def activation(self):
+        """A changed row, a new edition and its use."""
         rng = self.rng
-        made = [self.line() for _ in range(rng.choice([0, 5, 15, 30]))]
+        self.saves += 1
+        table, row = self.changed()
+        begin = rng.choice(["", "", " from %d" % (rng.randint(1, 8) + 6 * self.saves)])
+        return ["put %s\t%s" % (table, random_missions.line_of(row)), "save", "use %d%s" % (self.saves + 1, begin)]
+
+    def lines(self):
+        rng, self.saves = self.rng, 0
+        made = []
+        for _ in range(rng.choice([0, 3, 8, 12])):
+            made += self.activation() if rng.random() < 0.5 else [self.line()]
         if rng.random() < 0.9:
             made.insert(rng.choice([0, rng.randint(0, len(made)), min(4, len(made))]), "go")
         return made
@@ -88,7 +98,7 @@ def run(program, seed, folder):
     rng = random.Random(seed)
     mission = random_missions.Mission(rng)
     script = Script(rng, mission).lines()
-    octets = mission.feed(60)
+    octets = mission.feed(300)
     tables, feed, desk = (os.path.join(folder, name) for name in ("tables", "feed", "desk"))
     random_missions.write_folder(tables, mission.tables)
     with open(feed, "wb") as file:
