@@ -117,6 +117,15 @@ impl Curve {
         })
     }
 
+    /// A number made of its points or ranges: who asks for it early has them at hand when the curve is applied.
+    pub fn touch(&self) -> usize {
+        match &self.form {
+            Form::Points(curve) => curve.touch(),
+            Form::Texts(curve) => curve.touch(),
+            _ => 0,
+        }
+    }
+
     /// What the curve makes of a raw number from -2^63 to 2^64 - 1 (SCOS-2000 Database Import ICD, caf, txf, mcf and
     /// lgf). It takes no memory.
     pub fn apply(&self, raw: i128) -> Cal<'_>
