@@ -56,7 +56,7 @@ impl Board {
     {
         let names = names_of(alloc, params.plans())?;
         let slots = vec![in alloc; Slot::new(); names.len()]?;
-        let guesses = Guesses::new(alloc, names.len())?;
+        let guesses = Guesses::new(alloc, &names)?;
         Ok(Board {
             names,
             slots,
@@ -78,8 +78,15 @@ impl Board {
         }
     }
 
-    /// The place of a name, by halving.
-    pub(crate) fn place(&self, name: Name) -> Option<usize>
+    // Whether a name stands at a place.
+    fn is_at(&self, at: usize, name: &Name) -> bool
+        ensures { IsTrue result → at < length self.now.names × (get_or self.now.names at [] ≡ name.now) }
+    {
+        at < self.names.len() && self.names[at] == *name
+    }
+
+    // The place of a name, by halving.
+    fn halved(&self, name: Name) -> Option<usize>
         ensures { result ≡ place_of self.now name }
     {
         match self.names.binary_search(&name) {
@@ -88,11 +95,15 @@ impl Board {
         }
     }
 
-    // Whether a name stands at a place.
-    fn is_at(&self, at: usize, name: &Name) -> bool
-        ensures { IsTrue result → at < length self.now.names × (get_or self.now.names at [] ≡ name.now) }
+    /// The place of a name, which is looked for first where its octets say.
+    pub(crate) fn place(&self, name: &Name) -> Option<usize>
+        ensures { result ≡ place_of self.now name.now }
     {
-        at < self.names.len() && self.names[at] == *name
+        let guess = self.guesses.named(name);
+        if self.is_at(guess, name) {
+            return Some(guess);
+        }
+        self.halved(*name)
     }
 
     /// Where the guesses begin of a packet that is of this kind and has so many values.
@@ -130,7 +141,7 @@ impl Board {
         if self.is_at(guess, name) {
             return Some(guess);
         }
-        let at = self.place(*name);
+        let at = self.place(name);
         if let Some(at) = at {
             self.guesses.note(near, at);
         }
@@ -170,7 +181,7 @@ impl Holds for Board {
     ghost memory = { memory_of };
 
     fn holds(&self, name: Name, number: i128) -> bool {
-        match self.place(name) {
+        match self.place(&name) {
             Some(at) => self.slot(at).latest == Some(number),
             None => false,
         }

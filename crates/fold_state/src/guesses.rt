@@ -1,5 +1,9 @@
 // Where the names of values are looked for first.
+use mib_model::Name;
 use std::alloc::{AllocError, Global};
+
+/// The guesses by the octets of a name.
+const NAMED: usize = 65_536;
 
 /// A kind of packet, and where its row of guesses begins.
 #[derive(Clone, Copy)]
@@ -9,23 +13,38 @@ struct Kind {
 }
 
 /// Guesses of places: packets of one kind have their values in one order, so each kind has a row of guesses, the places
-/// where its names were found last. Any of them may be wrong.
+/// where its names were found last. Beside them a name has a guess by its octets. Any of them may be wrong.
 #[derive(Drop)]
 pub struct Guesses {
     kinds: Vec<Kind>,
     places: Vec<u32>,
     free: usize,
+    named: Vec<u32>,
+}
+
+// A number made of the octets of a name.
+fn mixed(name: &Name) -> u32 {
+    let mut mixed = 0_u32;
+    for octet in name.bytes() {
+        mixed = mixed.wrapping_mul(31).wrapping_add(u32::from(*octet));
+    }
+    mixed.wrapping_mul(2_654_435_761) / 65_536
 }
 
 impl Guesses {
-    /// Guesses for so many names, each wrong as yet. An error is want of memory.
-    pub fn new(alloc: Global, names: usize) -> Result<Guesses, AllocError> {
+    /// Guesses for names at these places. An error is want of memory.
+    pub fn new(alloc: Global, names: &[Name]) -> Result<Guesses, AllocError> {
         let nothing = Kind { spid: 0, first: 0 };
-        Ok(Guesses {
-            kinds: vec![in alloc; nothing; names]?,
-            places: vec![in alloc; 0; names.saturating_mul(8)]?,
+        let mut guesses = Guesses {
+            kinds: vec![in alloc; nothing; names.len()]?,
+            places: vec![in alloc; 0; names.len().saturating_mul(8)]?,
             free: 0,
-        })
+            named: vec![in alloc; 0; NAMED]?,
+        };
+        for at in 0..names.len() {
+            guesses.note_name(&names[at], at);
+        }
+        Ok(guesses)
     }
 
     /// No guesses. They take no memory.
@@ -34,6 +53,23 @@ impl Guesses {
             kinds: Vec::new(alloc),
             places: Vec::new(alloc),
             free: 0,
+            named: Vec::new(alloc),
+        }
+    }
+
+    // Notes the place of a name.
+    fn note_name(&mut self, name: &Name, at: usize) {
+        let key = mixed(name) as usize;
+        if key < self.named.len() {
+            self.named[key] = u32::try_from(at).unwrap_or(0);
+        }
+    }
+
+    /// The guess for a name, and a wrong one where there is none.
+    pub fn named(&self, name: &Name) -> usize {
+        match self.named.get(mixed(name) as usize) {
+            Some(place) => *place as usize,
+            None => usize::MAX,
         }
     }
 
