@@ -46,7 +46,28 @@ fn is_unexpected<K: Holds>(states: &[State], sample: Sample, kept: &K) -> bool
     any_applies(states, kept) && !any_agrees(states, sample, kept)
 }
 
+// A number made of a first limit.
+fn touch(limits: &[Limit]) -> usize {
+    match limits.first() {
+        Some(limit) => limit.touch(),
+        None => 0,
+    }
+}
+
+// A number made of a first state.
+fn touch_state(states: &[State]) -> usize {
+    match states.first() {
+        Some(state) => state.touch(),
+        None => 0,
+    }
+}
+
 impl CheckSet {
+    /// A number made of the first checks.
+    pub fn touch(&self) -> usize {
+        touch(&self.hard) ^ touch_state(&self.states) ^ touch(&self.soft)
+    }
+
     /// Sorts rows of ocp by their types.
     pub fn compile(alloc: Global, ocps: &[OcpRow]) -> Result<CheckSet, AllocError>
         ensures { IfOk result (λ set. IsSetOf set ocps.now) }

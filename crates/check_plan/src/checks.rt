@@ -42,6 +42,11 @@ impl Checks {
         })
     }
 
+    /// A number made of the first checks: who asks for it early has them at hand when a sample is classed.
+    pub fn touch(&self) -> usize {
+        self.set.touch()
+    }
+
     /// The row of ocf.
     pub fn row(&self) -> &OcfRow
         ensures { result.now ≡ self.now.ocf }

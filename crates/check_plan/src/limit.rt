@@ -94,6 +94,11 @@ fn is_step_over(bound: Option<Eng>, from: i128, to: i128) -> bool
 }
 
 impl Limit {
+    /// A number made of its bounds.
+    pub fn touch(&self) -> usize {
+        usize::from(self.low.is_some() ^ self.high.is_some())
+    }
+
     fn is_outside(&self, count: i128) -> bool
         ensures { result ≡ is_outside self.now count }
     {

@@ -12,7 +12,7 @@ ghost use Rattle.curve_plan.specs.Rows.{rows_of};
 use crate::points::PointCurve;
 use crate::ranges::RangeCurve;
 use crate::rows::CurveRows;
-use dec_num::poly;
+use dec_num::PolyCurve;
 use mib_model::{CafRow, Cal, CapRow, Dec, McfRow, TxfRow, TxpRow};
 use std::alloc::{AllocError, Global};
 use std::marker::Model;
@@ -23,7 +23,7 @@ use std::snapshot::Snapshot;
 enum Form {
     Points(PointCurve),
     Texts(RangeCurve),
-    Poly([Dec; 5]),
+    Poly(PolyCurve),
     Log,
     Real,
 }
@@ -55,12 +55,12 @@ fn coefficients(mcf: &McfRow) -> [Dec; 5]
 }
 
 // What a polynomial makes of a raw number.
-fn poly_at(coefficients: &[Dec; 5], raw: i128) -> Cal<'static>
+fn poly_at(curve: &PolyCurve, raw: i128) -> Cal<'static>
     requires low { least_raw ≤ℤ raw }
     requires high { raw ≤ℤ greatest_raw }
-    ensures { calibrated_as result ≡ calibrated (polynomial coefficients.now raw) }
+    ensures { calibrated_as result ≡ calibrated (polynomial curve.now raw) }
 {
-    match poly(coefficients, raw) {
+    match curve.at(raw) {
         Ok(value) => Cal::Value(value),
         Err(_) => Cal::Over,
     }
@@ -98,7 +98,7 @@ fn form_of(alloc: Global, rows: &CurveRows) -> Result<Form, AllocError>
     match rows {
         CurveRows::Points { caf, caps } => points_form(alloc, caf, caps),
         CurveRows::Texts { txf, txps } => texts_form(alloc, txf, txps),
-        CurveRows::Poly(mcf) => Ok(Form::Poly(coefficients(mcf))),
+        CurveRows::Poly(mcf) => Ok(Form::Poly(PolyCurve::new(&coefficients(mcf)))),
         CurveRows::Log(_) => Ok(Form::Log),
     }
 }
@@ -117,6 +117,15 @@ impl Curve {
         })
     }
 
+    /// A number made of its points or ranges: who asks for it early has them at hand when the curve is applied.
+    pub fn touch(&self) -> usize {
+        match &self.form {
+            Form::Points(curve) => curve.touch(),
+            Form::Texts(curve) => curve.touch(),
+            _ => 0,
+        }
+    }
+
     /// What the curve makes of a raw number from -2^63 to 2^64 - 1 (SCOS-2000 Database Import ICD, caf, txf, mcf and
     /// lgf). It takes no memory.
     pub fn apply(&self, raw: i128) -> Cal<'_>
@@ -127,7 +136,7 @@ impl Curve {
         match &self.form {
             Form::Points(curve) => curve.at(raw),
             Form::Texts(curve) => curve.at(raw),
-            Form::Poly(coefficients) => poly_at(coefficients, raw),
+            Form::Poly(curve) => poly_at(curve, raw),
             Form::Log => Cal::LogCurve,
             Form::Real => Cal::RealCurve,
         }

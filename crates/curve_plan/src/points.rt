@@ -79,6 +79,14 @@ fn on_line(p: Point, q: Point, inter: u8, raw: i128) -> Cal<'static>
 }
 
 impl PointCurve {
+    /// A number made of a point in the middle.
+    pub fn touch(&self) -> usize {
+        match self.points.get(self.points.len() / 2) {
+            Some(point) => usize::from(point.x < 0),
+            None => 0,
+        }
+    }
+
     /// Reads the points of a curve's rows.
     pub fn compile(alloc: Global, caf: &CafRow, caps: &[CapRow]) -> Result<PointCurve, AllocError>
         requires { AreApart (filter_map (knot_of caf.now.radix) caps.now) }

@@ -94,6 +94,14 @@ fn halved(ranges: &[Range], raw: i128) -> Option<&Range>
 }
 
 impl RangeCurve {
+    /// A number made of a range in the middle.
+    pub fn touch(&self) -> usize {
+        match self.ranges.get(self.ranges.len() / 2) {
+            Some(range) => usize::from(range.low < 0),
+            None => 0,
+        }
+    }
+
     /// Reads the ranges of a curve's rows.
     pub fn compile(alloc: Global, txps: &[TxpRow]) -> Result<RangeCurve, AllocError>
         ensures ranges { IfOk result (λ curve. (raw : ℤ) → find (holds_raw raw) curve.ranges.items ≡ find (holds_raw raw) (filter_map range_of txps.now)) }

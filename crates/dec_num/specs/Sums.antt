@@ -1,8 +1,18 @@
 -- The sum of a polynomial, one coefficient after another. [This profile.]
-use Rattle.std.specs.Prelude.{ℤ, ◌+ℤ◌, ◌*ℤ◌, List, [], ◌∷◌, take, length, ◌-◌, Option, Some, option_map, option_and_then}
-use Rattle.std.specs.List.{suffix_len}
-use Rattle.mib_model.specs.Polynomials.{is_zero}
+use Rattle.std.specs.Prelude.{◌≡◌, ◌<◌, ℕ, ℤ, ◌+ℤ◌, ◌*ℤ◌, nat_abs, true, false, List, [], ◌∷◌, take, length, ◌-◌, Option, Some, option_map, option_and_then, IfSome, IfNone, OnSome}
+use Rattle.std.specs.List.{list_any, suffix_len}
+use Rattle.mib_model.specs.Calibrated.{is_wide}
+use Rattle.mib_model.specs.declared.limits.TheConstants.{STEP_BOUND}
+use Rattle.mib_model.specs.declared.number.Dec.{Dec}
+use Rattle.mib_model.specs.Polynomials.{at_scale, is_zero}
 use Rattle.dec_num.specs.Narrow.{narrow}
+
+-- coefficients as whole numbers at a scale, that of the power 0 apart, where none is too wide
+pub record AreScaled (decs : List Dec) (scale : ℕ) (scaled : Option (ℤ × List ℤ)) : Type 0 where
+  pub none : IfNone scaled (list_any is_wide (at_scale scale decs) ≡ true)
+  pub some : IfSome scaled (λ c. c.0 ∷ c.1 ≡ at_scale scale decs)
+  pub within : IfSome scaled (λ c. nat_abs c.0 < STEP_BOUND)
+  pub narrow : OnSome scaled (list_any is_wide (at_scale scale decs) ≡ false)
 
 -- coefficients without the zeros at the end
 abbrev pub without_zeros : List ℤ → List ℤ

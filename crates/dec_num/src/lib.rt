@@ -22,7 +22,7 @@ pub use count::{eng_of, write_eng};
 pub use curve::{Point, interp};
 pub use digits::{are_digits, digits_number};
 pub use mib_model::{Dec, DecFault, Eng, Over};
-pub use polynomial::poly;
+pub use polynomial::{PolyCurve, poly};
 pub use read::read_dec;
 pub use spaces::trim;
 pub use whole::{decimal_whole, whole_number};

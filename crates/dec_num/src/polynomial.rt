@@ -12,6 +12,8 @@ ghost use Rattle.mib_model.specs.declared.limits.TheConstants.{STEP_BOUND};
 use crate::rounding::scaled_down;
 use crate::steps::{outcome, product, scaled_up, step, sum};
 use mib_model::{Dec, Eng, Over};
+use std::marker::Model;
+use std::snapshot::Snapshot;
 
 // The digits that a coefficient has behind the point.
 fn behind_point(d: Dec) -> u8
@@ -114,25 +116,69 @@ fn to_count(sum: i128, scale: u8) -> Option<i128>
     outcome(times_power(sum, 12 - i32::from(scale))?)
 }
 
-// The count of a polynomial at a number, where no step is too wide.
-fn count_at(a: &[Dec; 5], raw: i128) -> Option<i128>
-    ensures { or_over result ≡ Spec.polynomial a.now raw }
-{
-    let scale = scale_of(a);
-    let (first, rest) = coefficients(a, scale)?;
-    let sum = total(first, up_to_degree(&rest), raw)?;
-    to_count(sum, scale)
+/// A polynomial whose coefficients are whole numbers at one scale already, and none where one of them is too wide. Contracts
+/// see the coefficients, that of the power 0 first.
+#[derive(Drop)]
+pub struct PolyCurve {
+    scale: u8,
+    scaled: Option<(i128, [i128; 4])>,
+    decs: Snapshot<[Dec; 5]>,
 }
 
-/// `A0 + A1·x + A2·x^2 + A3·x^3 + A4·x^4` at a raw number, or that it leaves the bounds (SCOS-2000 Database Import ICD,
-/// mcf; the scale, the rounding and the bounds are this profile's).
+impl Model for PolyCurve {
+    ghost use Rattle.std.specs.Prelude.{◌≡◌, List};
+    ghost use Rattle.mib_model.specs.declared.number.Dec.{Dec};
+    ghost use Rattle.mib_model.specs.Polynomials.{scale_of};
+    ghost use Rattle.dec_num.specs.Sums.{AreScaled};
+
+    ghost Value = { List Dec };
+
+    ghost view = { λ poly. poly.decs.value };
+
+    ghost invariant = { λ poly. (poly.scale ≡ scale_of poly.decs.value) × AreScaled poly.decs.value poly.scale poly.scaled };
+}
+
+impl PolyCurve {
+    /// The polynomial of coefficients, that of the power 0 first.
+    pub fn new(a: &[Dec; 5]) -> PolyCurve
+        ensures { result ≡ a.now }
+    {
+        let scale = scale_of(a);
+        PolyCurve {
+            scale,
+            scaled: coefficients(a, scale),
+            decs: Snapshot::of(a),
+        }
+    }
+
+    // The count at a number, where no step is too wide.
+    fn count_at(&self, raw: i128) -> Option<i128>
+        ensures { or_over result ≡ Spec.polynomial self.now raw }
+    {
+        let (first, rest) = self.scaled?;
+        let sum = total(first, up_to_degree(&rest), raw)?;
+        to_count(sum, self.scale)
+    }
+
+    /// `A0 + A1·x + A2·x^2 + A3·x^3 + A4·x^4` at a raw number, or that it leaves the bounds (SCOS-2000 Database Import ICD,
+    /// mcf; the scale, the rounding and the bounds are this profile's).
+    pub fn at(&self, raw: i128) -> Result<Eng, Over>
+        requires low { least_raw ≤ℤ raw }
+        requires high { raw ≤ℤ greatest_raw }
+        ensures { counted result ≡ Spec.polynomial self.now raw }
+    {
+        match self.count_at(raw) {
+            Some(count) => Ok(Eng { count }),
+            None => Err(Over),
+        }
+    }
+}
+
+/// A polynomial at a raw number, or that it leaves the bounds, by its coefficients, that of the power 0 first.
 pub fn poly(a: &[Dec; 5], raw: i128) -> Result<Eng, Over>
     requires low { least_raw ≤ℤ raw }
     requires high { raw ≤ℤ greatest_raw }
     ensures { counted result ≡ Spec.polynomial a.now raw }
 {
-    match count_at(a, raw) {
-        Some(count) => Ok(Eng { count }),
-        None => Err(Over),
-    }
+    PolyCurve::new(a).at(raw)
 }

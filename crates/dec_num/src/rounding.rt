@@ -44,6 +44,37 @@ pub fn half(dividend: i128, divisor: u128) -> i128
     if dividend < 0 { -magnitude } else { magnitude }
 }
 
+// 10 to a power of at most 19, without a multiplication.
+#[tactic(auto, using(crate::proofs::RoundingFacts::powers))]
+fn small_power(exponent: u32) -> u64
+    requires { exponent ≤ 19 }
+    ensures { result ≡ 10 ^ exponent }
+{
+    match exponent {
+        0 => 1,
+        1 => 10,
+        2 => 100,
+        3 => 1_000,
+        4 => 10_000,
+        5 => 100_000,
+        6 => 1_000_000,
+        7 => 10_000_000,
+        8 => 100_000_000,
+        9 => 1_000_000_000,
+        10 => 10_000_000_000,
+        11 => 100_000_000_000,
+        12 => 1_000_000_000_000,
+        13 => 10_000_000_000_000,
+        14 => 100_000_000_000_000,
+        15 => 1_000_000_000_000_000,
+        16 => 10_000_000_000_000_000,
+        17 => 100_000_000_000_000_000,
+        18 => 1_000_000_000_000_000_000,
+        19 => 10_000_000_000_000_000_000,
+        _ => 10_u64.pow(exponent),
+    }
+}
+
 /// 10 to a power of at most 38.
 #[tactic(auto, using(crate::proofs::RoundingFacts::powers))]
 pub fn power(exponent: u32) -> u128
@@ -52,7 +83,7 @@ pub fn power(exponent: u32) -> u128
     ensures positive { 0 < result }
 {
     if exponent <= 19 {
-        u128::from(10_u64.pow(exponent))
+        u128::from(small_power(exponent))
     } else {
         10_u128.pow(exponent)
     }

@@ -14,7 +14,8 @@ use Rattle.std.specs.Cmp.Lexicographic.{slice_cmp, texts_ties}
 use Rattle.std.specs.List.{AllAdjacentBelow, position, position_or_len}
 use Rattle.std.specs.Ordering.{nat_cmp, is_eq}
 use Rattle.std.specs.Str.{bytes_eq}
-use Rattle.mib_model.specs.Kept.{Kept, Memory, keeping, nothing_kept, empty_memory}
+use Rattle.mib_model.specs.declared.packet.Value.{Value}
+use Rattle.mib_model.specs.Kept.{Kept, Memory, keeping, nothing_kept, empty_memory, entered, has_number}
 use Rattle.param_plan.specs.Slices.{ParamSlice}
 use Rattle.param_plan.proofs.NameFacts.{below-far, not-named}
 use Rattle.fold_state.specs.declared.slot.Slot.{Slot}
@@ -99,6 +100,13 @@ kept-set board name i s long at = λ j other. each other j where
     | inr apart ↦
         rw apart (ap kept_beside (pair-past (is_name_of other) board.names board.slots i s [] (other-name (get_or board.names i []) name other (same-name _ _ place.1) apart)))
   ]
+
+-- a raw number kept at the place of a value's name is the latest of that name
+pub latest-set : (board : Slots) (v : Value) (i : ℕ) (s t : Slot) → length board.slots ≡ length board.names → place_of board v.name ≡ Some i → s ≡ get_or board.slots i s
+    → t ≡ record s { latest = Some v.raw } → has_number v.shape.sort ≡ true → memory_of (record { names = board.names; slots = set board.slots i t }) ≡ entered (memory_of board) v
+latest-set board v i s t long at is wrote number =
+    let made : kept_as t ≡ record (memory_of board v.name) { latest = Some v.raw } = ap kept_as wrote ∙ ap (λ (k : Kept). record k { latest = Some v.raw }) (kept-at board v.name i s long at is) in
+    rw number (kept-set board v.name i t long at ∙ ap (keeping (memory_of board) v.name) made)
 
 -- names that rise have their place where a search ends
 pub place-risen : (names : List (List ℕ)) (name : List ℕ) (i : ℕ) → Rise names → i < length names → get_or names i [] ≡ name → position (is_name_of name) names ≡ Some i

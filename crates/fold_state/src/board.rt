@@ -1,7 +1,11 @@
-ghost use Rattle.std.specs.Prelude.{◌≡◌, ◌<◌, [], List, ℕ, Some, length, map, IfOk};
+ghost use Rattle.std.specs.Prelude.{◌≡◌, ◌<◌, [], List, ℕ, Some, get_or, length, map, true, IfOk, IsTrue};
 ghost use Rattle.mib_model.specs.Kept as Spec;
+ghost use Rattle.mib_model.specs.Kept.{has_number};
+ghost use Rattle.mib_model.specs.declared.packet.Value.{Value};
 ghost use Rattle.fold_state.specs.Boards.{kept_as, memory_of, place_of, plan_name, plan_names};
 
+use crate::ahead::read_ahead;
+use crate::guesses::Guesses;
 use crate::slot::Slot;
 use check_plan::Holds;
 use mib_model::{MadeFor, Name};
@@ -16,8 +20,9 @@ use std::sync::Arc;
 pub struct Board {
     names: Vec<Name>,
     slots: Vec<Slot>,
-    // The place that was found last behind each place, and behind none: where the next one is looked for first.
-    likely: Vec<usize>,
+    guesses: Guesses,
+    // Made of what was read ahead; it says nothing.
+    ahead: usize,
 }
 
 impl Model for Board {
@@ -51,11 +56,12 @@ impl Board {
     {
         let names = names_of(alloc, params.plans())?;
         let slots = vec![in alloc; Slot::new(); names.len()]?;
-        let likely = vec![in alloc; 0; names.len()]?;
+        let guesses = Guesses::new(alloc, &names)?;
         Ok(Board {
             names,
             slots,
-            likely,
+            guesses,
+            ahead: 0,
         })
     }
 
@@ -67,12 +73,20 @@ impl Board {
         Board {
             names: Vec::new(alloc),
             slots: Vec::new(alloc),
-            likely: Vec::new(alloc),
+            guesses: Guesses::empty(alloc),
+            ahead: 0,
         }
     }
 
-    /// The place of a name, by halving.
-    pub(crate) fn place(&self, name: Name) -> Option<usize>
+    // Whether a name stands at a place.
+    fn is_at(&self, at: usize, name: &Name) -> bool
+        ensures { IsTrue result → at < length self.now.names × (get_or self.now.names at [] ≡ name.now) }
+    {
+        at < self.names.len() && self.names[at] == *name
+    }
+
+    // The place of a name, by halving.
+    fn halved(&self, name: Name) -> Option<usize>
         ensures { result ≡ place_of self.now name }
     {
         match self.names.binary_search(&name) {
@@ -81,45 +95,55 @@ impl Board {
         }
     }
 
-    // The place of a name, which is looked for first at a likely one.
-    fn place_near(&self, near: usize, name: Name) -> Option<usize>
-        ensures { result ≡ place_of self.now name }
+    /// The place of a name, which is looked for first where its octets say.
+    pub(crate) fn place(&self, name: &Name) -> Option<usize>
+        ensures { result ≡ place_of self.now name.now }
     {
-        if near < self.names.len() && self.names[near] == name {
-            return Some(near);
+        let guess = self.guesses.named(name);
+        if self.is_at(guess, name) {
+            return Some(guess);
         }
-        self.place(name)
+        self.halved(*name)
     }
 
-    // Where the name behind a place is looked for first.
-    fn likely(&self, last: usize) -> usize {
-        match self.likely.get(last) {
-            Some(near) => *near,
-            None => last,
-        }
-    }
-
-    // Notes the place that was found behind another.
-    fn note(&mut self, last: usize, at: usize)
+    /// Where the guesses begin of a packet that is of this kind and has so many values.
+    pub(crate) fn guesses_for(&mut self, spid: u32, count: usize) -> usize
         ensures { self.new ≡ self.old }
     {
-        if last < self.likely.len() {
-            self.likely[last] = at;
-        }
+        self.guesses.row(spid, count)
     }
 
-    /// The place of a name that comes behind a place: packets of one kind have their values in one order, so it is looked
-    /// for first where it was found last.
-    pub(crate) fn place_behind(&mut self, last: usize, name: Name) -> Option<usize>
-        ensures place { result ≡ place_of self.old name }
+    // A number made of what is kept at the places that guesses say.
+    fn touch_slots(&self, places: &[u32]) -> usize {
+        let mut seen = 0;
+        for place in places {
+            if let Some(slot) = self.slots.get(*place as usize) {
+                seen ^= usize::from(slot.previous.is_some());
+            }
+        }
+        seen
+    }
+
+    /// Reads ahead what will be asked of the plans and slots of so many values, whose guesses begin here.
+    pub(crate) fn read_ahead(&mut self, params: &Params, first: usize, count: usize)
+        ensures { self.new ≡ self.old }
+    {
+        let places = self.guesses.places(first, count);
+        self.ahead = self.touch_slots(places) ^ read_ahead(params.plans(), places);
+    }
+
+    /// The place of a name, which is looked for first where a guess says.
+    pub(crate) fn place_near(&mut self, near: usize, name: &Name) -> Option<usize>
+        ensures place { result ≡ place_of self.old name.now }
         ensures same { self.new ≡ self.old }
     {
-        let near = self.likely(last);
-        let at = self.place_near(near, name);
+        let guess = self.guesses.place(near);
+        if self.is_at(guess, name) {
+            return Some(guess);
+        }
+        let at = self.place(name);
         if let Some(at) = at {
-            if at != near {
-                self.note(last, at);
-            }
+            self.guesses.note(near, at);
         }
         at
     }
@@ -130,6 +154,16 @@ impl Board {
         ensures { (name : List ℕ) → place_of self.now name ≡ Some at → kept_as result ≡ memory_of self.now name }
     {
         self.slots[at]
+    }
+
+    /// Keeps the raw number of a value of the name at a place.
+    pub(crate) fn set_latest(&mut self, at: usize, raw: i128)
+        requires { at < length self.old.names }
+        ensures names { self.new.names ≡ self.old.names }
+        ensures memory { (v : Value) → place_of self.old v.name ≡ Some at → has_number v.shape.sort ≡ true → v.raw ≡ raw
+            → memory_of self.new ≡ Spec.entered (memory_of self.old) v }
+    {
+        self.slots[at].latest = Some(raw);
     }
 
     /// Keeps something else at a place.
@@ -147,7 +181,7 @@ impl Holds for Board {
     ghost memory = { memory_of };
 
     fn holds(&self, name: Name, number: i128) -> bool {
-        match self.place(name) {
+        match self.place(&name) {
             Some(at) => self.slot(at).latest == Some(number),
             None => false,
         }

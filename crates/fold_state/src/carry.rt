@@ -95,7 +95,7 @@ fn kept_for(old: &Board, from: &Params, plan: &Param) -> Slot
     ensures { (before after : Database) → IsParamsOf before from.now → old.now.names ≡ plan_names from.now → IsSliceOf after plan.now.pcf.name plan.now
         → kept_as result ≡ Spec.carry (memory_of old.now) before after plan.now.pcf.name }
 {
-    match old.place(plan.name()) {
+    match old.place(&plan.name()) {
         Some(at) => kept_at(old, at, from, plan),
         None => Slot::new(),
     }

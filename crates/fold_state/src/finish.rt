@@ -33,6 +33,14 @@ pub struct Seen<'a> {
     pub title: Option<&'a Text>,
 }
 
+// The kind of a packet, by which the places of its values are guessed: its SPID.
+fn kind_of(found: &Found) -> u32 {
+    match *found {
+        Found::Spid { spid, .. } => spid,
+        _ => 0,
+    }
+}
+
 // The tail of a valid value, for so many decimals.
 fn tail_for<'a>(decimals: u8, given: Option<Cal<'a>>) -> Tail<'a>
     ensures { tail_as result ≡ Spec.tail_for decimals (option_map calibrated_as given.entry) }
@@ -97,15 +105,15 @@ impl Board {
         self.finish_at(at, &plans[at], value)
     }
 
-    // Finishes a value that comes behind a place, appends its line and that of what its check tells, and gives its own place.
+    // Finishes a value, whose place is looked for where a guess says, and appends its line and that of what its check tells.
     fn finish_value(
         &mut self,
         params: &Params,
-        last: usize,
+        near: usize,
         value: &Value,
         packet: &[u8],
         out: &mut Lines,
-    ) -> usize
+    )
         requires inside { is_inside packet.now value.now.at value.now.shape.width ≡ true }
         requires room { length out.old + VALUE_ROOM + LINE_MOST ≤ LINES_ROOM }
         ensures names { self.new.names ≡ self.old.names }
@@ -113,15 +121,21 @@ impl Board {
             → IsFinished db packet.now value.now (memory_of self.old) (memory_of self.new) out.old out.new }
         ensures room { length out.new ≤ length out.old + (VALUE_ROOM + NOTE_ROOM) }
     {
-        let place = self.place_behind(last, value.name);
+        let place = self.place_near(near, &value.name);
         let (tail, change) = self.finish_by(params, place, value);
         value_line(value, packet, &tail, out);
         add_change(value, change, out);
-        place.unwrap_or(last)
     }
 
-    // Finishes values in their order, and appends their lines.
-    fn finish_all(&mut self, params: &Params, values: &[Value], packet: &[u8], out: &mut Lines)
+    // Finishes values in their order, and appends their lines. The guesses of their places begin here.
+    fn finish_all(
+        &mut self,
+        params: &Params,
+        first: usize,
+        values: &[Value],
+        packet: &[u8],
+        out: &mut Lines,
+    )
         requires few { length values.now ≤ most_values }
         requires inside { All (λ v. is_inside packet.now v.at v.shape.width ≡ true) values.now }
         requires room { length out.old + most_values * (VALUE_ROOM + NOTE_ROOM) + LINE_MOST ≤ LINES_ROOM }
@@ -130,10 +144,21 @@ impl Board {
             → AreFinished db packet.now values.now (memory_of self.old) (memory_of self.new) out.old out.new }
         ensures room { length out.new ≤ length out.old + most_values * (VALUE_ROOM + NOTE_ROOM) }
     {
-        let mut last = 0;
+        let mut near = first;
         for value in values {
-            last = self.finish_value(params, last, value, packet, out);
+            self.finish_value(params, near, value, packet, out);
+            near = near.saturating_add(1);
         }
+    }
+
+    // Reads ahead what the values of a packet will ask for, and tells where the guesses of their places begin.
+    fn begin(&mut self, params: &Params, seen: &Seen<'_>) -> usize
+        ensures { self.new ≡ self.old }
+    {
+        let count = seen.values.len();
+        let first = self.guesses_for(kind_of(seen.found), count);
+        self.read_ahead(params, first, count);
+        first
     }
 
     /// Finishes the values of a packet: enters their raw numbers, then calibrates and checks each in its order, and appends
@@ -155,8 +180,9 @@ impl Board {
         ensures room { length out.new + LINE_MOST ≤ LINES_ROOM }
     {
         head_line(seen.number, seen.header, seen.found, seen.title, out);
-        self.enter_all(seen.values);
-        self.finish_all(params, seen.values, seen.packet, out);
+        let first = self.begin(params, seen);
+        self.enter_all(seen.values, first);
+        self.finish_all(params, first, seen.values, seen.packet, out);
         ended_line(seen.ended, out);
     }
 }

@@ -6,11 +6,13 @@
 //! changes. It rests on `param_plan` and `check_plan` for the plans and on `record_text` for the lines.
 #![tactic(auto)]
 
+mod ahead;
 mod board;
 mod carry;
 mod check;
 mod enter;
 mod finish;
+mod guesses;
 mod laws;
 mod slot;
 mod value;

@@ -18,6 +18,21 @@ pub struct Choice {
     curve: Option<Curve>,
 }
 
+impl Choice {
+    /// A number made of its condition and of whether there is a curve.
+    pub fn touch(&self) -> usize {
+        usize::from(self.rlchk.is_some() ^ self.curve.is_some())
+    }
+
+    /// A number made of the curve's points or ranges.
+    pub fn touch_curve(&self) -> usize {
+        match &self.curve {
+            Some(curve) => curve.touch(),
+            None => 0,
+        }
+    }
+}
+
 // The curve of rows, if there are rows.
 fn curve_of(alloc: Global, rows: &Option<CurveRows>) -> Result<Option<Curve>, AllocError>
     requires { IsApart (option_map rows_of rows.now) }

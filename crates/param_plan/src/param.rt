@@ -85,6 +85,35 @@ impl Param {
         })
     }
 
+    /// A number made of the plan's own octets: who asks for it early, and then for `touch_parts` and `touch_curve`, has the plan
+    /// at hand when a value is finished.
+    pub fn touch(&self) -> usize {
+        let pcf = &self.rows.pcf;
+        let parts = self.choices.len() ^ usize::from(self.checks.is_some());
+        parts ^ usize::from(pcf.valid.is_some()) ^ usize::from(pcf.decim)
+    }
+
+    /// A number made of the first curve's condition and of the first checks.
+    pub fn touch_parts(&self) -> usize {
+        let choice = match self.choices.first() {
+            Some(choice) => choice.touch(),
+            None => 0,
+        };
+        let checks = match &self.checks {
+            Some(checks) => checks.touch(),
+            None => 0,
+        };
+        choice ^ checks
+    }
+
+    /// A number made of the first curve's points or ranges.
+    pub fn touch_curve(&self) -> usize {
+        match self.choices.first() {
+            Some(choice) => choice.touch_curve(),
+            None => 0,
+        }
+    }
+
     /// The rows compiled.
     pub fn rows(&self) -> &ParamRows
         ensures { slice_of result.now ≡ self.now }

@@ -15,16 +15,16 @@ loop-value-init c = record {
 
 pub loop-value-preserved : goal.loop-value-preserved
 loop-value-preserved c = record {
-  names = c.finish_value-last.ensures.names ∙ c.loop-value.invariant.names;
+  names = c.finish_value.ensures.names ∙ c.loop-value.invariant.names;
   finished = λ db fits.
       let i = c.loop-value.value-index in
       let values = c.args.values.now in
       let v = c.value-item.result in
       let slot = slot-kept c.args.self.now c.loop-value.self v.name c.loop-value.invariant.names (each-item (λ (v : Value). HasSlot c.args.self.now v.name) values i v c.loop-value-test.true c.value-item.is fits.slots) in
       let raw = each-item IsRaw values i v c.loop-value-test.true c.value-item.is fits.numbers in
-      let one = c.finish_value-last.ensures.finished db fits.plans (c.loop-value.invariant.names ∙ fits.names) slot raw in
+      let one = c.finish_value.ensures.finished db fits.plans (c.loop-value.invariant.names ∙ fits.names) slot raw in
       let more = are-more db c.args.packet.now (take i values) v _ _ _ _ _ _ (c.loop-value.invariant.finished db fits) one in
       let front : take (i + 1) values ≡ _ = take_more values i v c.loop-value-test.true in
-      subst (λ (vs : List Value). AreFinished db c.args.packet.now vs (memory_of c.args.self.now) (memory_of c.finish_value-last.new.self) c.args.out.now c.finish_value-last.new.out) (sym (front ∙ ap (λ (x : Value). take i values ++ x ∷ []) (sym c.value-item.is))) more;
+      subst (λ (vs : List Value). AreFinished db c.args.packet.now vs (memory_of c.args.self.now) (memory_of c.finish_value.new.self) c.args.out.now c.finish_value.new.out) (sym (front ∙ ap (λ (x : Value). take i values ++ x ∷ []) (sym c.value-item.is))) more;
   room = omega arith;
 }

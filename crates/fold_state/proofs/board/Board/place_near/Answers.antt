@@ -1,13 +1,11 @@
-use Rattle.std.proofs.Common.{◌∙◌, ◌<◌, [], List, ℕ, ap, arith, length, sym, get_or, ◌≡◌}
-use Rattle.std.proofs.lemmas.List.{get_or_default}
-use Rattle.fold_state.specs.Boards.{Slots, place_of}
-use Rattle.fold_state.proofs.BoardFacts.{place-risen, same-name}
+use Rattle.std.proofs.Common.{sym, subst}
+use Rattle.fold_state.specs.Boards.{Slots}
+use Rattle.fold_state.specs.Places.{Rise}
+use Rattle.fold_state.proofs.BoardFacts.{place-risen}
 use Rattle.fold_state.proofs.board.Board.place_near.Goals as goal
 
-pub returns-then-eq : goal.returns-then-eq
-returns-then-eq c =
-    let names = c.self.inside.names.items in
-    let below : c.args.near < length names = omega (arith, c.len.ensures, c.if-near-len.true) in
-    let found : c.index.result.now ≡ c.args.name = same-name c.index.result.now c.args.name (sym c.eq.ensures ∙ c.if-eq.true) in
-    let here : get_or names c.args.near [] ≡ c.args.name = get_or_default names c.args.near [] c.index.result.now below ∙ sym c.index.ensures ∙ found in
-    sym (place-risen names c.args.name c.args.near c.self.invariant.0 below here) ∙ ap (λ (b : Slots). place_of b c.args.name) c.self.view_is
+pub returns-then-is_at-clause-place : goal.returns-then-is_at-clause-place
+returns-then-is_at-clause-place c =
+    let here = c.is_at.ensures c.if-is_at.true in
+    let rise = subst (λ (b : Slots). Rise b.names) c.self.view_is c.self.invariant.0 in
+    sym (place-risen c.args.self.now.names c.args.name.now c.place-guess.result rise here.0 here.1)

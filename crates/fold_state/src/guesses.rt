@@ -1,0 +1,130 @@
+// Where the names of values are looked for first.
+use mib_model::Name;
+use std::alloc::{AllocError, Global};
+
+/// The guesses by the octets of a name.
+const NAMED: usize = 65_536;
+
+/// A kind of packet, and where its row of guesses begins.
+#[derive(Clone, Copy)]
+struct Kind {
+    spid: u32,
+    first: u32,
+}
+
+/// Guesses of places: packets of one kind have their values in one order, so each kind has a row of guesses, the places
+/// where its names were found last. Beside them a name has a guess by its octets. Any of them may be wrong.
+#[derive(Drop)]
+pub struct Guesses {
+    kinds: Vec<Kind>,
+    places: Vec<u32>,
+    free: usize,
+    named: Vec<u32>,
+}
+
+// A number made of the octets of a name.
+fn mixed(name: &Name) -> u32 {
+    let mut mixed = 0_u32;
+    for octet in name.bytes() {
+        mixed = mixed.wrapping_mul(31).wrapping_add(u32::from(*octet));
+    }
+    mixed.wrapping_mul(2_654_435_761) / 65_536
+}
+
+impl Guesses {
+    /// Guesses for names at these places. An error is want of memory.
+    pub fn new(alloc: Global, names: &[Name]) -> Result<Guesses, AllocError> {
+        let nothing = Kind { spid: 0, first: 0 };
+        let mut guesses = Guesses {
+            kinds: vec![in alloc; nothing; names.len()]?,
+            places: vec![in alloc; 0; names.len().saturating_mul(8)]?,
+            free: 0,
+            named: vec![in alloc; 0; NAMED]?,
+        };
+        for at in 0..names.len() {
+            guesses.note_name(&names[at], at);
+        }
+        Ok(guesses)
+    }
+
+    /// No guesses. They take no memory.
+    pub fn empty(alloc: Global) -> Guesses {
+        Guesses {
+            kinds: Vec::new(alloc),
+            places: Vec::new(alloc),
+            free: 0,
+            named: Vec::new(alloc),
+        }
+    }
+
+    // Notes the place of a name.
+    fn note_name(&mut self, name: &Name, at: usize) {
+        let key = mixed(name) as usize;
+        if key < self.named.len() {
+            self.named[key] = u32::try_from(at).unwrap_or(0);
+        }
+    }
+
+    /// The guess for a name, and a wrong one where there is none.
+    pub fn named(&self, name: &Name) -> usize {
+        match self.named.get(mixed(name) as usize) {
+            Some(place) => *place as usize,
+            None => usize::MAX,
+        }
+    }
+
+    // Takes a row of so many guesses, that of another kind where none is left.
+    fn take_row(&mut self, count: usize) -> u32 {
+        let end = self.free.saturating_add(count);
+        let first = if end <= self.places.len() {
+            self.free
+        } else {
+            0
+        };
+        self.free = first.saturating_add(count);
+        u32::try_from(first).unwrap_or(0)
+    }
+
+    // Keeps a kind.
+    fn keep(&mut self, at: usize, kind: Kind) {
+        if at < self.kinds.len() {
+            self.kinds[at] = kind;
+        }
+    }
+
+    /// Where the row of a packet begins that is of this kind and has so many values.
+    pub fn row(&mut self, spid: u32, count: usize) -> usize {
+        let at = spid as usize % self.kinds.len().max(1);
+        if let Some(kind) = self.kinds.get(at) {
+            if kind.spid == spid {
+                return kind.first as usize;
+            }
+        }
+        let first = self.take_row(count);
+        self.keep(at, Kind { spid, first });
+        first as usize
+    }
+
+    /// The guesses of a row that begins here, as far as there are so many.
+    pub fn places(&self, first: usize, count: usize) -> &[u32] {
+        match self.places.get(first..first.saturating_add(count)) {
+            Some(places) => places,
+            None => &[],
+        }
+    }
+
+    /// A guess of a row, and a wrong one where there is none.
+    pub fn place(&self, near: usize) -> usize {
+        match self.places.get(near) {
+            Some(place) => *place as usize,
+            None => usize::MAX,
+        }
+    }
+
+    /// Notes the place that was found.
+    pub fn note(&mut self, near: usize, at: usize) {
+        if near < self.places.len() {
+            self.places[near] = u32::try_from(at).unwrap_or(0);
+        }
+    }
+}
