@@ -62,6 +62,10 @@ bits-octets octets i (suc n) each =
     ap (bits octets (8 * i)) more ∙ bits-append octets (8 * i) 8 (8 * n) ∙
     rw (bits-octet octets i (each i), next, bits-octets octets (suc i) n each, octets_power n) refl
 
+-- the number of first octets
+pub bits-aligned : (octets : List ℕ) (n : ℕ) → ((k : ℕ) → get_or octets k 0 < 256) → big_number n octets ≡ bits octets 0 (8 * n)
+bits-aligned octets n each = sym (bits-octets octets 0 n each)
+
 -- a field behind the first bits of octets
 pub bits-inside : (octets : List ℕ) (skip width rest n : ℕ) → skip + width + rest ≡ 8 * n → ((k : ℕ) → get_or octets k 0 < 256)
     → big_number n octets / 2 ^ rest % 2 ^ width ≡ bits octets skip width

@@ -7,4 +7,4 @@ pub returns-then-width-eq0-clause-value : goal.returns-then-width-eq0-clause-val
 returns-then-width-eq0-clause-value c = bits-none c.args.octets.now c.args.at c.args.width c.if-width-eq0.true
 
 pub returns-clause-value : goal.returns-clause-value
-returns-clause-value c = (rw take_rest at c.number_behind.ensures.value) ∙ bits-place c.args.octets.now c.args.at c.args.width
+returns-clause-value c = (rw take_rest at c.number_from.ensures.value) ∙ bits-place c.args.octets.now c.args.at c.args.width
