@@ -6,7 +6,9 @@
 Below FOLDER come `rows_N`, a sound folder of N rows for each N of ROWS, `nested_N`, one structure of N rows whose groups
 are nested to half its depth, for each N of NESTED, `mission`, a sound folder whose tables are as large as a mission's,
 most of them places of parameters, and `fixed` with `fixed.feed`, PACKETS packets of two values of 16
-bits by three tables. What is there already is kept.
+bits by three tables, `typed_N` with `typed_N.feed` for each N of KINDS, packets told apart by discriminants with a value of each
+type, and `walk_NAME` with `walk_NAME.feed` for each NAME of WALKS, WALK_PACKETS packets of one structure or, for `flat`, of one
+layout, each with the most values that a packet may have. What is there already is kept.
 """
 import os
 import random
@@ -18,6 +20,8 @@ NESTED = (8_192, 32_768)
 PACKETS = 1_000_000
 KINDS = (15, 1_500)
 TYPED_PACKETS = 200_000
+WALK_PACKETS = 20
+MOST_VALUES = 8_192
 TABLES = 15
 
 
@@ -153,6 +157,50 @@ def write_typed_feed(path, kinds, count):
             file.write(pack(0x0864, 0xC000 | i % 16384, 6 + size, 0x10, 3, 25, 0, kind, kind % 7) + rng.randbytes(size))
 
 
+def walk_tables(vpd):
+    """One kind of packet with values of one and of two bits, by the rows of one structure, or by a layout where there are none."""
+    return {
+        "pcf": [("BIT", "", "", "", 1, 0), ("PAIR", "", "", "", 2, 2)],
+        "pid": [(3, 25, 100, "", "", 1, "", "", 1 if vpd else -1, 4)],
+        "plf": [] if vpd else [("BIT", 1, 10, 0, MOST_VALUES, 1)],
+        "vpd": vpd,
+    }
+
+
+def value_rows(start, count):
+    """Rows of structure 1, a value of one bit each."""
+    return [(1, start + i, "BIT", 0, 0) for i in range(count)]
+
+
+def nested_groups(depth, inside):
+    """Groups of structure 1, each inside the one before and walked twice, round so many rows that stand behind them."""
+    return [(1, i, "BIT", depth - 1 - i + inside, 2) for i in range(depth)]
+
+
+def counted_groups(start, depth):
+    """Groups of structure 1, each inside the one before and walked as often as its own value of two bits says."""
+    return [(1, start + i, "PAIR", depth - i, 0) for i in range(depth)] + value_rows(start + depth, 1)
+
+
+# Rows of one structure by name: none at all (a layout), a value a row, short groups, and groups nested as deep as may be.
+WALKS = {
+    "flat": [],
+    "rows": value_rows(0, MOST_VALUES),
+    "long": [(1, 7 * i + j, "BIT", 6 - j, 1 if j < 6 else 0) for i in range(8_571) for j in range(7)],
+    "short": [row for i in range(MOST_VALUES // 8) for row in [(1, 2 * i, "BIT", 1, 8), (1, 2 * i + 1, "BIT", 0, 0)]],
+    "deep": nested_groups(16_384, 1) + value_rows(16_384, 1),
+    "deep_counted": nested_groups(16_384, 16_385) + counted_groups(16_384, 16_384),
+}
+
+
+def write_walk_feed(path, count):
+    """Packets whose bits are all 1."""
+    size = (2 * MOST_VALUES + 7) // 8
+    with open(path, "wb") as file:
+        for i in range(count):
+            file.write(struct.pack(">HHHBBBB", 0x0864, 0xC000 | i % 16384, 3 + size, 0x10, 3, 25, 0) + b"\xff" * size)
+
+
 def main():
     top = sys.argv[1]
     for count in ROWS:
@@ -170,6 +218,11 @@ def main():
     if not os.path.isfile(feed):
         write_tables(os.path.join(top, "fixed"), fixed_tables())
         write_fixed_feed(feed, PACKETS)
+    for name, rows in WALKS.items():
+        feed = os.path.join(top, f"walk_{name}.feed")
+        if not os.path.isfile(feed):
+            write_tables(os.path.join(top, f"walk_{name}"), walk_tables(rows))
+            write_walk_feed(feed, WALK_PACKETS)
     for kinds in KINDS:
         feed = os.path.join(top, f"typed_{kinds}.feed")
         if not os.path.isfile(feed):

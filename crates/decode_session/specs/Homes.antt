@@ -5,8 +5,12 @@ use Rattle.decode_session.specs.Run.{most_in_flight}
 use Rattle.mib_model.specs.Fixed.{most_values}
 use Rattle.packet_feed.specs.declared.feed.TheConstants.{PACKET_SIZE}
 
--- the buffers of so many packets are out
+-- the buffers of so many packets are out, of those for so many
+abbrev pub AreOutOf : ℕ → ℕ → Home → Type 0
+AreOutOf rooms count home =
+    (home.frames ≡ record { pieces = rooms; size = PACKET_SIZE; out = count })
+    × (home.slots ≡ record { pieces = rooms; size = most_values; out = count })
+
+-- the buffers of so many packets are out, of those for a batch
 abbrev pub AreOut : ℕ → Home → Type 0
-AreOut count home =
-    (home.frames ≡ record { pieces = most_in_flight; size = PACKET_SIZE; out = count })
-    × (home.slots ≡ record { pieces = most_in_flight; size = most_values; out = count })
+AreOut count home = AreOutOf most_in_flight count home

@@ -1,8 +1,8 @@
 // A batch is filled.
-ghost use Rattle.std.specs.Prelude.{◌≡◌, ◌≢◌, ◌+◌, ◌≤◌, [], vec_len, vec_capacity, IfOk, IfErr, OnOk};
+ghost use Rattle.std.specs.Prelude.{◌≡◌, ◌≢◌, ◌+◌, ◌<◌, ◌≤◌, [], vec_len, vec_capacity, IfOk, IfErr, OnOk};
 ghost use Rattle.decode_session.specs.Batches.{IsRead, EndsFeed, Fills};
 ghost use Rattle.decode_session.specs.Causes.{HasFillCause};
-ghost use Rattle.decode_session.specs.Run.{most_packets, most_in_flight};
+ghost use Rattle.decode_session.specs.Run.{most_packets};
 ghost use Rattle.packet_feed.specs.Feed.{source_of};
 
 use crate::cell::Cell;
@@ -72,17 +72,16 @@ pub(crate) fn fill<S: Source>(
     cells: &mut Vec<Cell>,
 ) -> Filled
     requires number { number ≤ most_packets }
-    requires free { vec_len rooms.old ≡ most_in_flight }
+    requires some { 0 < vec_len rooms.old }
     requires empty { cells.old.items ≡ [] }
-    requires rooms { most_in_flight ≤ vec_capacity rooms.old }
-    requires cells { most_in_flight ≤ vec_capacity cells.old }
+    requires cells { vec_len rooms.old ≤ vec_capacity cells.old }
     ensures fills { Fills result number cells.new.items (S.left (source_of feed.old)) (S.left (source_of feed.new)) }
     ensures cause { HasFillCause result (S.faults (source_of feed.old)) (S.faults (source_of feed.new)) }
     ensures limit { number + vec_len cells.new ≤ most_packets + 1 }
     ensures below { result ≢ Filled.Paused → number + vec_len cells.new ≤ most_packets }
-    ensures all { vec_len rooms.new + vec_len cells.new ≡ most_in_flight }
-    ensures rooms { most_in_flight ≤ vec_capacity rooms.new }
-    ensures cells { most_in_flight ≤ vec_capacity cells.new }
+    ensures all { vec_len rooms.new + vec_len cells.new ≡ vec_len rooms.old }
+    ensures rooms { vec_capacity rooms.old ≤ vec_capacity rooms.new }
+    ensures cells { vec_capacity cells.old ≤ vec_capacity cells.new }
     ensures missed { S.missed (source_of feed.new) ≡ S.missed (source_of feed.old) }
     ensures borrow { S.borrow (source_of feed.new) ≡ S.borrow (source_of feed.old) }
 {

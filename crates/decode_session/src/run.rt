@@ -1,5 +1,5 @@
 // A run: batches are filled, decoded and finished one after the other.
-ghost use Rattle.std.specs.Prelude.{◌≡◌, ◌≢◌, ◌+◌, ◌≤◌, [], Err, OnOk, OnErr, vec_len, vec_capacity};
+ghost use Rattle.std.specs.Prelude.{◌≡◌, ◌≢◌, ◌+◌, ◌<◌, ◌≤◌, [], Err, OnOk, OnErr, vec_len, vec_capacity};
 ghost use Rattle.std.specs.Io.KnownBytes.{Appends};
 ghost use Rattle.decode_session.specs.Causes.{HasOutCause, HasFeedCause};
 ghost use Rattle.decode_session.specs.Run.{EndsBy, Ran, most_in_flight};
@@ -15,13 +15,16 @@ use crate::batch::{Filled, MOST_PACKETS, fill};
 use crate::decoding::decode_batch;
 use crate::ending::{RunEnd, RunFault, Stop};
 use crate::finishing::{finish_batch, free_rooms};
-use crate::stock::{Home, Stock};
+use crate::stock::{BATCH, Home, Stock};
 use edition_plans::Plans;
 use packet_feed::Feed;
 use record_text::{Lines, cut_line};
 use std::alloc::Global;
 use std::thread::Threads;
 use tm_io::{Failed, Sink, Source, write_all};
+
+// The packets of a batch for one worker.
+const ALONE: u16 = 4;
 
 /// Writes the line of a rest.
 pub fn write_cut<O: Sink>(octets: u32, lines: &mut Lines, out: &mut O) -> Result<(), Failed>
@@ -55,18 +58,18 @@ fn run_batches<P: Plans + Sync, S: Source, O: Sink, R: Threads + Sync>(
     workers: u8,
 ) -> Result<RunEnd, RunFault>
     requires workers { 1 ≤ workers }
-    requires free { vec_len stock.old.rooms ≡ most_in_flight }
-    requires rooms { most_in_flight ≤ vec_capacity stock.old.rooms }
+    requires some { 0 < vec_len stock.old.rooms }
+    requires few { vec_len stock.old.rooms ≤ most_in_flight }
     requires empty { stock.old.cells.items ≡ [] }
-    requires cells { most_in_flight ≤ vec_capacity stock.old.cells }
+    requires cells { vec_len stock.old.rooms ≤ vec_capacity stock.old.cells }
     requires names { stock.old.board.names ≡ plan_names (param_slices (P.tables plans.now)) }
     requires memory { memory_of stock.old.board ≡ empty_memory }
     ensures ran { let says = EndsBy result (S.faults (source_of feed.old)) (S.faults (source_of feed.new)) in
         Ran says (P.tables plans.now) (S.left (source_of feed.old)) (S.left (source_of feed.new)) (O.written out.old) (O.written out.new) }
     ensures feed { HasFeedCause result (S.faults (source_of feed.old)) (S.faults (source_of feed.new)) }
     ensures out { HasOutCause result (O.faults out.old) (O.faults out.new) }
-    ensures all { vec_len stock.new.rooms + vec_len stock.new.cells ≡ most_in_flight }
-    ensures rooms { most_in_flight ≤ vec_capacity stock.new.rooms }
+    ensures all { vec_len stock.new.rooms + vec_len stock.new.cells ≡ vec_len stock.old.rooms }
+    ensures rooms { vec_len stock.old.rooms ≤ vec_capacity stock.new.rooms }
     ensures some { result ≢ Err (RunFault.Print Stop.Memory) }
     ensures missed { S.missed (source_of feed.new) ≡ S.missed (source_of feed.old) }
     ensures borrow { S.borrow (source_of feed.new) ≡ S.borrow (source_of feed.old) }
@@ -99,6 +102,14 @@ fn run_batches<P: Plans + Sync, S: Source, O: Sink, R: Threads + Sync>(
     Ok(RunEnd::Limit)
 }
 
+// How many packets are read ahead for so many workers: few for one, which is done with each at once.
+fn rooms_for(workers: u8) -> u16
+    ensures some { 0 < result }
+    ensures few { result ≤ most_in_flight }
+{
+    if workers == 1 { ALONE } else { BATCH }
+}
+
 /// Decodes the packets of a feed by one edition, with so many workers, and hands on what was written. It ends at the end of the
 /// feed, at a rest, at a fault, or after 1,000,000,000 packets, and waits for nobody beyond its feed and its output.
 #[tactic(auto, using(crate::proofs::RunSteps::ran_unflushed, crate::proofs::RunSteps::ran_nothing))]
@@ -119,15 +130,16 @@ pub fn decode_run<P: Plans + Sync, S: Source, O: Sink, R: Threads + Sync>(
     ensures missed { S.missed source.new ≡ S.missed source.old }
     ensures untouched { result ≡ Err (RunFault.Print Stop.Memory) → (source.new ≡ source.old) × (out.new ≡ out.old) }
 {
-    let Ok(mut home) = Home::new(alloc) else {
+    let rooms = rooms_for(workers);
+    let Ok(mut home) = Home::with_rooms(alloc, rooms) else {
         return Err(RunFault::Print(Stop::Memory));
     };
-    let Ok(mut stock) = Stock::new(alloc, plans, &mut home) else {
+    let Ok(mut stock) = Stock::with_rooms(alloc, plans, &mut home, rooms) else {
         return Err(RunFault::Print(Stop::Memory));
     };
     let mut feed = Feed::new(source);
     let ended = run_batches(rt, plans, &mut feed, &mut stock, out, workers);
-    stock.close(&mut home);
+    stock.close_rooms(&mut home, rooms);
     if let Err(RunFault::Print(Stop::Out)) = ended {
         return ended;
     }

@@ -3,7 +3,7 @@ ghost use Rattle.std.specs.Prelude.{◌≡◌, ◌+◌, ◌≤◌, [], vec_len, 
 ghost use Rattle.edition_plans.specs.Params.{param_slices};
 ghost use Rattle.fold_state.specs.Boards.{memory_of, plan_names};
 ghost use Rattle.mib_model.specs.Kept.{empty_memory};
-ghost use Rattle.decode_session.specs.Homes.{AreOut};
+ghost use Rattle.decode_session.specs.Homes.{AreOut, AreOutOf};
 ghost use Rattle.decode_session.specs.Run.{most_in_flight};
 
 use crate::cell::Cell;
@@ -18,8 +18,8 @@ use packet_feed::PACKET_SIZE;
 use record_text::Lines;
 use std::alloc::{AllocError, Global};
 
-// The most packets of a batch.
-const BATCH: u16 = 64;
+/// The most packets of a batch.
+pub const BATCH: u16 = 64;
 
 /// Where the buffers of packets are at home.
 #[derive(Drop)]
@@ -65,25 +65,32 @@ fn unused() -> Value {
 }
 
 impl Home {
+    /// Buffers for so many packets, all at home. An error is want of memory.
+    pub fn with_rooms(alloc: Global, rooms: u16) -> Result<Home, AllocError>
+        ensures { IfOk result (λ home. AreOutOf rooms 0 home) }
+    {
+        Ok(Home {
+            frames: Region::new(alloc, rooms, PACKET_SIZE, 0)?,
+            slots: Region::new(alloc, rooms, MOST_VALUES as usize, unused())?,
+        })
+    }
+
     /// Buffers for a batch, all at home. An error is want of memory.
     pub fn new(alloc: Global) -> Result<Home, AllocError>
         ensures { IfOk result (λ home. AreOut 0 home) }
     {
-        Ok(Home {
-            frames: Region::new(alloc, BATCH, PACKET_SIZE, 0)?,
-            slots: Region::new(alloc, BATCH, MOST_VALUES as usize, unused())?,
-        })
+        Home::with_rooms(alloc, BATCH)
     }
 
-    // Takes a room for each packet of a batch.
-    fn take_rooms(&mut self, alloc: Global) -> Result<Vec<Room>, AllocError>
-        requires { AreOut 0 self.old }
-        ensures out { OnOk result (AreOut most_in_flight self.new) }
-        ensures free { IfOk result (λ rooms. vec_len rooms ≡ most_in_flight) }
-        ensures room { IfOk result (λ rooms. most_in_flight ≤ vec_capacity rooms) }
+    // Takes all rooms, which are so many.
+    fn take_rooms(&mut self, alloc: Global, count: u16) -> Result<Vec<Room>, AllocError>
+        requires { AreOutOf count 0 self.old }
+        ensures out { OnOk result (AreOutOf count count self.new) }
+        ensures free { IfOk result (λ rooms. vec_len rooms ≡ count) }
+        ensures room { IfOk result (λ rooms. count ≤ vec_capacity rooms) }
     {
-        let mut rooms = Vec::with_capacity(alloc, usize::from(BATCH))?;
-        for _ in 0..BATCH {
+        let mut rooms = Vec::with_capacity(alloc, usize::from(count))?;
+        for _ in 0..count {
             let Some(frame) = self.frames.take() else {
                 unreachable!()
             };
@@ -95,10 +102,10 @@ impl Home {
         Ok(rooms)
     }
 
-    // Takes rooms back.
-    fn give_rooms(&mut self, mut rooms: Vec<Room>)
-        requires { AreOut (vec_len rooms) self.old }
-        ensures { AreOut 0 self.new }
+    // Takes rooms back, of so many in all.
+    fn give_rooms(&mut self, mut rooms: Vec<Room>, all: u16)
+        requires { AreOutOf all (vec_len rooms) self.old }
+        ensures { AreOutOf all 0 self.new }
     {
         while let Some(Room { frame, slots }) = rooms.pop() {
             self.frames.give(frame);
@@ -108,6 +115,31 @@ impl Home {
 }
 
 impl Stock {
+    /// What a run needs that begins by these plans and reads so many packets ahead, which keeps nothing yet. An error is want
+    /// of memory.
+    pub fn with_rooms<P: Plans>(
+        alloc: Global,
+        plans: &P,
+        home: &mut Home,
+        rooms: u16,
+    ) -> Result<Stock, AllocError>
+        requires { AreOutOf rooms 0 home.old }
+        ensures out { OnOk result (AreOutOf rooms rooms home.new) }
+        ensures free { IfOk result (λ stock. vec_len stock.rooms ≡ rooms) }
+        ensures rooms { IfOk result (λ stock. rooms ≤ vec_capacity stock.rooms) }
+        ensures empty { IfOk result (λ stock. stock.cells.items ≡ []) }
+        ensures cells { IfOk result (λ stock. rooms ≤ vec_capacity stock.cells) }
+        ensures names { IfOk result (λ stock. stock.board.names ≡ plan_names (param_slices (P.tables plans.now))) }
+        ensures memory { IfOk result (λ stock. memory_of stock.board ≡ empty_memory) }
+    {
+        Ok(Stock {
+            rooms: home.take_rooms(alloc, rooms)?,
+            cells: Vec::with_capacity(alloc, usize::from(rooms))?,
+            board: Board::new(alloc, plans.params())?,
+            lines: Lines::new(alloc)?,
+        })
+    }
+
     /// What a run that begins by these plans needs, which keeps nothing yet. An error is want of memory.
     pub fn new<P: Plans>(alloc: Global, plans: &P, home: &mut Home) -> Result<Stock, AllocError>
         requires { AreOut 0 home.old }
@@ -119,19 +151,14 @@ impl Stock {
         ensures names { IfOk result (λ stock. stock.board.names ≡ plan_names (param_slices (P.tables plans.now))) }
         ensures memory { IfOk result (λ stock. memory_of stock.board ≡ empty_memory) }
     {
-        Ok(Stock {
-            rooms: home.take_rooms(alloc)?,
-            cells: Vec::with_capacity(alloc, usize::from(BATCH))?,
-            board: Board::new(alloc, plans.params())?,
-            lines: Lines::new(alloc)?,
-        })
+        Stock::with_rooms(alloc, plans, home, BATCH)
     }
 
-    /// Gives all rooms back, those of cells too.
-    pub fn close(self, home: &mut Home)
-        requires out { AreOut (vec_len self.rooms + vec_len self.cells) home.old }
+    /// Gives all rooms back, those of cells too, to the home of so many.
+    pub fn close_rooms(self, home: &mut Home, all: u16)
+        requires out { AreOutOf all (vec_len self.rooms + vec_len self.cells) home.old }
         requires rooms { vec_len self.rooms + vec_len self.cells ≤ vec_capacity self.rooms }
-        ensures { AreOut 0 home.new }
+        ensures { AreOutOf all 0 home.new }
     {
         let Stock {
             mut rooms,
@@ -140,6 +167,15 @@ impl Stock {
             lines: _,
         } = self;
         free_rooms(&mut cells, &mut rooms);
-        home.give_rooms(rooms);
+        home.give_rooms(rooms, all);
+    }
+
+    /// Gives all rooms back, those of cells too.
+    pub fn close(self, home: &mut Home)
+        requires out { AreOut (vec_len self.rooms + vec_len self.cells) home.old }
+        requires rooms { vec_len self.rooms + vec_len self.cells ≤ vec_capacity self.rooms }
+        ensures { AreOut 0 home.new }
+    {
+        self.close_rooms(home, BATCH);
     }
 }

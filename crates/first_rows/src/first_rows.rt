@@ -61,7 +61,7 @@ fn note<B: By>(firsts: &mut HashMap<B::Key, B::Row>, row: B::Row) -> Result<(), 
 fn firsts<B: By>(alloc: Global, rows: &[B::Row]) -> Result<HashMap<B::Key, B::Row>, AllocError>
     ensures { IfOk result (λ firsts. (key : B.Key) → get B.Key.eq firsts key ≡ find (λ row. option_eq B.Key.eq (B.key_of row) (Some key)) rows.now) }
 {
-    let mut firsts = HashMap::new(alloc);
+    let mut firsts = HashMap::with_capacity(alloc, rows.len())?;
     for row in rows {
         note::<B>(&mut firsts, *row)?;
     }

@@ -97,7 +97,7 @@ fn spans_of(
     ensures places { IfOk result (λ spans. spans_places spans.items ≡ layout_places plfs.now types.now) }
     ensures near { IfOk result (λ spans. All IsNear spans.items) }
 {
-    let mut spans = Vec::new(alloc);
+    let mut spans = Vec::with_capacity(alloc, plfs.len())?;
     for row in plfs {
         add_row(&mut spans, row, types)?;
     }

@@ -7,15 +7,15 @@ use Rattle.packet_feed.specs.Feed.{source_of}
 pub loop-room-init : goal.loop-room-init
 loop-room-init g c =
     let none = ap (λ (l : List Cell). length l) c.requires.empty in
-    let empty : vec_len c.args.cells.now ≡ 0 = omega (arith, c.args.cells.now.ok.0) in let free = c.requires.free in
+    let empty : vec_len c.args.cells.now ≡ 0 = omega (arith, c.args.cells.now.ok.0) in
     record {
       all = omega arith;
       next = omega arith;
       limit = c.requires.number;
       read = read-none c.args.number c.args.cells.now.items (g.S.Source.left (source_of c.args.feed.now)) c.requires.empty;
       ahead = λ some. absurd (omega arith);
-      rooms = c.requires.rooms;
-      cells = c.requires.cells;
+      rooms = omega arith;
+      cells = omega arith;
       faults = refl;
       missed = refl;
       borrow = refl;

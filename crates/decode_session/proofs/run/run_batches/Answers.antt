@@ -13,8 +13,10 @@ use Rattle.packet_feed.specs.Feed.{source_of}
 
 pub loop-number-init : goal.loop-number-init
 loop-number-init g c = record {
-  free = c.requires.free;
-  rooms = c.requires.rooms;
+  all = refl;
+  some = c.requires.some;
+  few = c.requires.few;
+  rooms = omega (arith, c.args.stock.now.rooms.ok.0);
   empty = c.requires.empty;
   cells = c.requires.cells;
   names = c.requires.names;
@@ -41,7 +43,7 @@ finish_batch-requires-clause-ready g c =
 
 pub returns-in_default-finish_batch-clause-ran : goal.returns-in_default-finish_batch-clause-ran
 returns-in_default-finish_batch-clause-ran g c =
-    let db = g.P.Structures.tables c.args.plans.now in let all = c.fill-filled.ensures.all in let limit = c.fill-filled.ensures.limit in
+    let db = g.P.Structures.tables c.args.plans.now in let all = c.fill-filled.ensures.all in let limit = c.fill-filled.ensures.limit in let few = c.loop-number.invariant.few in
     ran-stopped db c.loop-number.number (memory_of c.loop-number.stock.board) c.fill-filled.new.cells.items c.decode_batch.new.cells.items c.decode_batch.ensures.decoded
     c.fill-filled.result (g.S.Source.faults (source_of c.args.feed.now)) (g.S.Source.faults (source_of c.fill-filled.new.feed)) (omega (arith, c.fill-filled.new.cells.ok.0)) (omega (arith, c.fill-filled.new.cells.ok.0))
     (subst (λ (n : ℕ). HasFillCause c.fill-filled.result n (g.S.Source.faults (source_of c.fill-filled.new.feed))) c.loop-number.invariant.feed c.fill-filled.ensures.cause)
@@ -56,10 +58,12 @@ loop-number-preserved g c =
     let db = g.P.Structures.tables c.args.plans.now in let all = c.fill-filled.ensures.all in let limit = c.fill-filled.ensures.limit in let count = c.len.ensures in let kept = c.decode_batch.ensures.count in
     let more : c.loop-number.number + length c.fill-filled.new.cells.items ≡ c.loop-number.number + c.len.result = omega (arith, c.fill-filled.new.cells.ok.0) in
     record {
-      free = let n = c.free_rooms.ensures.free in omega arith;
-      rooms = let n = c.free_rooms.ensures.rooms in let m = c.fill-filled.ensures.rooms in omega arith;
+      all = let n = c.free_rooms.ensures.free in let m = c.loop-number.invariant.all in omega arith;
+      some = let n = c.free_rooms.ensures.free in let m = c.loop-number.invariant.some in omega arith;
+      few = let n = c.free_rooms.ensures.free in let m = c.loop-number.invariant.few in omega arith;
+      rooms = let n = c.free_rooms.ensures.rooms in let m = c.fill-filled.ensures.rooms in let k = c.free_rooms.ensures.free in let r = c.loop-number.invariant.rooms in omega arith;
       empty = c.free_rooms.ensures.empty;
-      cells = let n = c.free_rooms.ensures.cells in let m = c.fill-filled.ensures.cells in let k = c.decode_batch.ensures.room in omega arith;
+      cells = let n = c.free_rooms.ensures.cells in let m = c.fill-filled.ensures.cells in let k = c.decode_batch.ensures.room in let f = c.free_rooms.ensures.free in let r = c.loop-number.invariant.cells in omega arith;
       names = c.finish_batch.ensures.board ∙ c.loop-number.invariant.names;
       limit = omega arith;
       going = subst (λ (n : ℕ). Going db n (memory_of c.finish_batch.new.board) (g.S.Source.left (source_of c.args.feed.now)) (g.S.Source.left (source_of c.fill-filled.new.feed)) (g.O.Sink.written c.args.out.now) (g.O.Sink.written c.finish_batch.new.out)) more

@@ -1,4 +1,4 @@
-use Rattle.std.proofs.Common.{◌+◌, ◌-◌, ◌≡◌, ◌≤◌, [], vec_len, vec_capacity}
+use Rattle.std.proofs.Common.{◌+◌, ◌-◌, ◌≡◌, ◌<◌, ◌≤◌, [], vec_len, vec_capacity}
 use Rattle.decode_session.specs.Finishing.{Going}
 use Rattle.decode_session.specs.Run.{most_in_flight, most_packets}
 use Rattle.decode_session.proofs.run.run_batches.Given as goal
@@ -8,10 +8,12 @@ use Rattle.packet_feed.specs.Feed.{source_of}
 
 abbrev pub invariant-loop-number : goal.invariant-loop-number
 invariant-loop-number g l = record {
-  free : vec_len l.stock.rooms ≡ most_in_flight;
-  rooms : most_in_flight ≤ vec_capacity l.stock.rooms;
+  all : vec_len l.stock.rooms ≡ vec_len l.initial.stock.rooms;
+  some : 0 < vec_len l.stock.rooms;
+  few : vec_len l.stock.rooms ≤ most_in_flight;
+  rooms : vec_len l.stock.rooms ≤ vec_capacity l.stock.rooms;
   empty : l.stock.cells.items ≡ [];
-  cells : most_in_flight ≤ vec_capacity l.stock.cells;
+  cells : vec_len l.stock.rooms ≤ vec_capacity l.stock.cells;
   names : l.stock.board.names ≡ plan_names (param_slices (g.P.Structures.tables l.plans));
   limit : l.number ≤ most_packets + 1;
   going : Going (g.P.Structures.tables l.plans) l.number (memory_of l.stock.board) (g.S.Source.left (source_of l.initial.feed)) (g.S.Source.left (source_of l.feed)) (g.O.Sink.written l.initial.out) (g.O.Sink.written l.out);
