@@ -8,38 +8,43 @@ use first_rows::{By, FirstRows};
 use mib_model::{Endian, Name, PcfRow, TypeItem};
 use std::alloc::{AllocError, Global};
 use std::marker::Model;
+use std::snapshot::Snapshot;
 
-// Parameters by their names.
+// Type items by the names of their parameters.
 #[derive(Drop)]
 struct ByName;
 
 impl By for ByName {
     ghost use Rattle.std.specs.Prelude.{Some};
 
-    type Row = PcfRow;
+    type Row = TypeItem;
 
     type Key = Name;
 
-    ghost key_of = { λ row. Some row.name };
+    ghost key_of = { λ item. Some item.name };
 
-    fn key(row: &PcfRow) -> Option<Name> {
-        Some(row.name)
+    fn key(item: &TypeItem) -> Option<Name> {
+        Some(item.name)
     }
 }
 
-/// Parameters, whose type items are found by their names. Contracts see the rows of the parameters.
+/// The type items of parameters, found by their names. Contracts see the rows of the parameters.
 #[derive(Drop)]
 pub struct TypeItems {
-    parameters: FirstRows<ByName>,
+    items: FirstRows<ByName>,
+    parameters: Snapshot<Vec<PcfRow>>,
 }
 
 impl Model for TypeItems {
-    ghost use Rattle.std.specs.Prelude.{List};
+    ghost use Rattle.std.specs.Prelude.{◌≡◌, List, map};
     ghost use Rattle.mib_model.specs.declared.rows.PcfRow.{PcfRow};
+    ghost use Rattle.mib_model.specs.Plans.{type_item};
 
     ghost Value = { List PcfRow };
 
-    ghost view = { λ all. all.parameters };
+    ghost view = { λ all. all.parameters.value.items };
+
+    ghost invariant = { λ all. all.items ≡ map type_item all.parameters.value.items };
 }
 
 // The octet order that a letter asks for.
@@ -63,13 +68,23 @@ pub fn item_of(row: &PcfRow) -> TypeItem
     }
 }
 
+// The type items of parameters.
+fn items_of(alloc: Global, parameters: &[PcfRow]) -> Result<Vec<TypeItem>, AllocError>
+    ensures { IfOk result (λ items. items.items ≡ map type_item parameters.now) }
+{
+    parameters.iter().map(item_of).collect(alloc)
+}
+
 impl TypeItems {
     /// Those of some parameters. An error is want of memory.
     pub fn new(alloc: Global, parameters: &[PcfRow]) -> Result<TypeItems, AllocError>
         ensures { IfOk result (λ items. items ≡ parameters.now) }
     {
+        let kept = Vec::from_slice(alloc, parameters)?;
+        let items = items_of(alloc, &kept)?;
         Ok(TypeItems {
-            parameters: FirstRows::new(alloc, parameters)?,
+            items: FirstRows::new(alloc, &items)?,
+            parameters: Snapshot::of(&kept),
         })
     }
 
@@ -77,7 +92,7 @@ impl TypeItems {
     pub fn find(&self, name: &Name) -> Option<TypeItem>
         ensures { result ≡ Items.item_of self.now name.now }
     {
-        Some(item_of(self.parameters.find(name)?))
+        self.items.find(name).copied()
     }
 
     // Puts that of the parameter of a name behind the others, if there is one.
