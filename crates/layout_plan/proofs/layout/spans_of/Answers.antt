@@ -5,8 +5,8 @@ use Rattle.layout_plan.proofs.layout.spans_of.Goals as goal
 
 pub loop-row-init : goal.loop-row-init
 loop-row-init c = record {
-  places = ap spans_places c.new-spans.ensures.items ∙ sym (layout_places-none c.args.types.now);
-  near = λ k d below. let none : length c.new-spans.result.items ≡ 0 = ap length c.new-spans.ensures.items in absurd (omega (arith, none, below));
+  places = ap spans_places c.in_ok-spans.ensures.items ∙ sym (layout_places-none c.args.types.now);
+  near = λ k d below. let none : length c.in_ok-spans.spans.items ≡ 0 = ap length c.in_ok-spans.ensures.items in absurd (omega (arith, none, below));
 }
 
 pub loop-row-preserved : goal.loop-row-preserved
