@@ -14,8 +14,8 @@ use Rattle.std.specs.Io.KnownBytes.{Appends}
 use Rattle.mibtm.specs.Objects.{ShelfView, SinkView, Took}
 use Rattle.decode_session.specs.Run.{Ran, Says, EndsWhole, EndsCut, EndsAtLimit}
 use Rattle.mibtm.specs.Sources.{sound_in}
-use Rattle.mibtm.specs.Statement.{Checked, Decoded, Printed, RanBy}
-use Rattle.mibtm.specs.Tool.{Completes, CompletesCheck, IsUnfailed, PrintsWhole, PrintsCut, PrintsMost}
+use Rattle.mibtm.specs.Statement.{Checked, Decoded, Drilled, Printed, RanBy}
+use Rattle.mibtm.specs.Tool.{Completes, CompletesCheck, CompletesDrill, IsUnfailed, PrintsWhole, PrintsCut, PrintsMost}
 
 -- a count that stays as it was, below its end, didn't rise
 not_failed : (before now : ℕ) → IsUnfailed before now → Failed before now → ⊥
@@ -116,3 +116,18 @@ completes_check (code.NoFile i) folder files db tables out is_told is_read said 
 completes_check code.FeedFault folder files db tables out is_told is_read said t o = absurd said
 completes_check code.DeskFault folder files db tables out is_told is_read said t o = absurd said
 completes_check code.ReplyFault folder files db tables out is_told is_read said t o = absurd said
+
+-- of a drill that nothing hinders
+pub completes_drill : {O : Type 0} (c : Code) (seed : ℕ) (out : SinkView O) → Drilled c seed out → IsUnfailed (out.faults out.before) (out.faults out.now) → CompletesDrill c seed out
+completes_drill code.Ok seed out (handed, wrote) o = inl (refl, wrote)
+completes_drill code.Want seed out said o = inr refl
+completes_drill code.OutFault seed out (failed, wrote) o = absurd (not_failed _ _ o failed)
+completes_drill (code.BadMib fault) seed out said o = absurd said
+completes_drill code.TablesFault seed out said o = absurd said
+completes_drill (code.Cut count) seed out said o = absurd said
+completes_drill code.Limit seed out said o = absurd said
+completes_drill (code.Usage misuse) seed out said o = absurd said
+completes_drill (code.NoFile i) seed out said o = absurd said
+completes_drill code.FeedFault seed out said o = absurd said
+completes_drill code.DeskFault seed out said o = absurd said
+completes_drill code.ReplyFault seed out said o = absurd said

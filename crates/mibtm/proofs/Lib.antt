@@ -2,3 +2,5 @@ pub mod LoadSteps
 pub mod DecodeSteps
 pub mod StatementSteps
 pub mod Completeness
+pub mod DrillSteps
+pub mod PrintSteps

@@ -4,4 +4,5 @@ pub mod Sources
 pub mod Refusals
 pub mod Tool
 pub mod Objects
+pub mod Drill
 pub mod Statement

@@ -9,6 +9,7 @@ use Rattle.mib_model.specs.declared.database.Database.{Database}
 use Rattle.mib_model.specs.declared.fault.MibFault.{MibFault}
 use Rattle.mib_model.specs.Summaries.{summary}
 use Rattle.session.specs.Causes.{Failed}
+use Rattle.mibtm.specs.Drill.{drill_summary}
 use Rattle.mibtm.specs.Objects.{ShelfView, SinkView, HasStood, HasFailed, IsUncalled, IsUnwritten, HasBroken, Took, IsHandedOn, TookNothing}
 use Rattle.session.specs.Sources.{Files}
 use Rattle.mibtm.specs.Sources.{sound_in}
@@ -79,3 +80,10 @@ Decoded code.Limit folder name tables feed out =
     HasStood tables × HasStood feed × IsHandedOn out × Printed EndsAtLimit folder name tables feed out
 Decoded code.Want folder name tables feed out = HasStood tables × HasStood feed × IsUnwritten out
 Decoded other folder name tables feed out = ⊥
+
+-- what each status of `drill` says, in the order of the statuses; no other comes
+abbrev pub Drilled : {O : Type 0} → Code → ℕ → SinkView O → Type 0
+Drilled code.Ok seed out = IsHandedOn out × Took out (λ old new. Appends old new (drill_summary seed))
+Drilled code.OutFault seed out = HasBroken out × Took out (λ old new. AppendsPrefix old new (drill_summary seed))
+Drilled code.Want seed out = IsUnwritten out
+Drilled other seed out = ⊥

@@ -9,6 +9,7 @@ use Rattle.mib_model.specs.Packets.{IsPacket, IsCut}
 use Rattle.mib_model.specs.Summaries.{summary}
 use Rattle.mib_model.specs.Texts.{cut_text}
 use Rattle.session.specs.Sources.{Files}
+use Rattle.mibtm.specs.Drill.{drill_summary}
 use Rattle.mibtm.specs.Objects.{ShelfView, SinkView, Took}
 use Rattle.decode_session.specs.Run.{Writes, most_packets}
 
@@ -38,6 +39,10 @@ Completes c db octets out =
 -- the summary was written whole, or memory ran out
 abbrev pub CompletesCheck : {O : Type 0} → Code → Database → SinkView O → Type 0
 CompletesCheck c db out = ((c ≡ code.Ok) × Took out (λ old new. Appends old new (summary db))) ⊎ (c ≡ code.Want)
+
+-- the summary of a generated run was written whole, or memory ran out
+abbrev pub CompletesDrill : {O : Type 0} → Code → ℕ → SinkView O → Type 0
+CompletesDrill c seed out = ((c ≡ code.Ok) × Took out (λ old new. Appends old new (drill_summary seed))) ⊎ (c ≡ code.Want)
 
 -- a count of faults that didn't rise, and could still
 pub record IsUnfailed (before now : ℕ) : Type 0 where

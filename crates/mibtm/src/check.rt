@@ -9,12 +9,13 @@ ghost use Rattle.mibtm.specs.Statement.{Checked};
 
 use crate::codes::stop_code;
 use crate::load::sound_book;
+use crate::print::print;
 use book_summary::summary_of;
 use decode_session::Stop;
 use mib_model::Code;
 use mib_tables::Book;
 use std::alloc::Global;
-use tm_io::{Shelf, Sink, write_all};
+use tm_io::{Shelf, Sink};
 
 // Writes the summary of a book, and hands it on.
 fn print_summary<O: Sink>(alloc: Global, book: &Book, out: &mut O) -> Result<(), Stop>
@@ -28,10 +29,7 @@ fn print_summary<O: Sink>(alloc: Global, book: &Book, out: &mut O) -> Result<(),
     let Ok(text) = summary_of(alloc, book) else {
         return Err(Stop::Memory);
     };
-    let Ok(()) = write_all(out, &text) else {
-        return Err(Stop::Out);
-    };
-    match out.flush() {
+    match print(out, &text) {
         Ok(()) => Ok(()),
         Err(_) => Err(Stop::Out),
     }

@@ -107,6 +107,15 @@ fn compile<L: Ledger>(alloc: Global, book: Book, blank: Blank) -> Result<Edition
     Ok(Edition::compile(alloc, book, &mut Steps::<L>::new(blank))?)
 }
 
+/// The edition of a book, which is refused by its first flaw.
+pub(crate) fn book_edition(alloc: Global, book: Book) -> Result<Edition, Refusal>
+    ensures told { IfOk result (λ edition. if_sound book ≡ Ok edition) }
+    ensures refused { IfErr result (λ refusal. Refuses refusal (if_sound book)) }
+    ensures cause { IfErr result (λ refusal. refusal ≢ Refusal.Failed) }
+{
+    compile::<Brand>(alloc, book, Blank::new(1))
+}
+
 /// The edition of the tables of a folder, which are refused at the first fault.
 pub(crate) fn folder_edition<T: Shelf>(
     alloc: Global,
@@ -119,5 +128,5 @@ pub(crate) fn folder_edition<T: Shelf>(
     ensures cause { IfErr result (λ refusal. HasRefusalCause refusal (T.faults tables.old) (T.faults tables.new)) }
 {
     let book = load_book(alloc, folder, tables)?;
-    compile::<Brand>(alloc, book, Blank::new(1))
+    book_edition(alloc, book)
 }

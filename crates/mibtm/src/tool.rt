@@ -1,14 +1,15 @@
 ghost use Rattle.std.specs.Prelude.{◌≡◌, ◌⊎◌, ℕ, List, Some, Ok, map, string_bytes, IfErr};
 ghost use Rattle.mib_model.specs.declared.database.Database.{Database};
-ghost use Rattle.mibtm.specs.Inputs.{IfCheck, IfDecode, command_in};
+ghost use Rattle.mibtm.specs.Inputs.{IfCheck, IfDecode, IfDrill, command_in};
 ghost use Rattle.mibtm.specs.Objects.{ShelfView, SinkView, shelf, sink};
 ghost use Rattle.mibtm.specs.Sources.{sound_in};
-ghost use Rattle.mibtm.specs.Statement.{Checked, Decoded};
-ghost use Rattle.mibtm.specs.Tool.{Completes, CompletesCheck, Held, IsSteady, IsSteadySink};
+ghost use Rattle.mibtm.specs.Statement.{Checked, Decoded, Drilled};
+ghost use Rattle.mibtm.specs.Tool.{Completes, CompletesCheck, CompletesDrill, Held, IsSteady, IsSteadySink};
 ghost use Rattle.session.specs.Sources.{Files};
 
 use crate::check::check;
 use crate::decode::decode;
+use crate::drill::drill;
 use crate::words::command_in;
 use mib_model::{Code, Misuse};
 use std::alloc::Global;
@@ -25,8 +26,8 @@ pub struct Status {
 
 /// Does what the words ask for, which stand behind the program's name. `check DIR` reads tables from `tables` and writes
 /// their summary to `out`; `decode DIR FEED` reads packets from `feed` too, and writes
-/// what is decoded of them, by as many workers as `--workers` says. `desk`,
-/// `replies` and `gate` are not called, nor is `feed` by a check.
+/// what is decoded of them, by as many workers as `--workers` says; `drill SEED` writes the counts of a generated run.
+/// `desk`, `replies` and `gate` are not called, nor is `feed` by a check, nor are `tables` and `feed` by a drill.
 pub fn tool<
     T: Shelf,
     F: Shelf + Send,
@@ -52,7 +53,7 @@ pub fn tool<
     ensures misuse_feed { IfErr (command_in (map string_bytes words.now)) (λ misuse. feed.new ≡ feed.old) }
     ensures misuse_out { IfErr (command_in (map string_bytes words.now)) (λ misuse. out.new ≡ out.old) }
 
-    // The statement of each command, status by status. A check doesn't call the feed.
+    // The statement of each command, status by status. A check doesn't call the feed, a drill neither tables nor feed.
     ensures checks { IfCheck (command_in (map string_bytes words.now)) (λ folder. Checked result.code folder
         (shelf tables.old tables.new T.holds T.left T.faults T.missed)
         (sink out.old out.new O.written O.handed O.faults)) }
@@ -61,6 +62,10 @@ pub fn tool<
         (shelf tables.old tables.new T.holds T.left T.faults T.missed)
         (shelf feed.old feed.new F.holds F.left F.faults F.missed)
         (sink out.old out.new O.written O.handed O.faults)) }
+    ensures drills { IfDrill (command_in (map string_bytes words.now)) (λ seed. Drilled result.code seed
+        (sink out.old out.new O.written O.handed O.faults)) }
+    ensures drill_tables { IfDrill (command_in (map string_bytes words.now)) (λ seed. tables.new ≡ tables.old) }
+    ensures drill_feed { IfDrill (command_in (map string_bytes words.now)) (λ seed. feed.new ≡ feed.old) }
 
     ensures desk { desk.new ≡ desk.old }
     ensures replies { replies.new ≡ replies.old }
@@ -74,7 +79,8 @@ pub fn tool<
                 workers,
             },
         ) => decode(rt, alloc, folder, name, workers, tables, feed, out),
-        Ok(Request::Live { .. } | Request::Drill { .. }) => Code::Usage(Misuse::Command),
+        Ok(Request::Drill { seed }) => drill(rt, alloc, seed, out),
+        Ok(Request::Live { .. }) => Code::Usage(Misuse::Command),
         Err(WordsFault::Misuse(misuse)) => Code::Usage(misuse),
         Err(WordsFault::Memory) => Code::Want,
     };
@@ -97,4 +103,9 @@ pub fn checking_is_complete<T, O>()
         → Held tables files → sound_in files folder ≡ Ok db
         → Checked c folder tables out → IsSteady tables → IsSteadySink out
         → CompletesCheck c db out }
+{}
+
+/// Where nothing fails, a drill writes its summary whole, unless memory runs out.
+pub fn drilling_is_complete<O>()
+    ensures { (c : Code) (seed : ℕ) (out : SinkView O) → Drilled c seed out → IsSteadySink out → CompletesDrill c seed out }
 {}

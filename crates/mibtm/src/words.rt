@@ -7,11 +7,11 @@ use mib_model::Misuse;
 use std::alloc::Global;
 use tool_words::{Request, WordsFault, request_in};
 
-// Whether a word is a command that isn't built.
+// Whether a word is the command that isn't built.
 fn is_to_come(word: &str) -> bool
     ensures { result ≡ is_to_come word.now }
 {
-    word == "live" || word == "drill"
+    word == "live"
 }
 
 /// What all words ask for: the command, and then the words behind it.

@@ -9,12 +9,14 @@ mod counter;
 mod counts;
 mod draws;
 mod feed;
+mod replay;
 mod tables;
 
 pub use counter::{COUNTED_MOST, Counter};
 pub use counts::Counts;
 pub use feed::{PACKETS, drill_feed, feed_is_cut};
-pub use tables::{KINDS, PARAMETERS, drill_tables};
+pub use replay::Replay;
+pub use tables::{KINDS, PARAMETERS, drill_tables, tables_are_sound};
 
 #[cfg(test)]
 mod tests;

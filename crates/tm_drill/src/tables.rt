@@ -2,6 +2,7 @@
 ghost use Rattle.std.specs.Prelude.{◌≡◌, ◌+◌, ◌<◌, ◌≤◌, ◌∷◌, [], map, codes, length, pos, IfOk};
 ghost use Rattle.std.specs.List.{range_with_len};
 ghost use Rattle.mib_model.specs.declared.limits.TheConstants.{TEXT_SIZE};
+ghost use Rattle.mib_model.specs.Soundness.{IsSound};
 ghost use Rattle.tm_drill.specs.Tables as Spec;
 
 use itoa::Buffer;
@@ -211,3 +212,8 @@ pub fn drill_tables(alloc: Global) -> Result<Book, AllocError>
     };
     Book::new(alloc, tables)
 }
+
+/// A run's tables are sound.
+pub fn tables_are_sound()
+    ensures { IsSound Spec.drill_database }
+{}

@@ -9,8 +9,8 @@ returns-in_err-book-clause-refused g c =
 
 pub returns-clause-told : goal.returns-clause-told
 returns-clause-told g c =
-    told_sound (g.T.Source.holds c.args.tables.now) c.args.folder.now c.in_ok-book.book c.compile.result c.in_ok-book.ensures.told c.compile.ensures.told
+    told_sound (g.T.Source.holds c.args.tables.now) c.args.folder.now c.in_ok-book.book c.book_edition.result c.in_ok-book.ensures.told c.book_edition.ensures.told
 
 pub returns-clause-refused : goal.returns-clause-refused
 returns-clause-refused g c =
-    refused_sound (g.T.Source.holds c.args.tables.now) c.args.folder.now c.in_ok-book.book c.compile.result c.in_ok-book.ensures.told c.compile.ensures.refused
+    refused_sound (g.T.Source.holds c.args.tables.now) c.args.folder.now c.in_ok-book.book c.book_edition.result c.in_ok-book.ensures.told c.book_edition.ensures.refused
