@@ -54,19 +54,22 @@ limit-more was mid now (Some l) (Some p) (Some b) given taken first next = first
 -- ---- lines that were handled
 
 works-start : (r : Reading) (left : Known) (s : DeskState) (own : RegisterHistory) → (w : Works r r left left s s own own []) × (w.handled ≡ [])
-works-start r left s own = (record {
-  handled = [];
-  calls = [];
-  replies = [];
-  own = sym (append-nil own);
-  is_desk = desk-none s;
-  given = [];
-  consumed = Consumes-nil left;
-  whole = let none = given-none [] (All-nil (λ octet. is_feed octet ≡ false)) in omega (arith, none);
-  ahead = ahead-none r left;
-  limit = limit-none r left;
-  told = sym text-none;
-}, refl)
+works-start r left s own = (
+  record {
+    handled = [];
+    calls = [];
+    replies = [];
+    own = sym (append-nil own);
+    is_desk = desk-none s;
+    given = [];
+    consumed = Consumes-nil left;
+    whole = let none = given-none [] (All-nil (λ octet. is_feed octet ≡ false)) in omega (arith, none);
+    ahead = ahead-none r left;
+    limit = limit-none r left;
+    told = sym text-none;
+  },
+  refl,
+)
 
 -- the text of the reply to a line
 abbrev reply_of : Option Reply → List ℕ
@@ -76,20 +79,22 @@ module _ (failed go : Bool) (was mid now : Reading) (left place behind : Known) 
     (w : Works was mid left place old state before own text) (h : Handles failed go mid now place behind state new own after w1 w2) where
   works-more : (m : Works was now left behind old new before after (text ++ reply_of h.replied.given)) × (m.handled ≡ w.handled ++ h.line ∷ [])
   works-more =
-      let replies = option_to_list (option_map Plain h.replied.given) in
-      (record {
-        handled = w.handled ++ h.line ∷ [];
-        calls = w.calls ++ h.replied.handles.calls;
-        replies = w.replies ++ replies;
-        own = h.replied.handles.own ∙ ap (λ l. l ++ moves_by h.replied.handles.calls) w.own ∙ append_assoc before (moves_by w.calls) (moves_by h.replied.handles.calls) ∙ ap (λ l. before ++ l) (sym (moves-append w.calls h.replied.handles.calls));
-        is_desk = desk-append old state new w.handled (h.line ∷ []) w.calls h.replied.handles.calls w.replies replies w.is_desk (desk-one h.line state new h.replied.handles.calls h.replied.given h.replied.handles.is_line);
-        given = w.given ++ h.takes.taken;
-        consumed = Consumes-trans left place behind w.given h.takes.taken w.consumed h.takes.consumed;
-        whole = omega (arith, given-append w.given h.takes.taken, w.whole, given-line h.line h.takes.taken behind h.takes.no_feed h.takes.is_taken, length-append w.handled (h.line ∷ []));
-        ahead = ahead-more was mid now left place behind w.given w.handled h.line w.consumed w.ahead h.takes.first;
-        limit = limit-more was mid now left place behind w.given w.consumed w.limit h.takes.limit;
-        told = ap (λ t. t ++ reply_of h.replied.given) w.told ∙ sym (text-append w.replies replies);
-      }, refl)
+      let replies = option_to_list (option_map Plain h.replied.given) in (
+        record {
+          handled = w.handled ++ h.line ∷ [];
+          calls = w.calls ++ h.replied.handles.calls;
+          replies = w.replies ++ replies;
+          own = h.replied.handles.own ∙ ap (λ l. l ++ moves_by h.replied.handles.calls) w.own ∙ append_assoc before (moves_by w.calls) (moves_by h.replied.handles.calls) ∙ ap (λ l. before ++ l) (sym (moves-append w.calls h.replied.handles.calls));
+          is_desk = desk-append old state new w.handled (h.line ∷ []) w.calls h.replied.handles.calls w.replies replies w.is_desk (desk-one h.line state new h.replied.handles.calls h.replied.given h.replied.handles.is_line);
+          given = w.given ++ h.takes.taken;
+          consumed = Consumes-trans left place behind w.given h.takes.taken w.consumed h.takes.consumed;
+          whole = omega (arith, given-append w.given h.takes.taken, w.whole, given-line h.line h.takes.taken behind h.takes.no_feed h.takes.is_taken, length-append w.handled (h.line ∷ []));
+          ahead = ahead-more was mid now left place behind w.given w.handled h.line w.consumed w.ahead h.takes.first;
+          limit = limit-more was mid now left place behind w.given w.consumed w.limit h.takes.limit;
+          told = ap (λ t. t ++ reply_of h.replied.given) w.told ∙ sym (text-append w.replies replies);
+        },
+        refl,
+      )
 
 -- ---- a script that ended
 
@@ -151,22 +156,25 @@ module _ (was mid now : Reading) (left place behind : Known) (old state new : De
   -- none is to come
   stops : (e : DeskEnd) (failed limit : Bool) (tail : List ℕ) → IsHandled e [] → (s : Stops failed limit mid now place behind state new own after w1 w2 tail) → Gives (is_reply_fault e) w0 w2 (desk_text None w.replies ++ tail_by e limit)
       → Ended-as e w.handled
-  stops e failed limit tail all s told = (record {
-    handled = w.handled;
-    others = [];
-    calls = w.calls;
-    replies = w.replies;
-    own = own-same s.own;
-    is_desk = subst (IsDesk false old w.handled w.calls w.replies) (sym s.same) w.is_desk;
-    given = w.given ++ s.takes.part;
-    consumed = taken-part s.takes;
-    whole = whole-part s.takes;
-    parted = parted-none was mid left place w.given w.handled limit w.consumed w.ahead s.none;
-    all = all;
-    tail = tail_by e limit;
-    is_tail = tail-known e was left limit (limit-known was mid left place w.given limit w.consumed w.limit s.none);
-    told = told;
-  }, refl)
+  stops e failed limit tail all s told = (
+    record {
+      handled = w.handled;
+      others = [];
+      calls = w.calls;
+      replies = w.replies;
+      own = own-same s.own;
+      is_desk = subst (IsDesk false old w.handled w.calls w.replies) (sym s.same) w.is_desk;
+      given = w.given ++ s.takes.part;
+      consumed = taken-part s.takes;
+      whole = whole-part s.takes;
+      parted = parted-none was mid left place w.given w.handled limit w.consumed w.ahead s.none;
+      all = all;
+      tail = tail_by e limit;
+      is_tail = tail-known e was left limit (limit-known was mid left place w.given limit w.consumed w.limit s.none);
+      told = told;
+    },
+    refl,
+  )
 
   ends-done : Stops false false mid now place behind state new own after w1 w2 [] → Ended-as end.Done w.handled
   ends-done s = stops end.Done false false [] refl s (Appends-trans w0 w1 w2 (desk_text None w.replies) [] wrote s.told)
@@ -179,22 +187,25 @@ module _ (was mid now : Reading) (left place behind : Known) (old state new : De
 
   -- the desk failed
   ends-fault : Fails mid now place behind state new own after w1 w2 → Ended-as end.DeskFault w.handled
-  ends-fault f = (record {
-    handled = w.handled;
-    others = others_of mid place;
-    calls = w.calls;
-    replies = w.replies;
-    own = own-same f.own;
-    is_desk = subst (IsDesk false old w.handled w.calls w.replies) (sym f.same) w.is_desk;
-    given = w.given ++ f.takes.part;
-    consumed = taken-part f.takes;
-    whole = whole-part f.takes;
-    parted = parted-ahead was mid left place w.given w.handled w.consumed w.ahead;
-    all = tt;
-    tail = [];
-    is_tail = no-tail left;
-    told = subst (Appends w0 w2) (sym (append-nil (desk_text None w.replies))) (subst (λ t. Appends w0 t (desk_text None w.replies)) (sym f.told) wrote);
-  }, refl)
+  ends-fault f = (
+    record {
+      handled = w.handled;
+      others = others_of mid place;
+      calls = w.calls;
+      replies = w.replies;
+      own = own-same f.own;
+      is_desk = subst (IsDesk false old w.handled w.calls w.replies) (sym f.same) w.is_desk;
+      given = w.given ++ f.takes.part;
+      consumed = taken-part f.takes;
+      whole = whole-part f.takes;
+      parted = parted-ahead was mid left place w.given w.handled w.consumed w.ahead;
+      all = tt;
+      tail = [];
+      is_tail = no-tail left;
+      told = subst (Appends w0 w2) (sym (append-nil (desk_text None w.replies))) (subst (λ t. Appends w0 t (desk_text None w.replies)) (sym f.told) wrote);
+    },
+    refl,
+  )
     where
       no-tail : (l : Known) → IfSome l (λ octets. [] ≡ tail_by end.DeskFault (meets_limit was octets))
       no-tail None = tt
@@ -204,23 +215,25 @@ module _ (was mid now : Reading) (left place behind : Known) (old state new : De
   ends-unreplied : (go : Bool) (h : Handles true go mid now place behind state new own after w1 w2) → Ended-as end.ReplyFault (w.handled ++ h.line ∷ [])
   ends-unreplied go h =
       let both = works-more true go was mid now left place behind old state new before own after w1 w2 text w h in
-      let m = both.0 in
-      (record {
-        handled = m.handled;
-        others = others_of now behind;
-        calls = m.calls;
-        replies = m.replies;
-        own = m.own;
-        is_desk = m.is_desk;
-        given = m.given;
-        consumed = m.consumed;
-        whole = m.whole;
-        parted = parted-ahead was now left behind m.given m.handled m.consumed m.ahead;
-        all = tt;
-        tail = tail_for end.ReplyFault was left;
-        is_tail = tail-is end.ReplyFault was left;
-        told = part-longer (desk_text None m.replies) (tail_for end.ReplyFault was left) w0 w2 (subst (AppendsPrefix w0 w2) m.told (part-behind text (reply_of h.replied.given) w0 w1 w2 printed h.replied.told));
-      }, both.1)
+      let m = both.0 in (
+        record {
+          handled = m.handled;
+          others = others_of now behind;
+          calls = m.calls;
+          replies = m.replies;
+          own = m.own;
+          is_desk = m.is_desk;
+          given = m.given;
+          consumed = m.consumed;
+          whole = m.whole;
+          parted = parted-ahead was now left behind m.given m.handled m.consumed m.ahead;
+          all = tt;
+          tail = tail_for end.ReplyFault was left;
+          is_tail = tail-is end.ReplyFault was left;
+          told = part-longer (desk_text None m.replies) (tail_for end.ReplyFault was left) w0 w2 (subst (AppendsPrefix w0 w2) m.told (part-behind text (reply_of h.replied.given) w0 w1 w2 printed h.replied.told));
+        },
+        both.1,
+      )
 
 -- ---- the lines up to the first `go`
 
