@@ -6,6 +6,7 @@ ghost use Rattle.edition_register.specs.Seats.{IsSeat};
 
 use crate::{Editions, Register};
 use mib_model::{MadeFor, Rows};
+use std::alloc::{AllocError, Global};
 use std::sync::{Arc, Wait};
 use std::test::Fail;
 use std::thread;
@@ -14,7 +15,7 @@ use turn_cell::Seat;
 
 // An edition without tables.
 #[derive(Drop)]
-struct Bare {
+pub(crate) struct Bare {
     _letter: u8,
 }
 
@@ -26,10 +27,14 @@ impl Rows for Bare {
 
 // A board that serves all tables.
 #[derive(Drop)]
-struct Blank;
+pub(crate) struct Blank;
 
 impl MadeFor for Blank {
     ghost made_for = { λ tables board. true };
+}
+
+pub(crate) fn plain_edition(alloc: Global, letter: u8) -> Result<Arc<Bare>, AllocError> {
+    Ok(Arc::new(alloc, Bare { _letter: letter })?)
 }
 
 fn look<E: Rows + Drop, B: MadeFor + Drop>(
@@ -67,8 +72,8 @@ fn stamp_all<R: Wait>(
 
 #[test]
 fn a_register_counts_its_packets_and_editions(rt: HostRuntime) -> Result<(), Fail> {
-    let first = Arc::new(rt.alloc(), Bare { _letter: 65 })?;
-    let second = Arc::new(rt.alloc(), Bare { _letter: 66 })?;
+    let first = plain_edition(rt.alloc(), b'A')?;
+    let second = plain_edition(rt.alloc(), b'B')?;
     let (register, mut intake, mut desk) = Register::<Bare, Blank>::new(rt.alloc(), first)?;
     assert!(rt; register.add(&rt, &mut desk, second).is_ok());
     assert_eq!(rt; stamp_all(&rt, &register, &mut intake, 10000), 1);
