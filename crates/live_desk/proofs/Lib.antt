@@ -1,4 +1,4 @@
 mod LineFacts
 mod ComesFacts
 mod ScriptFacts
-pub mod DeskFacts
+mod DeskFacts

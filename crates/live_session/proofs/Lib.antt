@@ -1,5 +1,0 @@
-mod PlanFacts
-mod StampFacts
-mod EndFacts
-mod LiveFacts
-mod Crossing
