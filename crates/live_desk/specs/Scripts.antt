@@ -88,11 +88,12 @@ abbrev pub Worked : Bool → Option DeskEnd → Reading → Reading → Option (
 Worked until_go None was now left behind old new before after w0 w1 = Pauses until_go was now left behind old new before after w0 w1
 Worked until_go (Some e) was now left behind old new before after w0 w1 = EndsEarly until_go e was left behind old new before after w0 w1
 
--- the counts of the desk and of the replies rose where they failed, and else stay as they were
+-- the count of the desk rose where it failed, and else stays as it was
 abbrev pub HasDeskCause : Option DeskEnd → ℕ → ℕ → Type 0
 HasDeskCause None before now = now ≡ before
 HasDeskCause (Some e) before now = Counts (is_desk_fault e) before now
 
+-- the count of the replies rose where they failed, and else stays as it was
 abbrev pub HasRepliesCause : Option DeskEnd → ℕ → ℕ → Type 0
 HasRepliesCause None before now = now ≡ before
 HasRepliesCause (Some e) before now = Counts (is_reply_fault e) before now
