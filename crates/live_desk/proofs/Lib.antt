@@ -1,4 +1,4 @@
 mod LineFacts
 mod ComesFacts
 mod ScriptFacts
-mod DeskFacts
+pub mod DeskFacts

@@ -18,7 +18,7 @@ use Rattle.mibtm.specs.Statement.{Checked, Decoded, Drilled, Printed, RanBy}
 use Rattle.mibtm.specs.Tool.{Completes, CompletesCheck, CompletesDrill, IsUnfailed, PrintsWhole, PrintsCut, PrintsMost}
 
 -- a count that stays as it was, below its end, didn't rise
-not_failed : (before now : ℕ) → IsUnfailed before now → Failed before now → ⊥
+pub not_failed : (before now : ℕ) → IsUnfailed before now → Failed before now → ⊥
 not_failed before now still failed = omega (arith, still.same, still.more, failed.1)
 
 -- all that was read is all that there was
@@ -44,7 +44,7 @@ limit-completes db octets (Some left) old new (read, packets, rest, whole, cut, 
     (packets, rest ++ left, whole ∙ ap (λ l. l ++ left) cut.whole ∙ append_assoc (concat packets) rest left, cut.each, all, wrote)
 
 -- what is said of the database and the feed that there are
-told : (holds : Option Files) (read : Files → Result Database MibFault) (files : Files) (db : Database) (P : Database → Type 0) → holds ≡ Some files → read files ≡ Ok db
+pub told : (holds : Option Files) (read : Files → Result Database MibFault) (files : Files) (db : Database) (P : Database → Type 0) → holds ≡ Some files → read files ≡ Ok db
     → IfSome holds (λ f. IsOkAnd (read f) P) → P db
 told None read files db P is read_as said = cc is
 told (Some f) read files db P is read_as said = ok (read files) read_as (subst (λ (x : Option Files). IfSome x (λ g. IsOkAnd (read g) P)) is said)
@@ -53,7 +53,7 @@ told (Some f) read files db P is read_as said = ok (read files) read_as (subst (
     ok (Ok other) same s = subst (λ (x : Result Database MibFault). IsOkAnd x P) same s
     ok (Err fault) same s = cc same
 
-held : (holds : Option Files) (files : Files) (name octets : List ℕ) (P : List ℕ → Type 0) → holds ≡ Some files → files name ≡ Some octets → IfSome holds (λ f. IsSomeAnd (f name) P) → P octets
+pub held : (holds : Option Files) (files : Files) (name octets : List ℕ) (P : List ℕ → Type 0) → holds ≡ Some files → files name ≡ Some octets → IfSome holds (λ f. IsSomeAnd (f name) P) → P octets
 held None files name octets P is found said = cc is
 held (Some f) files name octets P is found said =
     subst (λ (x : Option (List ℕ)). IsSomeAnd x P) found (subst (λ (x : Option Files). IfSome x (λ g. IsSomeAnd (g name) P)) is said)

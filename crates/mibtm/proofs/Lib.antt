@@ -4,3 +4,5 @@ pub mod StatementSteps
 pub mod Completeness
 pub mod DrillSteps
 pub mod PrintSteps
+pub mod LiveSteps
+pub mod LiveCompleteness

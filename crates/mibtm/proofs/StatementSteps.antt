@@ -17,7 +17,7 @@ use Rattle.mibtm.specs.Codes.{code_of_refusal, code_of_run}
 use Rattle.decode_session.specs.Run.{EndsBy, EndsUnread}
 use Rattle.mibtm.specs.Refusals.{Refuses, HasRefusalCause}
 use Rattle.mibtm.specs.Sources.{sound_in}
-use Rattle.mibtm.specs.Statement.{Decoded, OfFeed, RanBy, MissedFeed, Printed}
+use Rattle.mibtm.specs.Statement.{Decoded, OfFile, RanBy, MissedFeed, Printed}
 use Rattle.mibtm.specs.declared.load.Refusal.{Refusal}
 use Rattle.mibtm.specs.declared.load.Refusal.TheVariants as refusal
 use Rattle.decode_session.specs.declared.ending.Stop.TheVariants as stop
@@ -39,7 +39,7 @@ found-of None name P Q turn said = tt
 found-of (Some f) name P Q turn said = turn (f name) said
 
 -- what is said of the database that the tables are
-each_told : (S : Result Database MibFault → Type 0) (holds : Option Files) (read : Files → Result Database MibFault) (db : Database) → IfSome holds (λ files. read files ≡ Ok db)
+pub each_told : (S : Result Database MibFault → Type 0) (holds : Option Files) (read : Files → Result Database MibFault) (db : Database) → IfSome holds (λ files. read files ≡ Ok db)
     → S (Ok db) → IfSome holds (λ files. S (read files))
 each_told S None read db is said = tt
 each_told S (Some files) read db is said = rw is said
@@ -61,14 +61,14 @@ missing_decoded folder name tables feed out db held stood told read same is said
   stood,
   read,
   same,
-  each_told (λ r. IsOkAnd r (λ d. OfFeed feed name (λ found. found ≡ None))) (tables.holds tables.before) (λ files. sound_in files folder) db told
+  each_told (λ r. IsOkAnd r (λ d. OfFile feed name (λ found. found ≡ None))) (tables.holds tables.before) (λ files. sound_in files folder) db told
       (missing (feed.holds feed.before) name held is said),
 )
 
 module _ {T F O : Type 0} (folder name : List ℕ) (tables : ShelfView T) (feed : ShelfView F) (out : SinkView O) (db : Database)
     (stood : HasStood tables) (told : IfSome (tables.holds tables.before) (λ files. sound_in files folder ≡ Ok db)) where
   abbrev Fed : Result RunEnd RunFault → Database → Type 0
-  Fed r d = OfFeed feed name (λ found. IsSomeAnd found (RanBy (EndsBy r (feed.faults feed.before) (feed.faults feed.now)) feed out d))
+  Fed r d = OfFile feed name (λ found. IsSomeAnd found (RanBy (EndsBy r (feed.faults feed.before) (feed.faults feed.now)) feed out d))
 
   printed : (r : Result RunEnd RunFault) → Fed r db → Printed (EndsBy r (feed.faults feed.before) (feed.faults feed.now)) folder name tables feed out
   printed r said = each_told (λ read. IsOkAnd read (Fed r)) (tables.holds tables.before) (λ files. sound_in files folder) db told said
@@ -86,7 +86,7 @@ module _ {T F O : Type 0} (folder name : List ℕ) (tables : ShelfView T) (feed 
     stood,
     read,
     record { stood = wrote; handed = handed (λ is. cc is) },
-    each_told (λ r. IsOkAnd r (λ d. OfFeed feed name (Unread d))) (tables.holds tables.before) (λ files. sound_in files folder) db told
+    each_told (λ r. IsOkAnd r (λ d. OfFile feed name (Unread d))) (tables.holds tables.before) (λ files. sound_in files folder) db told
         (found-of (feed.holds feed.before) name _ (Unread db) (λ found ran. inr ran) said),
   )
   ran_decoded (Err (fault.Print stop.Out)) said read wrote handed untouched = (stood, read, wrote, printed (Err (fault.Print stop.Out)) said)

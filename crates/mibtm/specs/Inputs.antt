@@ -1,18 +1,7 @@
--- The words that are understood: all that the definitions know but `live`, which is to come. [This profile.]
-use Rattle.std.specs.Prelude.{ℕ, Bool, List, [], ◌∷◌, codes, if◌then◌else◌, Result, Ok, Err, ⊤}
-use Rattle.std.specs.Str.{bytes_eq}
+-- What is said by what the words ask for. [This profile.]
+use Rattle.std.specs.Prelude.{ℕ, List, Result, Ok, Err, ⊤}
 use Rattle.mib_model.specs.declared.code.Misuse.{Misuse}
-use Rattle.mib_model.specs.declared.code.Misuse.TheVariants as misuse
-use Rattle.mib_model.specs.Words.{Command, Check, Decode, Drill, command_of}
-
--- the command that is defined and not built
-abbrev pub is_to_come : List ℕ → Bool
-is_to_come word = bytes_eq word (codes "live")
-
--- what words ask for, or what is wrong with them; the command that isn't built is none
-abbrev pub command_in : List (List ℕ) → Result Command Misuse
-command_in [] = Err misuse.Command
-command_in (word ∷ words) = if is_to_come word then Err misuse.Command else command_of (word ∷ words)
+use Rattle.mib_model.specs.Words.{Command, Check, Decode, Live, Drill}
 
 -- what is said of the folder, where words ask for a check
 abbrev pub IfCheck : Result Command Misuse → (List ℕ → Type 0) → Type 0
@@ -23,6 +12,16 @@ IfCheck other says = ⊤
 abbrev pub IfDecode : Result Command Misuse → (List ℕ → List ℕ → Type 0) → Type 0
 IfDecode (Ok (Decode folder feed workers)) says = says folder feed
 IfDecode other says = ⊤
+
+-- what is said of the folder, the feed and the desk, where words ask for a live run
+abbrev pub IfLive : Result Command Misuse → (List ℕ → List ℕ → List ℕ → Type 0) → Type 0
+IfLive (Ok (Live folder feed desk workers)) says = says folder feed desk
+IfLive other says = ⊤
+
+-- what is said where words don't ask for a live run
+abbrev pub UnlessLive : Result Command Misuse → Type 0 → Type 0
+UnlessLive (Ok (Live folder feed desk workers)) says = ⊤
+UnlessLive other says = says
 
 -- what is said of the seed, where words ask for a drill
 abbrev pub IfDrill : Result Command Misuse → (ℕ → Type 0) → Type 0

@@ -6,3 +6,4 @@ pub mod Tool
 pub mod Objects
 pub mod Drill
 pub mod Statement
+pub mod Live

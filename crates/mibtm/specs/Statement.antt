@@ -29,8 +29,8 @@ abbrev pub IsRefused : {T : Type 0} → ShelfView T → (Files → Result Databa
 IsRefused t read fault = IfSome (t.holds t.before) (λ files. read files ≡ Err fault)
 
 -- this is said of the file of that name, if there is one
-abbrev pub OfFeed : {F : Type 0} → ShelfView F → List ℕ → (Option (List ℕ) → Type 0) → Type 0
-OfFeed f name says = IfSome (f.holds f.before) (λ files. says (files name))
+abbrev pub OfFile : {S : Type 0} → ShelfView S → List ℕ → (Option (List ℕ) → Type 0) → Type 0
+OfFile s name says = IfSome (s.holds s.before) (λ files. says (files name))
 
 -- a feed that has these octets was read and printed by a database, and this is said of the run
 abbrev pub RanBy : {F O : Type 0} → Says → ShelfView F → SinkView O → Database → List ℕ → Type 0
@@ -39,7 +39,7 @@ RanBy says feed out db octets = Took out (Ran says db (Some octets) (feed.left f
 -- the tables are sound, and the feed is held and was read and printed, of which this is said
 abbrev pub Printed : {T F O : Type 0} → Says → List ℕ → List ℕ → ShelfView T → ShelfView F → SinkView O → Type 0
 Printed says folder name tables feed out =
-    ByTables tables (λ files. sound_in files folder) (λ db. OfFeed feed name (λ found. IsSomeAnd found (RanBy says feed out db)))
+    ByTables tables (λ files. sound_in files folder) (λ db. OfFile feed name (λ found. IsSomeAnd found (RanBy says feed out db)))
 
 -- the turn to the feed failed, and nothing was written
 abbrev pub MissedFeed : {F O : Type 0} → ShelfView F → SinkView O → Type 0
@@ -65,14 +65,14 @@ Decoded (code.BadMib fault) folder name tables feed out =
     HasStood tables × IsUncalled feed × IsUnwritten out × IsRefused tables (λ files. sound_in files folder) fault
 Decoded (code.NoFile input.Feed) folder name tables feed out =
     HasStood tables × HasStood feed × IsUnwritten out
-    × ByTables tables (λ files. sound_in files folder) (λ db. OfFeed feed name (λ found. found ≡ None))
+    × ByTables tables (λ files. sound_in files folder) (λ db. OfFile feed name (λ found. found ≡ None))
 Decoded (code.Cut count) folder name tables feed out =
     HasStood tables × HasStood feed × IsHandedOn out × Printed (EndsCut count) folder name tables feed out
 Decoded code.TablesFault folder name tables feed out = HasFailed tables × IsUncalled feed × IsUnwritten out
 Decoded code.FeedFault folder name tables feed out =
     HasStood tables × HasFailed feed × IsHandedOn out
     × ByTables tables (λ files. sound_in files folder)
-    (λ db. OfFeed feed name (λ found. MissedFeed feed out ⊎ IsSomeAnd found (RanBy EndsUnread feed out db)))
+    (λ db. OfFile feed name (λ found. MissedFeed feed out ⊎ IsSomeAnd found (RanBy EndsUnread feed out db)))
 Decoded code.OutFault folder name tables feed out =
     HasStood tables × (feed.faults feed.before ≤ feed.faults feed.now) × HasBroken out
     × Printed (EndsUnwritten (feed.faults feed.before) (feed.faults feed.now)) folder name tables feed out

@@ -1,0 +1,5 @@
+mod PlanFacts
+mod StampFacts
+mod EndFacts
+mod LiveFacts
+mod Crossing

@@ -1,0 +1,96 @@
+-- A whole live run, by what its two sides did and by the history at its end.
+use Rattle.std.proofs.Common.{◌≡◌, ℕ, [], ◌∷◌, map, length, Some, Result, refl, sym, ap, ◌∙◌, subst}
+use Rattle.decode_session.specs.declared.ending.RunEnd.{RunEnd}
+use Rattle.decode_session.specs.declared.ending.RunFault.{RunFault}
+use Rattle.decode_session.specs.Causes.{HasOutCause}
+use Rattle.desk.specs.Handling.{moves_by}
+use Rattle.histories.specs.History.{IsOfSeatsBelow, Permits, StartsWith, calls_of, moves_of}
+use Rattle.live_desk.specs.declared.desk_end.DeskEnd.{DeskEnd}
+use Rattle.live_desk.specs.Scripts.{Desked, DeskedBy, HasDeskCause, HasRepliesCause}
+use Rattle.live_desk.proofs.DeskFacts.{starts-more}
+use Rattle.live_intake.specs.Intake.{Gives, Intakes, is_out_failed, tail_of}
+use Rattle.live_session.specs.Codes.{code_by}
+use Rattle.live_session.specs.Live.{Lives, Prints, object}
+use Rattle.live_session.proofs.EndFacts.{Known, code-is, few-packets, out-counts, read-out}
+use Rattle.live_session.proofs.PlanFacts.{plans-of}
+use Rattle.live_session.proofs.StampFacts.{stamps-count, text-same}
+use Rattle.mib_model.specs.declared.code.Code.{Code}
+use Rattle.mib_model.specs.declared.database.Database.{Database}
+use Rattle.mib_model.specs.DeskRuns.{Calls}
+use Rattle.mib_model.specs.RegisterHistories.{IsRegisterHistory, MayEnter, RegisterHistory}
+
+calls-back : (calls : Calls) → map (λ m. (m.entry, m.reply)) (moves_by calls) ≡ calls
+calls-back [] = refl
+calls-back (c ∷ cs) = ap (λ l. c ∷ l) (calls-back cs)
+
+-- what a desk did stands by all that goes on from what was seen
+desked-on : (e : DeskEnd) (first : Database) (entries : Calls) (seen all : RegisterHistory) (left behind w0 w1 : Known) → StartsWith all seen → Desked e first entries seen left behind w0 w1 → Desked e first entries all left behind w0 w1
+desked-on e first entries seen all left behind w0 w1 on d = record {
+  given = d.given;
+  taken = d.taken;
+  handled = d.handled;
+  others = d.others;
+  of_script = d.of_script;
+  all = d.all;
+  whole = d.whole;
+  early = d.early;
+  late = d.late;
+  early_replies = d.early_replies;
+  late_replies = d.late_replies;
+  middle = d.middle;
+  last = d.last;
+  at_first = d.at_first;
+  later = d.later;
+  entered = d.entered;
+  tail = d.tail;
+  is_tail = d.is_tail;
+  told = d.told;
+  front = d.front;
+  starts = starts-more d.front seen all d.starts on;
+  no_stamp = d.no_stamp;
+  before = d.before;
+}
+
+module _ (ended : Result RunEnd RunFault) (first : Database) (history own : RegisterHistory) (legal : IsRegisterHistory first history) (permits : Permits MayEnter history) (is : moves_of 0 history ≡ own) where
+  -- what an intake printed is the output of the history
+  prints-of : (before now out_before out_now : ℕ) (l0 l1 w0 w1 : Known) → HasOutCause ended out_before out_now → Intakes ended first own before now l0 l1 w0 w1 → Prints first history (object l0 l1 before now) (object w0 w1 out_before out_now)
+  prints-of before now out_before out_now l0 l1 w0 w1 cause i = record {
+    read = i.read;
+    packets = i.packets;
+    rest = i.rest;
+    taken = i.taken;
+    cut = i.cut;
+    moves = ap (λ (l : RegisterHistory). length l) is ∙ sym i.many;
+    stamped = stamps-count first history own legal permits is ∙ sym i.many;
+    few = few-packets ended i.packets i.rest l0 l1 i.ends;
+    limit = i.limit;
+    out_failed = is_out_failed ended;
+    feed_failed = i.feed_failed;
+    out_count = out-counts ended out_before out_now cause;
+    feed_count = i.feed_count;
+    whole = read-out ended i.feed_failed i.packets i.rest l0 l1 before now i.is_failed i.ends;
+    written = subst (Gives (is_out_failed ended) w0 w1) (text-same first history own legal permits is i.packets (tail_of i.feed_failed i.rest)) i.written;
+  }
+
+  -- a live run
+  pub lives-of : (c : Code) (e : DeskEnd) (desk_own seen : RegisterHistory) (before now desk_before desk_now out_before out_now reply_before reply_now : ℕ) (l0 l1 d0 d1 w0 w1 r0 r1 : Known) → c ≡ code_by ended e → IsOfSeatsBelow 2 history → moves_of 1 history ≡ desk_own
+      → StartsWith history seen → HasOutCause ended out_before out_now → Intakes ended first own before now l0 l1 w0 w1 → DeskedBy e first desk_own seen d0 d1 r0 r1 → HasDeskCause (Some e) desk_before desk_now → HasRepliesCause (Some e) reply_before reply_now
+      → Lives c first history (object l0 l1 before now) (object d0 d1 desk_before desk_now) (object w0 w1 out_before out_now) (object r0 r1 reply_before reply_now)
+  unfolding prints-of
+  lives-of c e desk_own seen before now desk_before desk_now out_before out_now reply_before reply_now l0 l1 d0 d1 w0 w1 r0 r1 is_code below desk_is on cause i desked desk_cause reply_cause =
+      let entries = desked.0 in let d = desked.2 in
+      let calls : calls_of 1 history ≡ entries = ap (λ (ms : RegisterHistory). map (λ m. (m.entry, m.reply)) ms) (desk_is ∙ desked.1) ∙ calls-back entries in
+      record {
+        is_history = record {
+          legal = legal;
+          permitted = permits;
+          seats = below;
+          plans = plans-of history d.early d.late _ d.middle d.last _ _ d.early_replies d.late_replies permits below (desk_is ∙ desked.1 ∙ ap moves_by d.entered) d.at_first d.later;
+        };
+        prints = prints-of before now out_before out_now l0 l1 w0 w1 cause i;
+        desk_end = e;
+        desked = subst (λ cs. Desked e first cs history d0 d1 r0 r1) (sym calls) (desked-on e first entries seen history d0 d1 r0 r1 on d);
+        desk_count = desk_cause;
+        replies_count = reply_cause;
+        is_code = is_code ∙ code-is ended e i.feed_failed i.packets i.rest l0 l1 i.is_failed i.ends i.limit;
+      }

@@ -1,0 +1,77 @@
+-- What a live run leaves. [This profile.]
+use Rattle.std.specs.Prelude.{◌≡◌, ◌⊎◌, ℕ, ◌≤◌, ◌==◌, Bool, false, List, [], length, Option, IfSome}
+use Rattle.std.specs.Io.KnownBytes.{Consumes, IsAtEnd}
+use Rattle.decode_session.specs.Run.{most_packets}
+use Rattle.histories.specs.History.{IsOfSeatsBelow, Permits, calls_of, moves_of}
+use Rattle.live_desk.specs.declared.desk_end.DeskEnd.{DeskEnd}
+use Rattle.live_desk.specs.Lines.{is_desk_fault, is_reply_fault}
+use Rattle.live_desk.specs.Scripts.{Desked}
+use Rattle.live_intake.specs.Intake.{Counts, Gives, tail_of}
+use Rattle.mib_model.specs.declared.code.Code.{Code}
+use Rattle.mib_model.specs.declared.database.Database.{Database}
+use Rattle.mib_model.specs.Endings.{Ending, code_of_ending}
+use Rattle.mib_model.specs.Output.{output}
+use Rattle.mib_model.specs.Packets.{IsCut}
+use Rattle.mib_model.specs.RegisterHistories.{AddsItsPlans, IsRegisterHistory, MayEnter, RegisterHistory, stamps}
+
+-- an object before and behind a call: its octets, where it tells them, and how often it failed
+pub record Object : Type 0 where
+  pub old : Option (List ℕ)
+  pub new : Option (List ℕ)
+  pub before : ℕ
+  pub now : ℕ
+
+abbrev pub object : Option (List ℕ) → Option (List ℕ) → ℕ → ℕ → Object
+object old new before now = record { old = old; new = new; before = before; now = now }
+
+-- a history is the register's, of an intake and a desk, and each edition that it adds has the plans of its tables
+pub record IsLiveHistory (first : Database) (history : RegisterHistory) : Type 0 where
+  pub legal : IsRegisterHistory first history
+  pub permitted : Permits MayEnter history
+  pub seats : IsOfSeatsBelow 2 history
+  pub plans : AddsItsPlans history
+
+-- a feed that tells its octets was read to its end, or as far as a run reads
+abbrev pub IsReadOut : Object → List (List ℕ) → Type 0
+IsReadOut feed packets = IfSome feed.old (λ octets. IsAtEnd feed.new) ⊎ (length packets ≡ most_packets)
+
+-- what was read of the feed is cut into packets and a rest; each packet was stamped, and the output got the text of all by their
+-- stamps in the history, or a first part of it where it failed; where neither failed the feed was read out
+pub record Prints (first : Database) (history : RegisterHistory) (feed out : Object) : Type 0 where
+  pub read : List ℕ
+  pub packets : List (List ℕ)
+  pub rest : List ℕ
+  pub taken : Consumes feed.old feed.new read
+  pub cut : IsCut read packets rest
+  pub moves : length (moves_of 0 history) ≡ length packets
+  pub stamped : length (stamps history) ≡ length packets
+  pub few : length packets ≤ most_packets
+  pub limit : length packets ≡ most_packets → rest ≡ []
+  pub out_failed : Bool
+  pub feed_failed : Bool
+  pub out_count : Counts out_failed out.before out.now
+  pub feed_count : Counts feed_failed feed.before feed.now
+  pub whole : out_failed ≡ false → feed_failed ≡ false → IsReadOut feed packets
+  pub written : Gives out_failed out.old out.new (output first packets history (tail_of feed_failed rest))
+
+-- what happened in a run, by the faults of its objects, the rest of the feed and the number of packets
+abbrev pub ending_of : Bool → Bool → DeskEnd → List ℕ → List (List ℕ) → Ending
+ending_of out_failed feed_failed desk rest packets = record {
+  out_failed = out_failed;
+  replies_failed = is_reply_fault desk;
+  feed_failed = feed_failed;
+  desk_failed = is_desk_fault desk;
+  rest = length rest;
+  is_limit = length packets == most_packets;
+}
+
+-- a live run: its history, what it printed of the feed, and what it did with the desk's script and replied, by that history; the code
+-- is that of what happened, and an object failed where its count of faults rose
+pub record Lives (code : Code) (first : Database) (history : RegisterHistory) (feed desk out replies : Object) : Type 0 where
+  pub is_history : IsLiveHistory first history
+  pub prints : Prints first history feed out
+  pub desk_end : DeskEnd
+  pub desked : Desked desk_end first (calls_of 1 history) history desk.old desk.new replies.old replies.new
+  pub desk_count : Counts (is_desk_fault desk_end) desk.before desk.now
+  pub replies_count : Counts (is_reply_fault desk_end) replies.before replies.now
+  pub is_code : code ≡ code_of_ending (ending_of prints.out_failed prints.feed_failed desk_end prints.rest prints.packets)

@@ -1,0 +1,143 @@
+// The two sides of a live run: what the intake owns, and what each does.
+ghost use Rattle.std.specs.Prelude.{◌≡◌, ◌≢◌, ◌≤◌, [], Err, length};
+ghost use Rattle.decode_session.specs.Causes.{HasOutCause};
+ghost use Rattle.desk.specs.State.{desk_of, editions_of};
+ghost use Rattle.desk_lines.specs.Reader.{reading_of, source_of};
+ghost use Rattle.edition_register.specs.Seats.{IsSeat, first_of, shown_in};
+ghost use Rattle.histories.specs.History.{StartsWith};
+ghost use Rattle.live_desk.specs.Scripts.{HasDeskCause, HasRepliesCause, Worked};
+ghost use Rattle.live_intake.specs.Intake.{Intakes};
+ghost use Rattle.live_session.specs.Sides.{IsFresh};
+ghost use Rattle.turn_cell.specs.Seats.{own_moves, seen_by};
+
+use decode_session::{RunEnd, RunFault, Stock, Stop};
+use desk::Desk;
+use desk_lines::{DeskReader, LINE_ROOM};
+use edition::Edition;
+use edition_register::{Editions, Register};
+use fold_state::Board;
+use live_desk::{DeskEnd, work};
+use live_intake::{InUse, take_in};
+use mib_model::Steps;
+use std::alloc::Global;
+use std::marker::Brand;
+use std::sync::Wait;
+use std::sync::ledger::{Blank, Ledger};
+use std::thread::Threads;
+use tm_io::{Sink, Source};
+use turn_cell::Seat;
+
+/// What the intake owns: its seat, the edition in use, its buffers, and how many workers decode.
+#[derive(Drop)]
+pub(crate) struct IntakeSide {
+    pub seat: Seat<Editions<Edition, Board>>,
+    pub in_use: InUse,
+    pub stock: Stock,
+    pub workers: u8,
+    ghost some: { 1 ≤ workers },
+}
+
+/// Takes in the packets of a feed.
+pub(crate) fn run_intake<R: Threads + Wait + Sync, F: Source, O: Sink>(
+    rt: &R,
+    register: &Register<Edition, Board>,
+    side: &mut IntakeSide,
+    feed: &mut F,
+    out: &mut O,
+) -> Result<RunEnd, RunFault>
+    requires seat { IsSeat 0 register.now side.old.seat }
+    requires unused { own_moves side.old.seat ≡ [] }
+    requires fresh { IsFresh (first_of register.now) side.old.in_use side.old.stock }
+    ensures seat { IsSeat 0 register.now side.new.seat }
+    ensures seen { StartsWith (seen_by side.new.seat) (seen_by side.old.seat) }
+    ensures intakes { let first = first_of register.now in
+        Intakes result first (own_moves side.new.seat) (F.faults feed.old) (F.faults feed.new) (F.left feed.old) (F.left feed.new) (O.written out.old) (O.written out.new) }
+    ensures out { HasOutCause result (O.faults out.old) (O.faults out.new) }
+    ensures handed { result ≢ Err (RunFault.Print Stop.Out) → O.handed out.old ≡ O.written out.old → O.handed out.new ≡ O.written out.new }
+    ensures missed { F.missed feed.new ≡ F.missed feed.old }
+{
+    take_in(
+        rt,
+        register,
+        &mut side.seat,
+        &mut side.in_use,
+        &mut side.stock,
+        feed,
+        out,
+        side.workers,
+    )
+}
+
+// Handles the lines of a desk, and counts the plans that it compiles on a ledger of its own.
+fn work_counted<L: Ledger, R: Wait, D: Source, P: Sink>(
+    rt: &R,
+    alloc: Global,
+    register: &Register<Edition, Board>,
+    seat: &mut Seat<Editions<Edition, Board>>,
+    desk: &mut Desk,
+    reader: &mut DeskReader<D>,
+    replies: &mut P,
+    until_go: bool,
+    blank: Blank,
+) -> Option<DeskEnd>
+    requires name { blank.name ≡ L.name }
+    requires parts { blank.parts ≡ L.parts }
+    requires one { blank.parts ≡ 1 }
+    requires seat { IsSeat 1 register.now seat.old }
+    requires room { length (own_moves seat.old) ≤ (reading_of reader.old).lines }
+    requires editions { editions_of desk.old ≡ shown_in (first_of register.now) (own_moves seat.old) }
+    ensures seat { IsSeat 1 register.now seat.new }
+    ensures editions { editions_of desk.new ≡ shown_in (first_of register.now) (own_moves seat.new) }
+    ensures worked { Worked until_go result (reading_of reader.old) (reading_of reader.new) (D.left (source_of reader.old)) (D.left (source_of reader.new)) (desk_of desk.old) (desk_of desk.new) (own_moves seat.old) (own_moves seat.new) (P.written replies.old) (P.written replies.new) }
+    ensures room { length (own_moves seat.new) ≤ (reading_of reader.new).lines }
+    ensures seen { StartsWith (seen_by seat.new) (seen_by seat.old) }
+    ensures desk { HasDeskCause result (D.faults (source_of reader.old)) (D.faults (source_of reader.new)) }
+    ensures replies { HasRepliesCause result (P.faults replies.old) (P.faults replies.new) }
+    ensures missed { D.missed (source_of reader.new) ≡ D.missed (source_of reader.old) }
+    ensures borrow { D.borrow (source_of reader.new) ≡ D.borrow (source_of reader.old) }
+{
+    let mut steps = Steps::<L>::new(blank);
+    let mut buffer = [0; LINE_ROOM];
+    work(
+        rt,
+        alloc,
+        register,
+        seat,
+        desk,
+        reader,
+        &mut buffer,
+        replies,
+        &mut steps,
+        until_go,
+    )
+}
+
+/// Handles the lines of a desk to the end of its script, or up to and with a `go` where that is to be waited for.
+pub(crate) fn run_desk<R: Wait, D: Source, P: Sink>(
+    rt: &R,
+    alloc: Global,
+    register: &Register<Edition, Board>,
+    seat: &mut Seat<Editions<Edition, Board>>,
+    desk: &mut Desk,
+    reader: &mut DeskReader<D>,
+    replies: &mut P,
+    until_go: bool,
+) -> Option<DeskEnd>
+    requires seat { IsSeat 1 register.now seat.old }
+    requires room { length (own_moves seat.old) ≤ (reading_of reader.old).lines }
+    requires editions { editions_of desk.old ≡ shown_in (first_of register.now) (own_moves seat.old) }
+    ensures seat { IsSeat 1 register.now seat.new }
+    ensures editions { editions_of desk.new ≡ shown_in (first_of register.now) (own_moves seat.new) }
+    ensures worked { Worked until_go result (reading_of reader.old) (reading_of reader.new) (D.left (source_of reader.old)) (D.left (source_of reader.new)) (desk_of desk.old) (desk_of desk.new) (own_moves seat.old) (own_moves seat.new) (P.written replies.old) (P.written replies.new) }
+    ensures room { length (own_moves seat.new) ≤ (reading_of reader.new).lines }
+    ensures seen { StartsWith (seen_by seat.new) (seen_by seat.old) }
+    ensures desk { HasDeskCause result (D.faults (source_of reader.old)) (D.faults (source_of reader.new)) }
+    ensures replies { HasRepliesCause result (P.faults replies.old) (P.faults replies.new) }
+    ensures missed { D.missed (source_of reader.new) ≡ D.missed (source_of reader.old) }
+    ensures borrow { D.borrow (source_of reader.new) ≡ D.borrow (source_of reader.old) }
+{
+    let blank = Blank::new(1);
+    work_counted::<Brand, R, D, P>(
+        rt, alloc, register, seat, desk, reader, replies, until_go, blank,
+    )
+}
