@@ -16,7 +16,6 @@ use dec_num::PolyCurve;
 use mib_model::{CafRow, Cal, CapRow, Dec, McfRow, TxfRow, TxpRow};
 use std::alloc::{AllocError, Global};
 use std::marker::Model;
-use std::snapshot::Snapshot;
 
 /// A curve by its form. RAWFMT `R` has a form of its own.
 #[derive(Drop)]
@@ -32,7 +31,7 @@ enum Form {
 #[derive(Drop)]
 pub struct Curve {
     form: Form,
-    rows: Snapshot<CurveRows>,
+    rows: CurveRows,
 }
 
 impl Model for Curve {
@@ -42,9 +41,9 @@ impl Model for Curve {
 
     ghost Value = { Rows };
 
-    ghost view = { λ curve. rows_of curve.rows.value };
+    ghost view = { λ curve. rows_of curve.rows };
 
-    ghost invariant = { λ curve. IsCompiled curve.form (rows_of curve.rows.value) };
+    ghost invariant = { λ curve. IsCompiled curve.form (rows_of curve.rows) };
 }
 
 // The coefficients of a polynomial, that of the power 0 first.
@@ -106,15 +105,19 @@ fn form_of(alloc: Global, rows: &CurveRows) -> Result<Form, AllocError>
 impl Curve {
     /// Compiles the rows of a curve, of which no two points stand at one x: so it is in sound tables. An error is want
     /// of memory.
-    pub fn compile(alloc: Global, rows: &CurveRows) -> Result<Curve, AllocError>
-        requires { HasPointsApart (rows_of rows.now) }
-        ensures { IfOk result (λ curve. curve ≡ rows_of rows.now) }
+    pub fn compile(alloc: Global, rows: CurveRows) -> Result<Curve, AllocError>
+        requires { HasPointsApart (rows_of rows) }
+        ensures { IfOk result (λ curve. curve ≡ rows_of rows) }
     {
-        let form = form_of(alloc, rows)?;
-        Ok(Curve {
-            form,
-            rows: Snapshot::of(rows),
-        })
+        let form = form_of(alloc, &rows)?;
+        Ok(Curve { form, rows })
+    }
+
+    /// The rows compiled.
+    pub fn rows(&self) -> &CurveRows
+        ensures { rows_of result.now ≡ self.now }
+    {
+        &self.rows
     }
 
     /// A number made of its points or ranges: who asks for it early has them at hand when the curve is applied.

@@ -57,7 +57,7 @@ fn line<R: Abort>(rt: &R, alloc: Global, high: CapRow, low: CapRow) -> Result<Cu
     let first = whole_number(caf.radix, low.xvals.bytes()).expect(rt, "a whole number");
     assert!(rt; first != last);
     let caps = Vec::from_slice(alloc, &[high, low])?;
-    Ok(Curve::compile(alloc, &CurveRows::Points { caf, caps })?)
+    Ok(Curve::compile(alloc, CurveRows::Points { caf, caps })?)
 }
 
 #[test]
@@ -92,7 +92,7 @@ fn the_first_text_in_file_order_stands(rt: HostRuntime) -> Result<(), Fail> {
     )?;
     let curve = Curve::compile(
         alloc,
-        &CurveRows::Texts {
+        CurveRows::Texts {
             txf,
             txps: separate,
         },
@@ -109,7 +109,7 @@ fn the_first_text_in_file_order_stands(rt: HostRuntime) -> Result<(), Fail> {
     )?;
     let curve = Curve::compile(
         alloc,
-        &CurveRows::Texts {
+        CurveRows::Texts {
             txf,
             txps: overlapping,
         },
@@ -131,10 +131,10 @@ fn a_polynomial_is_summed(rt: HostRuntime) -> Result<(), Fail> {
         pol4: none,
         pol5: none,
     };
-    let curve = Curve::compile(alloc, &CurveRows::Poly(mcf))?;
+    let curve = Curve::compile(alloc, CurveRows::Poly(mcf))?;
     assert_eq!(rt; count_of(curve.apply(10)), 4_100_000_000_000);
     let log = LgfRow { ident: name(&rt) };
-    let curve = Curve::compile(alloc, &CurveRows::Log(log))?;
+    let curve = Curve::compile(alloc, CurveRows::Log(log))?;
     assert!(rt; matches!(curve.apply(10), Cal::LogCurve));
     Ok(())
 }

@@ -28,7 +28,8 @@ fn finish_cell<P: Plans, O: Sink>(
     requires ready { IsReady (P.tables plans.now) cell.now }
     requires board { board.old.names ≡ plan_names (param_slices (P.tables plans.now)) }
     ensures board { board.new.names ≡ board.old.names }
-    ensures kept { (edition : ℕ) → Leaves edition (P.tables plans.now) (memory_of board.old) (stamped_in edition (P.tables plans.now) cell.now) (memory_of board.new) }
+    ensures kept { (edition : ℕ) → Leaves edition (P.tables plans.now) (memory_of board.old) (stamped_in edition (P.tables plans.now) cell.now)
+        (memory_of board.new) }
     ensures all { (edition : ℕ) → let text = next_text edition (P.tables plans.now) (memory_of board.old) (stamped_in edition (P.tables plans.now) cell.now) in
         OnOk result (Appends (O.written out.old) (O.written out.new) text) }
     ensures part { (edition : ℕ) → let text = next_text edition (P.tables plans.now) (memory_of board.old) (stamped_in edition (P.tables plans.now) cell.now) in
@@ -61,9 +62,11 @@ pub fn finish_batch<P: Plans, O: Sink>(
     ensures board { board.new.names ≡ board.old.names }
     ensures kept { (edition : ℕ) → let stamped = all_stamped edition (P.tables plans.now) cells.now in
         OnOk result (LeavesAfter edition (P.tables plans.now) (memory_of board.old) stamped (memory_of board.new)) }
-    ensures all { (edition : ℕ) → let text = batch_text edition (P.tables plans.now) (memory_of board.old) (all_stamped edition (P.tables plans.now) cells.now) in
+    ensures all { (edition : ℕ) → let text = batch_text edition (P.tables plans.now) (memory_of board.old)
+        (all_stamped edition (P.tables plans.now) cells.now) in
         OnOk result (Appends (O.written out.old) (O.written out.new) text) }
-    ensures part { (edition : ℕ) → let text = batch_text edition (P.tables plans.now) (memory_of board.old) (all_stamped edition (P.tables plans.now) cells.now) in
+    ensures part { (edition : ℕ) → let text = batch_text edition (P.tables plans.now) (memory_of board.old)
+        (all_stamped edition (P.tables plans.now) cells.now) in
         OnErr result (AppendsPrefix (O.written out.old) (O.written out.new) text) }
     ensures cause { HasCause (O.faults out.old) (O.faults out.new) result }
 {

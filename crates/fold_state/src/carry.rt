@@ -106,7 +106,8 @@ impl Board {
     fn carry_at(&mut self, at: usize, old: &Board, from: &Params, plan: &Param)
         requires { at < length self.old.names }
         ensures names { self.new.names ≡ self.old.names }
-        ensures memory { (before after : Database) → IsParamsOf before from.now → old.now.names ≡ plan_names from.now → IsSliceOf after plan.now.pcf.name plan.now
+        ensures memory { (before after : Database) → IsParamsOf before from.now → old.now.names ≡ plan_names from.now → IsSliceOf after
+            plan.now.pcf.name plan.now
             → place_of self.old plan.now.pcf.name ≡ Some at
             → memory_of self.new ≡ keeping (memory_of self.old) plan.now.pcf.name (Spec.carry (memory_of old.now) before after plan.now.pcf.name) }
     {

@@ -92,7 +92,8 @@ impl Board {
     ) -> (Tail<'a>, Option<Change>)
         requires place { place ≡ place_of self.old value.now.name }
         ensures names { self.new.names ≡ self.old.names }
-        ensures finished { (db : Database) → IsParamsOf db params.now → self.old.names ≡ plan_names params.now → HasSlot self.old value.now.name → IsRaw value.now
+        ensures finished { (db : Database) → IsParamsOf db params.now → self.old.names ≡ plan_names params.now → HasSlot self.old value.now.name →
+            IsRaw value.now
             → (memory_of self.new, record { value = value.now; tail = tail_as result.0; change = result.1 }) ≡ Spec.finished db (memory_of self.old) value.now }
     {
         let Some(at) = place else {
@@ -117,7 +118,8 @@ impl Board {
         requires inside { is_inside packet.now value.now.at value.now.shape.width ≡ true }
         requires room { length out.old + VALUE_ROOM + LINE_MOST ≤ LINES_ROOM }
         ensures names { self.new.names ≡ self.old.names }
-        ensures finished { (db : Database) → IsParamsOf db params.now → self.old.names ≡ plan_names params.now → HasSlot self.old value.now.name → IsRaw value.now
+        ensures finished { (db : Database) → IsParamsOf db params.now → self.old.names ≡ plan_names params.now → HasSlot self.old value.now.name →
+            IsRaw value.now
             → IsFinished db packet.now value.now (memory_of self.old) (memory_of self.new) out.old out.new }
         ensures room { length out.new ≤ length out.old + (VALUE_ROOM + NOTE_ROOM) }
     {

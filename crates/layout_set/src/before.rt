@@ -100,8 +100,10 @@ impl<'a> Before<'a> {
         places: &[PlfRow],
         items: &[TypeItem],
     ) -> Result<bool, AllocError>
-        ensures test { IfOk result (λ same. same ≡ has_same (layout_of self.now row.now.spid) (record { pid = row.now; plfs = places.now; types = items.now })) }
-        ensures equal { IfOk result (λ same. IsTrue same → layout_of self.now row.now.spid ≡ Some (record { pid = row.now; plfs = places.now; types = items.now })) }
+        ensures test { IfOk result (λ same. same ≡ has_same (layout_of self.now row.now.spid)
+            (record { pid = row.now; plfs = places.now; types = items.now })) }
+        ensures equal { IfOk result (λ same. IsTrue same → layout_of self.now row.now.spid ≡ Some
+            (record { pid = row.now; plfs = places.now; types = items.now })) }
     {
         let Some(packet) = self.packet(&row.spid) else {
             return Ok(false);
@@ -122,7 +124,8 @@ impl<'a> Before<'a> {
         places: &[PlfRow],
         items: &[TypeItem],
     ) -> Result<Option<Arc<Layout>>, AllocError>
-        ensures which { IfOk result (λ found. is_some found ≡ has_same (layout_of self.now row.now.spid) (record { pid = row.now; plfs = places.now; types = items.now })) }
+        ensures which { IfOk result (λ found. is_some found ≡ has_same (layout_of self.now row.now.spid)
+            (record { pid = row.now; plfs = places.now; types = items.now })) }
         ensures same { IfOk result (λ found. IfSome found (λ layout. arc_value layout ≡ record { pid = row.now; plfs = places.now; types = items.now })) }
     {
         let Some(layout) = self.set.handle(row.spid) else {

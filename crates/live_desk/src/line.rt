@@ -59,8 +59,10 @@ fn write_reply<P: Sink>(reply: &Reply, replies: &mut P) -> Result<(), Failed>
 
 // Writes the reply to a line, where there is one.
 fn write_given<P: Sink>(reply: &Option<Reply>, replies: &mut P) -> Result<(), Failed>
-    ensures all { let text = desk_text None (option_to_list (option_map Plain reply.now)) in OnOk result (Appends (P.written replies.old) (P.written replies.new) text) }
-    ensures part { let text = desk_text None (option_to_list (option_map Plain reply.now)) in OnErr result (AppendsPrefix (P.written replies.old) (P.written replies.new) text) }
+    ensures all { let text = desk_text None (option_to_list (option_map Plain reply.now)) in OnOk result
+        (Appends (P.written replies.old) (P.written replies.new) text) }
+    ensures part { let text = desk_text None (option_to_list (option_map Plain reply.now)) in OnErr result
+        (AppendsPrefix (P.written replies.old) (P.written replies.new) text) }
     ensures cause { HasCause (P.faults replies.old) (P.faults replies.new) result }
 {
     match reply {
@@ -85,7 +87,8 @@ fn handle<L: Ledger, R: Wait, P: Sink>(
     requires editions { editions_of desk.old ≡ shown_in (first_of register.now) (own_moves seat.old) }
     ensures seat { IsSeat 1 register.now seat.new }
     ensures editions { editions_of desk.new ≡ shown_in (first_of register.now) (own_moves seat.new) }
-    ensures answers { Answers result line.now (desk_of desk.old) (desk_of desk.new) (own_moves seat.old) (own_moves seat.new) (P.written replies.old) (P.written replies.new) }
+    ensures answers { Answers result line.now (desk_of desk.old) (desk_of desk.new) (own_moves seat.old) (own_moves seat.new) (P.written replies.old)
+        (P.written replies.new) }
     ensures few { length (own_moves seat.new) ≤ length (own_moves seat.old) + 1 }
     ensures seen { StartsWith (seen_by seat.new) (seen_by seat.old) }
     ensures replies { HasReplyCause result (P.faults replies.old) (P.faults replies.new) }
@@ -127,7 +130,8 @@ pub(crate) fn next_line<L: Ledger, R: Wait, D: Source, P: Sink>(
     requires buffer { length buffer.old ≡ LINE_ROOM }
     ensures seat { IsSeat 1 register.now seat.new }
     ensures editions { editions_of desk.new ≡ shown_in (first_of register.now) (own_moves seat.new) }
-    ensures comes { Comes result (reading_of reader.old) (reading_of reader.new) (D.left (source_of reader.old)) (D.left (source_of reader.new)) (desk_of desk.old) (desk_of desk.new) (own_moves seat.old) (own_moves seat.new) (P.written replies.old) (P.written replies.new) }
+    ensures comes { Comes result (reading_of reader.old) (reading_of reader.new) (D.left (source_of reader.old)) (D.left (source_of reader.new))
+        (desk_of desk.old) (desk_of desk.new) (own_moves seat.old) (own_moves seat.new) (P.written replies.old) (P.written replies.new) }
     ensures few { length (own_moves seat.new) ≤ length (own_moves seat.old) + 1 }
     ensures seen { StartsWith (seen_by seat.new) (seen_by seat.old) }
     ensures script { HasScriptCause result (D.faults (source_of reader.old)) (D.faults (source_of reader.new)) }

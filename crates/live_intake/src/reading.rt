@@ -58,8 +58,10 @@ fn read_stamped<R: Wait, S: Source>(
     requires room { length (own_moves seat.old) < most_packets }
     ensures seat { IsSeat 0 register.now seat.new }
     ensures seen { StartsWith (seen_by seat.new) (seen_by seat.old) }
-    ensures read { IfOk result (λ read. IsStamped (last_stamped (1, first_of register.now) (own_moves seat.old)) read (own_moves seat.old) (own_moves seat.new) (S.left (source_of feed.old)) (S.left (source_of feed.new))) }
-    ensures unread { IfErr result (λ unread. EndsFeed unread.why (S.left (source_of feed.old)) (S.left (source_of feed.new)) × (own_moves seat.new ≡ own_moves seat.old)) }
+    ensures read { IfOk result (λ read. IsStamped (last_stamped (1, first_of register.now) (own_moves seat.old)) read (own_moves seat.old)
+        (own_moves seat.new) (S.left (source_of feed.old)) (S.left (source_of feed.new))) }
+    ensures unread { IfErr result (λ unread. EndsFeed unread.why (S.left (source_of feed.old)) (S.left (source_of feed.new)) ×
+        (own_moves seat.new ≡ own_moves seat.old)) }
     ensures ok { OnOk result (S.faults (source_of feed.new) ≡ S.faults (source_of feed.old)) }
     ensures cause { IfErr result (λ unread. HasFillCause unread.why (S.faults (source_of feed.old)) (S.faults (source_of feed.new))) }
     ensures missed { S.missed (source_of feed.new) ≡ S.missed (source_of feed.old) }

@@ -54,7 +54,9 @@ fn run_both<R: Threads + Wait + Sync, F: Source, D: Source + Send, O: Sink, P: S
     ensures handed { result.0 ≢ Err (RunFault.Print Stop.Out) → O.handed out.old ≡ O.written out.old → O.handed out.new ≡ O.written out.new }
     ensures feed_missed { F.missed feed.new ≡ F.missed feed.old }
     ensures seat { IsSeat 1 register.now seat.new }
-    ensures worked { Worked false result.1 (reading_of reader.old) (reading_of reader.new) (D.left (source_of reader.old)) (D.left (source_of reader.new)) (desk_of desk.old) (desk_of desk.new) (own_moves seat.old) (own_moves seat.new) (P.written replies.old) (P.written replies.new) }
+    ensures worked { Worked false result.1 (reading_of reader.old) (reading_of reader.new) (D.left (source_of reader.old))
+        (D.left (source_of reader.new)) (desk_of desk.old) (desk_of desk.new) (own_moves seat.old) (own_moves seat.new) (P.written replies.old)
+        (P.written replies.new) }
     ensures desk_cause { HasDeskCause result.1 (D.faults (source_of reader.old)) (D.faults (source_of reader.new)) }
     ensures replies { HasRepliesCause result.1 (P.faults replies.old) (P.faults replies.new) }
     ensures desk_missed { D.missed (source_of reader.new) ≡ D.missed (source_of reader.old) }

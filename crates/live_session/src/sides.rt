@@ -88,7 +88,9 @@ fn work_counted<L: Ledger, R: Wait, D: Source, P: Sink>(
     requires editions { editions_of desk.old ≡ shown_in (first_of register.now) (own_moves seat.old) }
     ensures seat { IsSeat 1 register.now seat.new }
     ensures editions { editions_of desk.new ≡ shown_in (first_of register.now) (own_moves seat.new) }
-    ensures worked { Worked until_go result (reading_of reader.old) (reading_of reader.new) (D.left (source_of reader.old)) (D.left (source_of reader.new)) (desk_of desk.old) (desk_of desk.new) (own_moves seat.old) (own_moves seat.new) (P.written replies.old) (P.written replies.new) }
+    ensures worked { Worked until_go result (reading_of reader.old) (reading_of reader.new) (D.left (source_of reader.old))
+        (D.left (source_of reader.new)) (desk_of desk.old) (desk_of desk.new) (own_moves seat.old) (own_moves seat.new) (P.written replies.old)
+        (P.written replies.new) }
     ensures room { length (own_moves seat.new) ≤ (reading_of reader.new).lines }
     ensures seen { StartsWith (seen_by seat.new) (seen_by seat.old) }
     ensures desk { HasDeskCause result (D.faults (source_of reader.old)) (D.faults (source_of reader.new)) }
@@ -128,7 +130,9 @@ pub(crate) fn run_desk<R: Wait, D: Source, P: Sink>(
     requires editions { editions_of desk.old ≡ shown_in (first_of register.now) (own_moves seat.old) }
     ensures seat { IsSeat 1 register.now seat.new }
     ensures editions { editions_of desk.new ≡ shown_in (first_of register.now) (own_moves seat.new) }
-    ensures worked { Worked until_go result (reading_of reader.old) (reading_of reader.new) (D.left (source_of reader.old)) (D.left (source_of reader.new)) (desk_of desk.old) (desk_of desk.new) (own_moves seat.old) (own_moves seat.new) (P.written replies.old) (P.written replies.new) }
+    ensures worked { Worked until_go result (reading_of reader.old) (reading_of reader.new) (D.left (source_of reader.old))
+        (D.left (source_of reader.new)) (desk_of desk.old) (desk_of desk.new) (own_moves seat.old) (own_moves seat.new) (P.written replies.old)
+        (P.written replies.new) }
     ensures room { length (own_moves seat.new) ≤ (reading_of reader.new).lines }
     ensures seen { StartsWith (seen_by seat.new) (seen_by seat.old) }
     ensures desk { HasDeskCause result (D.faults (source_of reader.old)) (D.faults (source_of reader.new)) }

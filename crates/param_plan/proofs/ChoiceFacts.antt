@@ -5,10 +5,7 @@ use Rattle.std.proofs.lemmas.Slice.Zip.{get_or-zip, length-zip}
 use Rattle.mib_model.specs.declared.plan.CurveRows.{CurveRows}
 use Rattle.mib_model.specs.declared.rows.CurRow.{CurRow}
 use Rattle.mib_model.specs.Kept.{Memory, holds}
-use Rattle.curve_plan.specs.declared.rows.CurveRows.{CurveRows as Own}
-use Rattle.curve_plan.specs.Rows.{rows_of}
-use Rattle.param_plan.specs.declared.choice.Choice.{Choice}
-use Rattle.param_plan.specs.Choices.{choice_of, is_chosen, only_choice, choices_in}
+use Rattle.param_plan.specs.Choices.{CurveChoice, choice_of, is_chosen, only_choice, choices_in}
 use Rattle.param_plan.specs.Slices.{curve_by}
 
 beside-same : (memory : Memory) (pairs : List (CurRow × Option CurveRows))
@@ -30,24 +27,26 @@ pub chosen-same : (memory : Memory) (curtx : Option (List ℕ)) (curs : List Cur
 chosen-same memory (Some name) curs curves = only-same memory curves name curs
 chosen-same memory None curs curves = beside-same memory (zip curs curves)
 
--- selections with their curves, so many
-abbrev pub first_choices : List CurRow → List (Option Own) → ℕ → List Choice
-first_choices curs curves n = map choice_of (take n (zip curs (map (option_map rows_of) curves)))
+-- of curves that are seen so
+module _ {C : Type 0} (seen : C → CurveRows) where
+  -- selections with their curves, so many
+  abbrev pub first_choices : List CurRow → List (Option C) → ℕ → List CurveChoice
+  first_choices curs curves n = map choice_of (take n (zip curs (map (option_map seen) curves)))
 
-pub all-selected : (curs : List CurRow) (curves : List (Option Own)) (n : ℕ) → n ≡ min (length curs) (length curves) → first_choices curs curves n ≡ map choice_of (zip curs (map (option_map rows_of) curves))
-all-selected curs curves n is =
-    let pairs = zip curs (map (option_map rows_of) curves) in
-    let long : length pairs ≤ n = (let one = length-zip curs (map (option_map rows_of) curves) in let two : length (map (option_map rows_of) curves) ≡ length curves = simp length-map in omega (arith, is, one, two)) in
-    ap (map choice_of) (take_all n pairs long)
+  pub all-selected : (curs : List CurRow) (curves : List (Option C)) (n : ℕ) → n ≡ min (length curs) (length curves) → first_choices curs curves n ≡ map choice_of (zip curs (map (option_map seen) curves))
+  all-selected curs curves n is =
+      let pairs = zip curs (map (option_map seen) curves) in
+      let long : length pairs ≤ n = (let one = length-zip curs (map (option_map seen) curves) in let two : length (map (option_map seen) curves) ≡ length curves = simp length-map in omega (arith, is, one, two)) in
+      ap (map choice_of) (take_all n pairs long)
 
-pub selected-more : (curs : List CurRow) (curves : List (Option Own)) (n : ℕ) (cur : CurRow) (rows : Option Own) (number : ℤ) (curve : Option CurveRows) (old : List Choice)
-    → n < length curs → n < length curves → cur ≡ get_or curs n cur → rows ≡ get_or curves n rows → number ≡ cur.valpar → curve ≡ option_map rows_of rows → old ≡ first_choices curs curves n
-    → old ++ record { rlchk = Some cur.rlchk; valpar = number; curve = curve } ∷ [] ≡ first_choices curs curves (n + 1)
-selected-more curs curves n cur rows number curve old a b here beside same made so_far =
-    let pairs = zip curs (map (option_map rows_of) curves) in
-    let mapped : n < length (map (option_map rows_of) curves) = (let two : length (map (option_map rows_of) curves) ≡ length curves = simp length-map in omega (arith, b, two)) in
-    let within : n < length pairs = (let one = length-zip curs (map (option_map rows_of) curves) in omega (arith, a, mapped, one)) in
-    let item : get_or pairs n (cur, option_map rows_of rows) ≡ (cur, option_map rows_of rows) = get_or-zip curs (map (option_map rows_of) curves) n (cur, option_map rows_of rows) a mapped ∙ (λ i. (sym here i, (get_or-map (option_map rows_of) curves n rows (option_map rows_of rows) b ∙ ap (option_map rows_of) (sym beside)) i)) in
-    let last : choice_of (get_or pairs n (cur, option_map rows_of rows)) ≡ record { rlchk = Some cur.rlchk; valpar = number; curve = curve } = ap choice_of item ∙ (λ i. record { rlchk = Some cur.rlchk; valpar = sym same i; curve = sym made i }) in
-    let whole = ap (map choice_of) (take_more pairs n (cur, option_map rows_of rows) within) ∙ map-append choice_of (take n pairs) (get_or pairs n (cur, option_map rows_of rows) ∷ []) in
-    sym (whole ∙ (ap (λ c. first_choices curs curves n ++ c ∷ []) last ∙ ap (λ front. front ++ record { rlchk = Some cur.rlchk; valpar = number; curve = curve } ∷ []) (sym so_far)))
+  pub selected-more : (curs : List CurRow) (curves : List (Option C)) (n : ℕ) (cur : CurRow) (curve : Option C) (number : ℤ) (rows : Option CurveRows) (old : List CurveChoice)
+      → n < length curs → n < length curves → cur ≡ get_or curs n cur → curve ≡ get_or curves n curve → number ≡ cur.valpar → rows ≡ option_map seen curve → old ≡ first_choices curs curves n
+      → old ++ record { rlchk = Some cur.rlchk; valpar = number; curve = rows } ∷ [] ≡ first_choices curs curves (n + 1)
+  selected-more curs curves n cur curve number rows old a b here beside same made so_far =
+      let pairs = zip curs (map (option_map seen) curves) in
+      let mapped : n < length (map (option_map seen) curves) = (let two : length (map (option_map seen) curves) ≡ length curves = simp length-map in omega (arith, b, two)) in
+      let within : n < length pairs = (let one = length-zip curs (map (option_map seen) curves) in omega (arith, a, mapped, one)) in
+      let item : get_or pairs n (cur, option_map seen curve) ≡ (cur, option_map seen curve) = get_or-zip curs (map (option_map seen) curves) n (cur, option_map seen curve) a mapped ∙ (λ i. (sym here i, (get_or-map (option_map seen) curves n curve (option_map seen curve) b ∙ ap (option_map seen) (sym beside)) i)) in
+      let last : choice_of (get_or pairs n (cur, option_map seen curve)) ≡ record { rlchk = Some cur.rlchk; valpar = number; curve = rows } = ap choice_of item ∙ (λ i. record { rlchk = Some cur.rlchk; valpar = sym same i; curve = sym made i }) in
+      let whole = ap (map choice_of) (take_more pairs n (cur, option_map seen curve) within) ∙ map-append choice_of (take n pairs) (get_or pairs n (cur, option_map seen curve) ∷ []) in
+      sym (whole ∙ (ap (λ c. first_choices curs curves n ++ c ∷ []) last ∙ ap (λ front. front ++ record { rlchk = Some cur.rlchk; valpar = number; curve = rows } ∷ []) (sym so_far)))

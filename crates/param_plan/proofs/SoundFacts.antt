@@ -1,6 +1,5 @@
 -- In a sound database the points of a curve stand at different x.
 use Rattle.std.proofs.Common.{◌≡◌, ◌≢◌, ◌∙◌, ℕ, ℤ, Bool, true, false, not, cond, ◌&&◌, List, [], ◌∷◌, ◌++◌, Option, Some, None, All, map, filter, filter_map, find, drop, nat_eq, option_map, refl, sym, ap}
-use Rattle.std.proofs.lemmas.List.Elements.{All-cons, All-nil}
 use Rattle.std.specs.Cmp.Lexicographic.{bytes_decides}
 use Rattle.std.specs.Cmp.{signed_Decides}
 use Rattle.std.specs.List.{AllByRecursion, flat_map, list_any}
@@ -15,11 +14,10 @@ use Rattle.mib_model.specs.declared.plan.CurveRows.{CurveRows}
 use Rattle.mib_model.specs.declared.plan.CurveRows.TheVariants.{Points, Texts, Poly, Log}
 use Rattle.mib_model.specs.declared.rows.CafRow.{CafRow}
 use Rattle.mib_model.specs.declared.rows.CapRow.{CapRow}
-use Rattle.mib_model.specs.Curves.{curve_named, is_real_format, log_named, points_named, poly_named, selections, texts_named}
+use Rattle.mib_model.specs.Curves.{curve_named, is_real_format, log_named, points_named, poly_named, texts_named}
 use Rattle.mib_model.specs.Flaws.{flaw_if, table_flaws}
 use Rattle.mib_model.specs.Kinds.{kinds}
 use Rattle.mib_model.specs.Letters.{letter}
-use Rattle.mib_model.specs.Plans.{curve_names}
 use Rattle.mib_model.specs.Points.{Knot, knot_of}
 use Rattle.mib_model.specs.CurveFlaws.{cap_rules, is_bad_point, is_bad_x}
 use Rattle.mib_model.specs.Soundness.{IsSound, flaws, flaws_of}
@@ -152,9 +150,5 @@ module _ (db : Database) (sound : IsSound db) where
       (chosen (nat_eq categ (letter "T")) None (option_or (points_named db name) (option_or (poly_named db name) (log_named db name))) tt
       (either (points_named db name) (option_or (poly_named db name) (log_named db name)) (points-apart name) (either (poly_named db name) (log_named db name) (poly-apart name) (log-apart name))))
 
-  all-apart : (categ : ℕ) (names : List (List ℕ)) → All IsApart (map (curve_named db categ) names)
-  all-apart categ [] = All-nil IsApart
-  all-apart categ (name ∷ names) = All-cons IsApart (curve_named db categ name) (map (curve_named db categ) names) (named-apart categ name) (all-apart categ names)
-
 pub curves-apart : SoundCurvesStandApart
-curves-apart db row sound = all-apart db sound row.categ (curve_names row.curtx (selections db row.name))
+curves-apart db categ name sound = named-apart db sound categ name

@@ -1,8 +1,7 @@
 -- Laws of slices. [This profile.]
-use Rattle.std.specs.Prelude.{◌≡◌}
-use Rattle.std.specs.List.{All}
+use Rattle.std.specs.Prelude.{◌≡◌, ℕ, List}
 use Rattle.mib_model.specs.declared.rows.PcfRow.{PcfRow}
-use Rattle.mib_model.specs.Curves.{curve_of}
+use Rattle.mib_model.specs.Curves.{curve_named, curve_of}
 use Rattle.mib_model.specs.declared.database.Database.{Database}
 use Rattle.mib_model.specs.Kept.{Memory}
 use Rattle.mib_model.specs.Plans.{param_plan}
@@ -18,6 +17,6 @@ SlicesAreOfPlans = (db : Database) (row : PcfRow) → as_slice (slice_for db row
 abbrev pub SlicesHaveCurves : Type 0
 SlicesHaveCurves = (db : Database) (row : PcfRow) (memory : Memory) → curve_in (slice_for db row) memory ≡ curve_of db row memory
 
--- in sound tables no two points of a slice's curve stand at one x
+-- in sound tables no two points of a curve stand at one x
 abbrev pub SoundCurvesStandApart : Type 0
-SoundCurvesStandApart = (db : Database) (row : PcfRow) → IsSound db → All IsApart (slice_for db row).curves
+SoundCurvesStandApart = (db : Database) (categ : ℕ) (name : List ℕ) → IsSound db → IsApart (curve_named db categ name)

@@ -2,7 +2,7 @@
 use Rattle.std.specs.Prelude.{ℕ, List, Option, Some, None, map, option_map, option_and_then}
 use Rattle.std.specs.List.{find, zip}
 use Rattle.check_plan.specs.Rows.{CheckRows}
-use Rattle.curve_plan.specs.Rows.{rows_of}
+use Rattle.std.specs.Arc.{arc_value}
 use Rattle.mib_model.specs.declared.plan.CurveRows.{CurveRows}
 use Rattle.mib_model.specs.declared.plan.Slice.{Slice}
 use Rattle.mib_model.specs.declared.plan.Slice.TheVariants as slice
@@ -30,7 +30,7 @@ pub record ParamSlice : Type 0 where
 -- the slice that rows are
 abbrev pub slice_of : ParamRows → ParamSlice
 slice_of rows =
-    record { pcf = rows.pcf; curs = rows.curs.items; curves = map (option_map rows_of) rows.curves.items; ocf = rows.ocf; ocps = rows.ocps.items }
+    record { pcf = rows.pcf; curs = rows.curs.items; curves = map (option_map arc_value) rows.curves.items; ocf = rows.ocf; ocps = rows.ocps.items }
 
 -- the slice of a parameter in a database
 abbrev pub slice_for : Database → PcfRow → ParamSlice

@@ -1,21 +1,33 @@
 // The curves that a parameter may take, each with its condition.
-ghost use Rattle.std.specs.Prelude.{◌≡◌, Some, option_and_then, option_map, map, IfOk};
-ghost use Rattle.std.specs.List.{All, find, zip};
+ghost use Rattle.std.specs.Prelude.{◌≡◌, option_and_then, option_map, map, IfOk};
+ghost use Rattle.std.specs.Arc.{arc_value};
+ghost use Rattle.std.specs.List.{find, zip};
 ghost use Rattle.std.specs.Option.{option_copied};
-ghost use Rattle.curve_plan.specs.Rows.{rows_of};
-ghost use Rattle.param_plan.specs.Choices.{choice_of, is_chosen, only_choice, choices_in, IsApart};
+ghost use Rattle.param_plan.specs.Choices.{choice_of, is_chosen, only_choice, choices_in};
 
 use check_plan::{Holds, is_met};
-use curve_plan::{Curve, CurveRows};
+use curve_plan::Curve;
 use mib_model::{CurRow, Name};
 use std::alloc::{AllocError, Global};
+use std::marker::Model;
+use std::sync::Arc;
 
-/// A curve, if there is one, with the condition that it is taken by.
+/// A curve, if there is one, with the condition that it is taken by. Contracts see the curve's rows.
 #[derive(Drop)]
 pub struct Choice {
     rlchk: Option<Name>,
     valpar: i128,
-    curve: Option<Curve>,
+    curve: Option<Arc<Curve>>,
+}
+
+impl Model for Choice {
+    ghost use Rattle.std.specs.Prelude.{option_map};
+    ghost use Rattle.std.specs.Arc.{arc_value};
+    ghost use Rattle.param_plan.specs.Choices.{CurveChoice};
+
+    ghost Value = { CurveChoice };
+
+    ghost view = { λ choice. record { rlchk = choice.rlchk; valpar = choice.valpar; curve = option_map arc_value choice.curve } };
 }
 
 impl Choice {
@@ -33,28 +45,26 @@ impl Choice {
     }
 }
 
-// The curve of rows, if there are rows.
-fn curve_of(alloc: Global, rows: &Option<CurveRows>) -> Result<Option<Curve>, AllocError>
-    requires { IsApart (option_map rows_of rows.now) }
-    ensures { IfOk result (λ curve. curve ≡ option_map rows_of rows.now) }
+// A further handle of a curve, if there is one.
+fn shared(curve: &Option<Arc<Curve>>) -> Result<Option<Arc<Curve>>, AllocError>
+    ensures { IfOk result (λ other. option_map arc_value other ≡ option_map arc_value curve.now) }
 {
-    match rows {
-        Some(rows) => Ok(Some(Curve::compile(alloc, rows)?)),
+    match curve {
+        Some(curve) => Ok(Some(Arc::try_clone(curve)?)),
         None => Ok(None),
     }
 }
 
 // The first curve, without a condition.
-fn only(alloc: Global, curves: &[Option<CurveRows>]) -> Result<Vec<Choice>, AllocError>
-    requires { All (λ rows. IsApart (option_map rows_of rows)) curves.now }
-    ensures { IfOk result (λ choices. choices.items ≡ only_choice (map (option_map rows_of) curves.now)) }
+fn only(alloc: Global, curves: &[Option<Arc<Curve>>]) -> Result<Vec<Choice>, AllocError>
+    ensures { IfOk result (λ choices. choices.items ≡ only_choice (map (option_map arc_value) curves.now)) }
 {
     let mut choices = Vec::new(alloc);
-    if let Some(rows) = curves.first() {
+    if let Some(curve) = curves.first() {
         choices.push(Choice {
             rlchk: None,
             valpar: 0,
-            curve: curve_of(alloc, rows)?,
+            curve: shared(curve)?,
         })?;
     }
     Ok(choices)
@@ -64,17 +74,16 @@ fn only(alloc: Global, curves: &[Option<CurveRows>]) -> Result<Vec<Choice>, Allo
 fn selected(
     alloc: Global,
     curs: &[CurRow],
-    curves: &[Option<CurveRows>],
+    curves: &[Option<Arc<Curve>>],
 ) -> Result<Vec<Choice>, AllocError>
-    requires { All (λ rows. IsApart (option_map rows_of rows)) curves.now }
-    ensures { IfOk result (λ choices. choices.items ≡ map choice_of (zip curs.now (map (option_map rows_of) curves.now))) }
+    ensures { IfOk result (λ choices. choices.items ≡ map choice_of (zip curs.now (map (option_map arc_value) curves.now))) }
 {
     let mut choices = Vec::new(alloc);
-    for (cur, rows) in curs.iter().zip(curves) {
+    for (cur, curve) in curs.iter().zip(curves) {
         choices.push(Choice {
             rlchk: Some(cur.rlchk),
             valpar: cur.valpar,
-            curve: curve_of(alloc, rows)?,
+            curve: shared(curve)?,
         })?;
     }
     Ok(choices)
@@ -85,10 +94,9 @@ pub fn choices_of(
     alloc: Global,
     curtx: Option<Name>,
     curs: &[CurRow],
-    curves: &[Option<CurveRows>],
+    curves: &[Option<Arc<Curve>>],
 ) -> Result<Vec<Choice>, AllocError>
-    requires { All (λ rows. IsApart (option_map rows_of rows)) curves.now }
-    ensures { IfOk result (λ choices. choices.items ≡ choices_in curtx curs.now (map (option_map rows_of) curves.now)) }
+    ensures { IfOk result (λ choices. choices.items ≡ choices_in curtx curs.now (map (option_map arc_value) curves.now)) }
 {
     match curtx {
         Some(_) => only(alloc, curves),
@@ -109,5 +117,8 @@ fn first_met<'a, K: Holds>(choices: &'a [Choice], kept: &K) -> Option<&'a Choice
 pub fn chosen<'a, K: Holds>(choices: &'a [Choice], kept: &K) -> Option<&'a Curve>
     ensures { option_copied result ≡ option_and_then (λ choice. choice.curve) (find (is_chosen (K.memory kept.now)) choices.now) }
 {
-    first_met(choices, kept)?.curve.as_ref()
+    match &first_met(choices, kept)?.curve {
+        Some(curve) => Some(curve),
+        None => None,
+    }
 }

@@ -10,7 +10,7 @@ pub fn slices_have_curves()
     ensures { SlicesHaveCurves }
 {}
 
-/// In sound tables no two points of a curve of a slice stand at one x.
+/// In sound tables no two points of a curve stand at one x.
 pub fn sound_curves_stand_apart()
     ensures { SoundCurvesStandApart }
 {}

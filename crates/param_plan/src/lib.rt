@@ -12,7 +12,7 @@ mod params;
 mod rows;
 
 pub use check_plan::{Checks, Holds};
-pub use curve_plan::{Cal, CurveRows};
+pub use curve_plan::{Cal, Curve, CurveRows};
 pub use laws::{slices_are_of_plans, slices_have_curves, sound_curves_stand_apart};
 pub use param::Param;
 pub use params::Params;

@@ -1,11 +1,10 @@
 ghost use Rattle.std.specs.Prelude.{◌≡◌, ◌≤ℤ◌, ◌+◌, option_map, IfOk, OnOk, OnErr};
-ghost use Rattle.std.specs.List.{All};
 ghost use Rattle.std.specs.Option.{option_copied};
 ghost use Rattle.mib_model.specs.CalibrationViews.{calibrated_as};
 ghost use Rattle.mib_model.specs.Curves.{calibration};
 ghost use Rattle.mib_model.specs.Finish.{is_valid};
 ghost use Rattle.mib_model.specs.WholeNumbers.{least_raw, greatest_raw};
-ghost use Rattle.param_plan.specs.Choices.{choices_in, IsApart};
+ghost use Rattle.param_plan.specs.Choices.{choices_in};
 ghost use Rattle.param_plan.specs.Slices.{slice_of, curve_in, checks_in};
 
 use crate::choice::{Choice, choices_of, chosen};
@@ -54,7 +53,6 @@ fn checks_of(
 
 // The curves and the checks of a parameter.
 fn parts_of(alloc: Global, rows: &ParamRows) -> Result<(Vec<Choice>, Option<Checks>), AllocError>
-    requires { All IsApart (slice_of rows.now).curves }
     ensures choices { IfOk result (λ parts. parts.0.items ≡ choices_in rows.now.pcf.curtx rows.now.curs.items (slice_of rows.now).curves) }
     ensures checks { IfOk result (λ parts. parts.1 ≡ checks_in (slice_of rows.now)) }
 {
@@ -64,14 +62,13 @@ fn parts_of(alloc: Global, rows: &ParamRows) -> Result<(Vec<Choice>, Option<Chec
 }
 
 impl Param {
-    /// Compiles the rows of a parameter, of whose curves none has two points at one x: so it is in sound tables. It takes
-    /// one step. An error is want of memory, and takes no step.
+    /// Compiles the rows of a parameter, whose curves are compiled. It takes one step. An error is want of memory, and takes
+    /// no step.
     pub fn compile<L: Ledger>(
         alloc: Global,
         rows: ParamRows,
         steps: &mut Steps<L>,
     ) -> Result<Param, AllocError>
-        requires { All IsApart (slice_of rows).curves }
         ensures rows { IfOk result (λ param. param ≡ slice_of rows) }
         ensures step { OnOk result (steps.new ≡ steps.old + 1) }
         ensures refused { OnErr result (steps.new ≡ steps.old) }

@@ -1,12 +1,8 @@
-ghost use Rattle.std.specs.Prelude.{◌≡◌, Some, IfOk};
-ghost use Rattle.std.specs.List.{All};
-ghost use Rattle.curve_plan.specs.Rows.{rows_of};
-ghost use Rattle.param_plan.specs.Choices.{IsApart};
-ghost use Rattle.param_plan.specs.Slices.{slice_of};
+ghost use Rattle.std.specs.Prelude.{◌≡◌};
 
 use super::*;
 use mib_model::{CurRow, Dec, Eng, McfRow, Name, OcfRow, PcfRow, Steps};
-use std::alloc::Global;
+use std::alloc::{AllocError, Global};
 use std::marker::Brand;
 use std::process::Abort;
 use std::sync::Arc;
@@ -35,18 +31,17 @@ fn name<R: Abort>(rt: &R, octets: &[u8]) -> Name {
 }
 
 // So many times a raw number.
-fn times<R: Abort>(rt: &R, m: i64) -> CurveRows
-    ensures { IsApart (Some (rows_of result)) }
-{
+fn times<R: Abort>(rt: &R, alloc: Global, m: i64) -> Result<Arc<Curve>, AllocError> {
     let none = Dec { m: 0, e: 0 };
-    CurveRows::Poly(McfRow {
+    let rows = CurveRows::Poly(McfRow {
         ident: name(rt, b"CA"),
         pol1: none,
         pol2: Dec { m, e: 0 },
         pol3: none,
         pol4: none,
         pol5: none,
-    })
+    });
+    Arc::new(alloc, Curve::compile(alloc, rows)?)
 }
 
 fn selection<R: Abort>(rt: &R, pos: u16, valpar: i128) -> CurRow {
@@ -60,9 +55,7 @@ fn selection<R: Abort>(rt: &R, pos: u16, valpar: i128) -> CurRow {
 }
 
 // A parameter that is valid and taken by the second curve where M is 2, and by the first where it is 1.
-fn rows<R: Abort>(rt: &R, alloc: Global) -> Result<ParamRows, Fail>
-    ensures { IfOk result (λ rows. All IsApart (slice_of rows).curves) }
-{
+fn rows<R: Abort>(rt: &R, alloc: Global) -> Result<ParamRows, Fail> {
     let t1 = name(rt, b"T1");
     Ok(ParamRows {
         pcf: PcfRow {
@@ -80,7 +73,7 @@ fn rows<R: Abort>(rt: &R, alloc: Global) -> Result<ParamRows, Fail>
             endian: b'B',
         },
         curs: Vec::from_slice(alloc, &[selection(rt, 1, 1), selection(rt, 2, 2)])?,
-        curves: vec![in alloc; Some(times(rt, 2)), Some(times(rt, 3))]?,
+        curves: vec![in alloc; Some(times(rt, alloc, 2)?), Some(times(rt, alloc, 3)?)]?,
         ocf: Some(OcfRow {
             name: t1,
             nbchck: 1,

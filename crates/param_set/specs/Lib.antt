@@ -1,2 +1,3 @@
 pub mod Sharing
+pub mod Compiled
 pub mod Laws

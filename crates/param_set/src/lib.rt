@@ -6,6 +6,7 @@
 //! finding them, and on param_plan for the plans.
 #![tactic(auto)]
 
+mod compiled;
 mod curves;
 mod laws;
 mod order;

@@ -3,14 +3,16 @@ ghost use Rattle.std.specs.Prelude.{◌≡◌, length, map, option_map};
 ghost use Rattle.std.specs.Cmp.Lexicographic.{pointwise};
 ghost use Rattle.std.specs.Option.{option_eq};
 ghost use Rattle.curve_plan.specs.Rows.{rows_of};
+ghost use Rattle.std.specs.Arc.{arc_value};
 ghost use Rattle.mib_model.specs.SameRows as Same;
 ghost use Rattle.mib_model.specs.Touched as Spec;
 ghost use Rattle.mib_model.specs.Touched.{same_slice};
 ghost use Rattle.param_plan.specs.Slices.{as_slice, slice_of};
 
-use curve_plan::CurveRows;
+use curve_plan::{Curve, CurveRows};
 use mib_model::{CafRow, CapRow, CurRow, LgfRow, McfRow, OcfRow, OcpRow, PcfRow, TxfRow, TxpRow};
 use param_plan::ParamRows;
+use std::sync::Arc;
 
 // Whether two rows of pcf are equal.
 #[tactic(auto, unfolding(mib_model::specs::Sameness::same_cells))]
@@ -114,20 +116,20 @@ fn same_curve(old: &CurveRows, new: &CurveRows) -> bool
 }
 
 // Whether two curves have the same rows, or are both missing.
-fn same_curve_if_any(old: &Option<CurveRows>, new: &Option<CurveRows>) -> bool
-    ensures { result ≡ option_eq Spec.same_curve (option_map rows_of old.now) (option_map rows_of new.now) }
+fn same_curve_if_any(old: &Option<Arc<Curve>>, new: &Option<Arc<Curve>>) -> bool
+    ensures { result ≡ option_eq Spec.same_curve (option_map arc_value old.now) (option_map arc_value new.now) }
 {
     match (old, new) {
         (None, None) => true,
-        (Some(old), Some(new)) => same_curve(old, new),
+        (Some(old), Some(new)) => same_curve(old.rows(), new.rows()),
         _ => false,
     }
 }
 
 // Whether each of some curves has the rows of the one beside it.
-fn same_beside(old: &[Option<CurveRows>], new: &[Option<CurveRows>]) -> bool
+fn same_beside(old: &[Option<Arc<Curve>>], new: &[Option<Arc<Curve>>]) -> bool
     requires { length old.now ≡ length new.now }
-    ensures { result ≡ pointwise (option_eq Spec.same_curve) (map (option_map rows_of) old.now) (map (option_map rows_of) new.now) }
+    ensures { result ≡ pointwise (option_eq Spec.same_curve) (map (option_map arc_value) old.now) (map (option_map arc_value) new.now) }
 {
     for (old, new) in old.iter().zip(new) {
         if !same_curve_if_any(old, new) {
@@ -138,8 +140,8 @@ fn same_beside(old: &[Option<CurveRows>], new: &[Option<CurveRows>]) -> bool
 }
 
 // Whether two lists of curves have the same rows.
-fn same_curves(old: &[Option<CurveRows>], new: &[Option<CurveRows>]) -> bool
-    ensures { result ≡ pointwise (option_eq Spec.same_curve) (map (option_map rows_of) old.now) (map (option_map rows_of) new.now) }
+fn same_curves(old: &[Option<Arc<Curve>>], new: &[Option<Arc<Curve>>]) -> bool
+    ensures { result ≡ pointwise (option_eq Spec.same_curve) (map (option_map arc_value) old.now) (map (option_map arc_value) new.now) }
 {
     old.len() == new.len() && same_beside(old, new)
 }

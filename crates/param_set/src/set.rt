@@ -1,13 +1,12 @@
 // The plans of all parameters of a database.
 ghost use Rattle.std.specs.Prelude.{◌≡◌, ◌+◌, ◌≤◌, ◌∷◌, [], map, filter, length, option_map, is_none, IfSome, IfOk, OnOk};
 ghost use Rattle.std.specs.Arc.{arc_value};
-ghost use Rattle.std.specs.List.{All, find};
+ghost use Rattle.std.specs.List.{find};
 ghost use Rattle.std.specs.Option.{option_copied};
 ghost use Rattle.std.specs.Str.{bytes_eq};
 ghost use Rattle.edition_plans.specs.Params.{param_slices};
 ghost use Rattle.mib_model.specs.Soundness.{IsSound};
 ghost use Rattle.mib_model.specs.declared.limits.TheConstants.{HELD_MOST};
-ghost use Rattle.param_plan.specs.Choices.{IsApart};
 ghost use Rattle.param_plan.specs.Slices.{slice_of, slice_for};
 ghost use Rattle.param_set.specs.Sharing.{is_new};
 
@@ -75,7 +74,6 @@ fn plan_of<L: Ledger>(
     rows: ParamRows,
     steps: &mut Steps<L>,
 ) -> Result<Plan, AllocError>
-    requires { All IsApart (slice_of rows).curves }
     ensures plan { IfOk result (λ plan. arc_value plan.param ≡ slice_of rows) }
     ensures is_new { IfOk result (λ plan. plan.is_new ≡ is_new base.now (slice_of rows)) }
     ensures steps { OnOk result (steps.new ≡ steps.old + length (filter (is_new base.now) (slice_of rows ∷ []))) }
@@ -101,7 +99,6 @@ fn plans_of<L: Ledger>(
     rows: &[PcfRow],
     steps: &mut Steps<L>,
 ) -> Result<Plans, AllocError>
-    requires sound { IsSound sources.now }
     requires few { length rows.now ≤ u32.MAX }
     ensures plans { IfOk result (λ plans. map arc_value plans.params.items ≡ map (slice_for sources.now) rows.now) }
     ensures compiled { IfOk result (λ plans. plans.compiled ≡ length (filter (is_new base.now) (map (slice_for sources.now) rows.now))) }

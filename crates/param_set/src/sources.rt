@@ -1,17 +1,18 @@
 // The rows that the plans of parameters are made of.
 ghost use Rattle.std.specs.Prelude.{◌≡◌, ◌∷◌, [], IfOk, map, option_map};
-ghost use Rattle.curve_plan.specs.Rows.{rows_of};
+ghost use Rattle.std.specs.Arc.{arc_value};
 ghost use Rattle.mib_model.specs.Carry.{check_of};
 ghost use Rattle.mib_model.specs.Checks.{checks_of};
 ghost use Rattle.mib_model.specs.Curves as Spec;
 ghost use Rattle.mib_model.specs.Curves.{curve_named};
 ghost use Rattle.mib_model.specs.Plans.{curve_names};
+ghost use Rattle.mib_model.specs.Soundness.{IsSound};
 ghost use Rattle.param_plan.specs.Slices.{slice_of, slice_for};
 
-use crate::curves::Curves;
+use crate::compiled::CompiledCurves;
 use crate::order::{limits, selections};
 use crate::ways::{ByChecked, ByLimited, BySelected};
-use curve_plan::CurveRows;
+use curve_plan::Curve;
 use first_rows::FirstRows;
 use mib_model::{CurRow, Name, OcfRow, OcpRow, PcfRow};
 use mib_tables::Book;
@@ -20,11 +21,12 @@ use row_groups::RowGroups;
 use std::alloc::{AllocError, Global};
 use std::marker::Model;
 use std::snapshot::Snapshot;
+use std::sync::Arc;
 
 /// The rows of a book by the keys that parameters look them up by. Contracts see the book's database.
 #[derive(Drop)]
 pub struct ParamSources {
-    curves: Curves,
+    curves: CompiledCurves,
     // by POS
     selections: RowGroups<BySelected>,
     checks: FirstRows<ByChecked>,
@@ -49,14 +51,15 @@ impl Model for ParamSources {
 }
 
 impl ParamSources {
-    /// The rows of a book. An error is want of memory.
+    /// The rows of a sound book. An error is want of memory.
     pub fn new(alloc: Global, book: &Book) -> Result<ParamSources, AllocError>
+        requires { IsSound book.now }
         ensures { IfOk result (λ sources. sources ≡ book.now) }
     {
         let selections = selections(alloc, book.cur())?;
         let limits = limits(alloc, book.ocp())?;
         Ok(ParamSources {
-            curves: Curves::new(alloc, book)?,
+            curves: CompiledCurves::new(alloc, book)?,
             selections: RowGroups::new(alloc, &selections)?,
             checks: FirstRows::new(alloc, book.ocf())?,
             limits: RowGroups::new(alloc, &limits)?,
@@ -91,8 +94,8 @@ impl ParamSources {
         alloc: Global,
         categ: u8,
         curs: &[CurRow],
-    ) -> Result<Vec<Option<CurveRows>>, AllocError>
-        ensures { IfOk result (λ curves. map (option_map rows_of) curves.items ≡ map (curve_named self.now categ) (map (λ cur. cur.curve) curs.now)) }
+    ) -> Result<Vec<Option<Arc<Curve>>>, AllocError>
+        ensures { IfOk result (λ curves. map (option_map arc_value) curves.items ≡ map (curve_named self.now categ) (map (λ cur. cur.curve) curs.now)) }
     {
         let mut curves = Vec::with_capacity(alloc, curs.len())?;
         for cur in curs {
@@ -107,8 +110,8 @@ impl ParamSources {
         alloc: Global,
         categ: u8,
         name: &Name,
-    ) -> Result<Vec<Option<CurveRows>>, AllocError>
-        ensures { IfOk result (λ curves. map (option_map rows_of) curves.items ≡ curve_named self.now categ name.now ∷ []) }
+    ) -> Result<Vec<Option<Arc<Curve>>>, AllocError>
+        ensures { IfOk result (λ curves. map (option_map arc_value) curves.items ≡ curve_named self.now categ name.now ∷ []) }
     {
         let mut curves = Vec::with_capacity(alloc, 1)?;
         curves.push(self.curves.named(alloc, categ, name)?)?;
@@ -121,8 +124,9 @@ impl ParamSources {
         alloc: Global,
         row: &PcfRow,
         curs: &[CurRow],
-    ) -> Result<Vec<Option<CurveRows>>, AllocError>
-        ensures { IfOk result (λ curves. map (option_map rows_of) curves.items ≡ map (curve_named self.now row.now.categ) (curve_names row.now.curtx curs.now)) }
+    ) -> Result<Vec<Option<Arc<Curve>>>, AllocError>
+        ensures { IfOk result (λ curves. map (option_map arc_value) curves.items ≡ map (curve_named self.now row.now.categ)
+            (curve_names row.now.curtx curs.now)) }
     {
         match &row.curtx {
             Some(name) => self.only(alloc, row.categ, name),
