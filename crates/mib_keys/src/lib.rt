@@ -16,8 +16,6 @@ mod rules;
 mod soundness;
 mod structures;
 mod tables;
-#[cfg(test)]
-mod tests;
 mod types;
 
 pub use fault::SoundFault;

@@ -28,6 +28,3 @@ pub use laws::written_is_read;
 pub use read_fault::ReadFault;
 pub use table::{read_key, read_row, read_table};
 pub use write::write_row;
-
-#[cfg(test)]
-mod tests;
