@@ -41,7 +41,7 @@ fn times<R: Abort>(rt: &R, alloc: Global, m: i64) -> Result<Arc<Curve>, AllocErr
         pol4: none,
         pol5: none,
     });
-    Arc::new(alloc, Curve::compile(alloc, rows)?)
+    Ok(Arc::new(alloc, Curve::compile(alloc, rows)?)?)
 }
 
 fn selection<R: Abort>(rt: &R, pos: u16, valpar: i128) -> CurRow {

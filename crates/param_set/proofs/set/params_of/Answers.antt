@@ -10,8 +10,8 @@ use Rattle.param_set.proofs.CountFacts.{planned-most}
 use Rattle.param_set.proofs.UniqueFacts.{slices-ascend}
 use Rattle.param_set.proofs.set.params_of.Goals as goal
 
-pub plans_of-requires-clause-few : goal.plans_of-requires-clause-few
-plans_of-requires-clause-few g c =
+pub plans_of-requires : goal.plans_of-requires
+plans_of-requires g c =
     let rows = c.deref.ensures.value ∙ c.in_ok-rows.ensures in
     let most = planned-most (λ x y. may_precede x.name y.name) has_plan c.pcf.result.now in
     omega (arith, ap length rows, most, c.pcf.ensures.few)
