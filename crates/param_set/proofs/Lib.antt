@@ -1,3 +1,4 @@
+mod CompiledFacts
 pub mod CountFacts
 pub mod OrderFacts
 pub mod SameFacts
