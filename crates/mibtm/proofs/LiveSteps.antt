@@ -1,5 +1,5 @@
 -- What a live run says of its objects, from what its part behind the feed says of them.
-use Rattle.std.proofs.Common.{◌≡◌, ℕ, Bool, true, List, Option, Some, None, Result, Ok, Err, IfSome, IsOkAnd, IsSomeAnd, is_some, ap, sym, ◌∙◌, subst}
+use Rattle.std.proofs.Common.{◌≡◌, ℕ, Bool, true, false, List, Option, Some, None, Result, Ok, Err, IfSome, IsOkAnd, IsSomeAnd, is_some, ap, sym, ◌∙◌, subst}
 use Rattle.mib_model.specs.declared.code.Code.{Code}
 use Rattle.mib_model.specs.declared.code.Code.TheVariants as code
 use Rattle.mib_model.specs.declared.code.Input.TheVariants as input
@@ -8,11 +8,11 @@ use Rattle.mib_model.specs.RegisterHistories.{RegisterHistory}
 use Rattle.session.specs.Sources.{Files}
 use Rattle.live_session.specs.Live.{Lives, object}
 use Rattle.mibtm.proofs.DecodeSteps.{fed}
-use Rattle.mibtm.proofs.StatementSteps.{each_told}
+use Rattle.mibtm.proofs.StatementSteps.{each_told, missing_decoded}
 use Rattle.mibtm.specs.Live.{LivedBeside, LivedBy, StoppedBeside, Unopened, RanBeside, Lived, names, shelves, opened, written_to}
-use Rattle.mibtm.specs.Objects.{ShelfView, SinkView, HasStood, IsUncalled, shelf}
+use Rattle.mibtm.specs.Objects.{ShelfView, SinkView, HasStood, IsUncalled, IsUnwritten, shelf}
 use Rattle.mibtm.specs.Sources.{sound_in}
-use Rattle.mibtm.specs.Statement.{OfFile}
+use Rattle.mibtm.specs.Statement.{Decoded, OfFile}
 
 module _ {T F D O P : Type 0} (folder name desk_name : List ℕ) (tables : ShelfView T) (before mid now : F) (holds : F → Option Files)
     (left : F → Option (List ℕ)) (faults missed : F → ℕ) (desk : ShelfView D) (out : SinkView O) (replies : SinkView P) (db : Database) (held : Bool)
@@ -69,3 +69,12 @@ module _ {T F D O P : Type 0} (folder name desk_name : List ℕ) (tables : Shelf
       → LivedBy c closed (names folder name desk_name) (shelves tables feed desk) out replies
   lived c None (said, unwritten, unreplied) = (stopped c said, unwritten, unreplied)
   lived c (Some history) said = ran c history said
+
+-- the feed isn't there
+pub missing_lived : {T F D O P : Type 0} (folder name desk_name : List ℕ) (tables : ShelfView T) (feed : ShelfView F) (desk : ShelfView D) (out : SinkView O) (replies : SinkView P) (db : Database) (held : Bool)
+    → HasStood tables → IfSome (tables.holds tables.before) (λ files. sound_in files folder ≡ Ok db) → HasStood feed → IsUncalled desk → IsUnwritten out → IsUnwritten replies
+    → held ≡ false → IfSome (feed.holds feed.before) (λ files. held ≡ is_some (files name)) → LivedBy (code.NoFile input.Feed) None (names folder name desk_name) (shelves tables feed desk) out replies
+missing_lived folder name desk_name tables feed desk out replies db held stood told turned uncalled unwritten unreplied is said =
+    of_decoded (missing_decoded folder name tables feed out db held stood told turned unwritten is said) where
+      of_decoded : Decoded (code.NoFile input.Feed) folder name tables feed out → LivedBy (code.NoFile input.Feed) None (names folder name desk_name) (shelves tables feed desk) out replies
+      of_decoded (stood, turned, unwritten, missing) = ((stood, turned, uncalled, missing), unwritten, unreplied)

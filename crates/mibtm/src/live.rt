@@ -4,7 +4,7 @@ ghost use Rattle.edition_register.specs.Seats.{history_of};
 ghost use Rattle.mibtm.specs.Live.{LivedBeside, LivedBy, names, shelves};
 ghost use Rattle.mibtm.specs.Objects.{shelf, sink};
 
-use crate::load::folder_edition;
+use crate::load::{folder_edition, let_go};
 use crate::tool::Status;
 use edition::Edition;
 use live_session::{Lived, live_run};
@@ -34,8 +34,14 @@ fn live_beside<F: Shelf, D: Shelf + Send, O: Sink, P: Sink + Send, X: Threads + 
 {
     match desk.aim(desk_name) {
         Ok(true) => (),
-        Ok(false) => return Status::unopened(Code::NoFile(Input::Desk)),
-        Err(_) => return Status::unopened(Code::DeskFault),
+        Ok(false) => {
+            let_go(edition);
+            return Status::unopened(Code::NoFile(Input::Desk));
+        }
+        Err(_) => {
+            let_go(edition);
+            return Status::unopened(Code::DeskFault);
+        }
     }
     let lived = live_run(rt, alloc, edition, feed, desk, out, replies, workers.max(1));
     match lived {
@@ -84,7 +90,13 @@ pub(crate) fn live<
         Ok(true) => live_beside(
             rt, alloc, edition, desk_name, workers, feed, desk, out, replies,
         ),
-        Ok(false) => Status::unopened(Code::NoFile(Input::Feed)),
-        Err(_) => Status::unopened(Code::FeedFault),
+        Ok(false) => {
+            let_go(edition);
+            Status::unopened(Code::NoFile(Input::Feed))
+        }
+        Err(_) => {
+            let_go(edition);
+            Status::unopened(Code::FeedFault)
+        }
     }
 }
