@@ -6,8 +6,6 @@
 
 mod book;
 mod table;
-#[cfg(test)]
-mod tests;
 
 pub use book::Book;
 pub use table::{NoRow, Put};
