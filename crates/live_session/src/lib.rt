@@ -11,7 +11,5 @@ mod live;
 mod opening;
 mod run;
 mod sides;
-#[cfg(test)]
-mod tests;
 
 pub use live::{Lived, live_run};
