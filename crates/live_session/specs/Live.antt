@@ -21,6 +21,7 @@ pub record Object : Type 0 where
   pub before : ℕ
   pub now : ℕ
 
+-- an object of these octets before and behind a call, and of these counts of failures
 abbrev pub object : Option (List ℕ) → Option (List ℕ) → ℕ → ℕ → Object
 object old new before now = record { old = old; new = new; before = before; now = now }
 
