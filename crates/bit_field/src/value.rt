@@ -105,7 +105,8 @@ pub fn number(octets: &[u8], at: u64, shape: Shape) -> Option<u64>
 /// The value of a parameter at a place of a packet: its number by the sort, the width and the order of its shape, and 0
 /// for a sort without a number. There is none exactly where its bits pass the end.
 pub fn take(octets: &[u8], at: u64, name: Name, shape: Shape) -> Option<Value>
-    ensures { result ≡ (if Spec.is_inside octets.now at shape.width then Some (value_at octets.now (record { name = name; at = at; shape = shape })) else None) }
+    ensures { result ≡ (if Spec.is_inside octets.now at shape.width
+        then Some (value_at octets.now (record { name = name; at = at; shape = shape })) else None) }
 {
     if !is_inside(octets, at, shape.width()) {
         return None;

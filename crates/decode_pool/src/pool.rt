@@ -46,7 +46,8 @@ fn serve_pairs<W: Work + Sync, G: Gate + Sync, R: Threads + Wait + Sync>(
 )
     requires ready { (start : ℕ) (pair : _) → IsChunk passes.old 2 start pair → (length pair ≡ 2) × Ready jobs.now results.now pair }
     ensures length { length passes.new ≡ length passes.old }
-    ensures serves { (n : ℕ) → n * 2 < length passes.old → AllServe jobs.now results.now (W.made work.now) W.Cell.number_of (slice_chunk passes.old 2 n) (slice_chunk passes.new 2 n) }
+    ensures serves { (n : ℕ) → n * 2 < length passes.old
+        → AllServe jobs.now results.now (W.made work.now) W.Cell.number_of (slice_chunk passes.old 2 n) (slice_chunk passes.new 2 n) }
 {
     let one = |_: usize, pair: &mut [Pass<W::Cell>]|
         requires { IsSync R.row × (length pair.now ≡ 2) × Ready jobs.now results.now pair.now }

@@ -29,12 +29,23 @@ pub struct Home {
 }
 
 /// What a run needs: rooms that are free, and cells; what is kept from packet to packet; and the text of a record.
-#[derive(Drop)]
 pub struct Stock {
     pub rooms: Vec<Room>,
     pub cells: Vec<Cell>,
     pub board: Board,
     pub lines: Lines,
+}
+
+/// By hand, so that whoever lets one go proves one call.
+impl Drop for Stock {
+    fn drop(self) {
+        let Stock {
+            rooms: _rooms,
+            cells: _cells,
+            board: _board,
+            lines: _lines,
+        } = self;
+    }
 }
 
 // The shape of one bit.

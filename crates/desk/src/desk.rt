@@ -17,12 +17,23 @@ use std::sync::{Arc, Wait};
 use turn_cell::Seat;
 
 /// A draft, the edition that it was made from, and a handle of each edition.
-#[derive(Drop)]
 pub struct Desk {
     pub(crate) draft: Book,
     pub(crate) base: Arc<Edition>,
     pub(crate) edition: u32,
     pub(crate) editions: Vec<Arc<Edition>>,
+}
+
+/// By hand, so that whoever lets one go proves one call.
+impl Drop for Desk {
+    fn drop(self) {
+        let Desk {
+            draft: _draft,
+            base: _base,
+            edition: _,
+            editions: _editions,
+        } = self;
+    }
 }
 
 impl Desk {

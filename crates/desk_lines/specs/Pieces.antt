@@ -1,11 +1,15 @@
 -- What is taken of a source for one line. [This profile.]
-use Rattle.std.specs.Prelude.{◌≡◌, ℕ, ◌<◌, ◌≤◌, List, [], ◌∷◌, ◌++◌, length, take, Option}
+use Rattle.std.specs.Prelude.{◌≡◌, ℕ, ◌<◌, ◌≤◌, List, [], ◌∷◌, ◌++◌, length, take, Option, Result, MatchOption, MatchResult}
 use Rattle.std.specs.Io.KnownBytes.{Consumes, IsAtEnd}
 use Rattle.tm_io.specs.Causes.{Rose}
 use Rattle.desk_lines.specs.declared.piece.Piece.{Piece}
 use Rattle.desk_lines.specs.declared.piece.PieceEnd.{PieceEnd}
 use Rattle.desk_lines.specs.declared.piece.PieceEnd.TheVariants as end
 use Rattle.desk_lines.specs.Ahead.{HasNoFeed}
+
+-- the next octet was taken, or none is left; where the source fails, none was taken
+abbrev pub TakesOctet : Result (Option ℕ) Failed → Option (List ℕ) → Option (List ℕ) → Type 0
+TakesOctet result old new = MatchResult result (λ next. MatchOption next (Consumes old new [] × IsAtEnd new) (λ c. Consumes old new (c ∷ []))) (λ _. Consumes old new [])
 
 -- what was taken of a line's octets, and why no more were: with its LF, all that was left, as many as there is room for, or those before a fault
 abbrev pub Ends : PieceEnd → List ℕ → ℕ → Option (List ℕ) → Option (List ℕ) → Type 0

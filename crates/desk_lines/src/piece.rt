@@ -1,7 +1,7 @@
 ghost use Rattle.std.specs.Prelude.{◌≡◌, ◌<◌, ◌≤◌, ◌^◌, ◌∷◌, [], length, set, MatchOption, MatchResult};
 ghost use Rattle.std.specs.Io.KnownBytes.{Consumes, IsAtEnd};
 ghost use Rattle.tm_io.specs.Causes.{HasCause};
-ghost use Rattle.desk_lines.specs.Pieces.{HasPieceCause, TakesPiece};
+ghost use Rattle.desk_lines.specs.Pieces.{HasPieceCause, TakesOctet, TakesPiece};
 
 use tm_io::{Failed, Source};
 
@@ -27,7 +27,7 @@ pub(crate) struct Piece {
 
 // The next octet, where there is one.
 fn next_octet<S: Source>(source: &mut S) -> Result<Option<u8>, Failed>
-    ensures octet { MatchResult result (λ next. MatchOption next (Consumes (S.left source.old) (S.left source.new) [] × IsAtEnd (S.left source.new)) (λ c. Consumes (S.left source.old) (S.left source.new) (c ∷ []))) (λ _. Consumes (S.left source.old) (S.left source.new) []) }
+    ensures octet { TakesOctet result (S.left source.old) (S.left source.new) }
     ensures cause { HasCause (S.faults source.old) (S.faults source.new) result }
     ensures holds { S.holds source.new ≡ S.holds source.old }
     ensures missed { S.missed source.new ≡ S.missed source.old }

@@ -106,7 +106,8 @@ fn edition_in(word: &[u8]) -> Option<u32>
 // The table and what stands behind the TAB after its name.
 #[tactic(auto, using(crate::proofs::WordFacts::table_cut, crate::proofs::WordFacts::table_whole))]
 fn on_table(rest: &[u8]) -> Result<(Kind, &[u8]), Request<'_>>
-    ensures { (make : Kind → List ℕ → Spec.Request) → Spec.table_request make rest.now ≡ table_order make (result_map_both (λ parts. (parts.0, parts.1.now)) (λ other. other) result) }
+    ensures { (make : Kind → List ℕ → Spec.Request) → Spec.table_request make rest.now
+        ≡ table_order make (result_map_both (λ parts. (parts.0, parts.1.now)) (λ other. other) result) }
 {
     let Some((word, text)) = cut_at(rest, b'\t') else {
         return Err(Request::BadLine);

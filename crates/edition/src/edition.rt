@@ -26,12 +26,23 @@ use std::sync::ledger::Ledger;
 use struct_plan::{Structure, Structures};
 
 /// Sound tables with their plans. Contracts see the database of the tables.
-#[derive(Drop)]
 pub struct Edition {
     book: Book,
     ident: Arc<Ident>,
     sets: PlanSets,
     titles: FirstRows<ByTitled>,
+}
+
+/// By hand, so that whoever lets one go proves one call.
+impl Drop for Edition {
+    fn drop(self) {
+        let Edition {
+            book: _book,
+            ident: _ident,
+            sets: _sets,
+            titles: _titles,
+        } = self;
+    }
 }
 
 impl Model for Edition {

@@ -17,11 +17,21 @@ use std::sync::ledger::Ledger;
 use structure_set::StructureSet;
 
 /// The plans of a database's parameters, layouts and structures. Contracts see the database.
-#[derive(Drop)]
 pub struct PlanSets {
     params: Params,
     layouts: LayoutSet,
     structures: StructureSet,
+}
+
+/// By hand, so that whoever lets one go proves one call.
+impl Drop for PlanSets {
+    fn drop(self) {
+        let PlanSets {
+            params: _params,
+            layouts: _layouts,
+            structures: _structures,
+        } = self;
+    }
 }
 
 impl Model for PlanSets {

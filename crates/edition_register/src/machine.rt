@@ -79,7 +79,8 @@ impl<E: Rows + Drop, B: MadeFor + Drop> Editions<E, B> {
 
     // The packet of the last pending activation, where it is this packet or a later one.
     fn disorder(&self, from: u64) -> Option<u64>
-        ensures { MatchOption result (is_disorder from (last_pending (state_of self.now)) ≡ false) (λ last. (last_pending (state_of self.now) ≡ Some last) × (nat_le from last ≡ true)) }
+        ensures { MatchOption result (is_disorder from (last_pending (state_of self.now)) ≡ false)
+            (λ last. (last_pending (state_of self.now) ≡ Some last) × (nat_le from last ≡ true)) }
     {
         let last = self.last()?;
         if from <= last { Some(last) } else { None }

@@ -40,7 +40,8 @@ impl<B: By> Model for FirstRows<B> {
 
     ghost view = { λ all. all.rows.value.items };
 
-    ghost invariant = { λ all. (all.count ≡ length all.rows.value.items) × ((key : B.Key) → get B.Key.eq all.firsts key ≡ find (λ row. option_eq B.Key.eq (B.key_of row) (Some key)) all.rows.value.items) };
+    ghost invariant = { λ all. (all.count ≡ length all.rows.value.items)
+        × ((key : B.Key) → get B.Key.eq all.firsts key ≡ find (λ row. option_eq B.Key.eq (B.key_of row) (Some key)) all.rows.value.items) };
 }
 
 // Notes a row whose key has none yet.

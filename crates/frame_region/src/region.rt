@@ -41,7 +41,8 @@ impl<T: Copy> Region<T> {
     /// A piece that was at home, of the region's size. There is none exactly where all are out.
     pub fn take(&mut self) -> Option<Piece<T>>
         ensures none { IsNone result ↔ (self.old.out ≡ self.old.pieces) }
-        ensures taken { MatchOption result (self.new ≡ self.old) (λ piece. (length piece ≡ self.old.size) × (self.new ≡ record self.old { out = self.old.out + 1 })) }
+        ensures taken { MatchOption result (self.new ≡ self.old)
+            (λ piece. (length piece ≡ self.old.size) × (self.new ≡ record self.old { out = self.old.out + 1 })) }
     {
         self.home.pop()
     }

@@ -6,7 +6,8 @@ ghost use Rattle.histories.specs.declared.history.Move.{Move};
 
 /// The state after two histories in a row.
 pub fn state_in_parts<S, E, R>()
-    ensures { (after : S → E → S) (state : S) (front rest : List (Move E R)) → state_after after state (front ++ rest) ≡ state_after after (state_after after state front) rest }
+    ensures { (after : S → E → S) (state : S) (front rest : List (Move E R))
+        → state_after after state (front ++ rest) ≡ state_after after (state_after after state front) rest }
 {}
 
 /// A history is legal where its front is, and the rest is from the state after the front.
@@ -30,5 +31,6 @@ pub fn calls_in_parts<E, R>()
 /// A history makes entries that its seats may make where both parts do, and so for the numbers of its seats.
 pub fn permitted_in_parts<E, R>()
     ensures permits { (may : ℕ → E → Bool) (front rest : List (Move E R)) → PermitsInParts may front rest }
-    ensures seats { (seats : ℕ) (front rest : List (Move E R)) → IsOfSeatsBelow seats (front ++ rest) ↔ (IsOfSeatsBelow seats front × IsOfSeatsBelow seats rest) }
+    ensures seats { (seats : ℕ) (front rest : List (Move E R))
+        → IsOfSeatsBelow seats (front ++ rest) ↔ (IsOfSeatsBelow seats front × IsOfSeatsBelow seats rest) }
 {}

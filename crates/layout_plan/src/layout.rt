@@ -38,7 +38,8 @@ impl Model for Layout {
 
     ghost view = { λ layout. record { pid = layout.pid.value; plfs = layout.plfs.value.items; types = layout.types.value.items } };
 
-    ghost invariant = { λ layout. (spans_places layout.spans.items ≡ layout_places layout.plfs.value.items layout.types.value.items) × All IsNear layout.spans.items };
+    ghost invariant = { λ layout. (spans_places layout.spans.items ≡ layout_places layout.plfs.value.items layout.types.value.items)
+        × All IsNear layout.spans.items };
 }
 
 // What the bits of a measured parameter's values are, by its type item.

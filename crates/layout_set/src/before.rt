@@ -53,11 +53,21 @@ fn same_places(old: &[PlfRow], new: &[PlfRow]) -> bool
 }
 
 /// A base, with the rows that its layouts were compiled of. Contracts see its database.
-#[derive(Drop)]
 pub struct Before<'a> {
     set: &'a LayoutSet,
     packets: FirstRows<ByLaidOut>,
     sources: Sources,
+}
+
+/// By hand, so that whoever lets one go proves one call.
+impl Drop for Before<'_> {
+    fn drop(self) {
+        let Before {
+            set: _,
+            packets: _packets,
+            sources: _sources,
+        } = self;
+    }
 }
 
 impl<'a> Model for Before<'a> {

@@ -21,10 +21,19 @@ use std::sync::Arc;
 use std::sync::ledger::Ledger;
 
 /// The fixed layouts of a database, compiled. Contracts see the database.
-#[derive(Drop)]
 pub struct LayoutSet {
     layouts: HashMap<u32, Arc<Layout>>,
     book: Snapshot<Book>,
+}
+
+/// By hand, so that whoever lets one go proves one call.
+impl Drop for LayoutSet {
+    fn drop(self) {
+        let LayoutSet {
+            layouts: _layouts,
+            book: _book,
+        } = self;
+    }
 }
 
 impl Model for LayoutSet {

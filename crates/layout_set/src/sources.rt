@@ -12,11 +12,21 @@ use std::snapshot::Snapshot;
 use type_items::TypeItems;
 
 /// The places of a book's parameters, and their type items. Contracts see the book's database.
-#[derive(Drop)]
 pub struct Sources {
     places: RowGroups<ByPacket>,
     items: TypeItems,
     book: Snapshot<Book>,
+}
+
+/// By hand, so that whoever lets one go proves one call.
+impl Drop for Sources {
+    fn drop(self) {
+        let Sources {
+            places: _places,
+            items: _items,
+            book: _book,
+        } = self;
+    }
 }
 
 impl Model for Sources {

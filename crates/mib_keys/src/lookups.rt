@@ -27,7 +27,6 @@ use std::collections::HashMap;
 use std::marker::Model;
 
 /// What the rows of a book are looked up by. Contracts see the database.
-#[derive(Drop)]
 pub struct Lookups<'a> {
     book: &'a Book,
     parameters: HashMap<Name, u32>,
@@ -43,6 +42,28 @@ pub struct Lookups<'a> {
     points: HashMap<Name, u32>,
     point_places: HashMap<PointKey, u32>,
     structures: HashMap<u32, Structure>,
+}
+
+/// By hand, so that whoever lets one go proves one call.
+impl Drop for Lookups<'_> {
+    fn drop(self) {
+        let Lookups {
+            book: _,
+            parameters: _parameters,
+            packets: _packets,
+            packet_kinds: _packet_kinds,
+            curves: _curves,
+            texts: _texts,
+            polynomials: _polynomials,
+            logarithms: _logarithms,
+            checks: _checks,
+            selections: _selections,
+            structure_rows: _structure_rows,
+            points: _points,
+            point_places: _point_places,
+            structures: _structures,
+        } = self;
+    }
 }
 
 impl<'a> Model for Lookups<'a> {

@@ -17,7 +17,6 @@ use std::alloc::{AllocError, Global};
 use std::marker::Model;
 
 /// The 15 tables that operators edit. Contracts see the database that they are.
-#[derive(Drop)]
 pub struct Book {
     alloc: Global,
     pcf: Table<PcfRow>,
@@ -37,12 +36,52 @@ pub struct Book {
     ocp: Table<OcpRow>,
 }
 
+/// By hand, so that whoever lets one go proves one call.
+impl Drop for Book {
+    fn drop(self) {
+        let Book {
+            alloc: _,
+            pcf: _pcf,
+            pid: _pid,
+            pic: _pic,
+            tpcf: _tpcf,
+            plf: _plf,
+            vpd: _vpd,
+            cur: _cur,
+            caf: _caf,
+            cap: _cap,
+            txf: _txf,
+            txp: _txp,
+            mcf: _mcf,
+            lgf: _lgf,
+            ocf: _ocf,
+            ocp: _ocp,
+        } = self;
+    }
+}
+
 impl Model for Book {
     ghost use Rattle.mib_model.specs.declared.database.Database.{Database};
 
     ghost Value = { Database };
 
-    ghost view = { λ book. record { pcf = book.pcf; pid = book.pid; pic = book.pic; tpcf = book.tpcf; plf = book.plf; vpd = book.vpd; cur = book.cur; caf = book.caf; cap = book.cap; txf = book.txf; txp = book.txp; mcf = book.mcf; lgf = book.lgf; ocf = book.ocf; ocp = book.ocp } };
+    ghost view = { λ book. record {
+      pcf = book.pcf;
+      pid = book.pid;
+      pic = book.pic;
+      tpcf = book.tpcf;
+      plf = book.plf;
+      vpd = book.vpd;
+      cur = book.cur;
+      caf = book.caf;
+      cap = book.cap;
+      txf = book.txf;
+      txp = book.txp;
+      mcf = book.mcf;
+      lgf = book.lgf;
+      ocf = book.ocf;
+      ocp = book.ocp;
+    } };
 }
 
 impl Book {

@@ -119,5 +119,6 @@ impl<S: Source> Feed<S> {
 
 /// Octets are cut into packets and a rest in one way.
 pub fn cut_is_unique()
-    ensures { (feed : List ℕ) (packets others : List (List ℕ)) (rest more : List ℕ) → IsCut feed packets rest → IsCut feed others more → (packets ≡ others) × (rest ≡ more) }
+    ensures { (feed : List ℕ) (packets others : List (List ℕ)) (rest more : List ℕ)
+        → IsCut feed packets rest → IsCut feed others more → (packets ≡ others) × (rest ≡ more) }
 {}

@@ -17,11 +17,21 @@ use std::marker::Model;
 use std::sync::ledger::Ledger;
 
 /// The rows of a parameter, compiled. Contracts see the rows.
-#[derive(Drop)]
 pub struct Param {
     rows: ParamRows,
     choices: Vec<Choice>,
     checks: Option<Checks>,
+}
+
+/// By hand, so that whoever lets one go proves one call.
+impl Drop for Param {
+    fn drop(self) {
+        let Param {
+            rows: _rows,
+            choices: _choices,
+            checks: _checks,
+        } = self;
+    }
 }
 
 impl Model for Param {

@@ -26,11 +26,21 @@ const NUMBERS: u8 = b'N';
 const TEXTS: u8 = b'S';
 
 /// The curves of a sound book, of which each is compiled once and shared. Contracts see the book's database.
-#[derive(Drop)]
 pub struct CompiledCurves {
     curves: Curves,
     numbers: HashMap<Name, Arc<Curve>>,
     texts: HashMap<Name, Arc<Curve>>,
+}
+
+/// By hand, so that whoever lets one go proves one call.
+impl Drop for CompiledCurves {
+    fn drop(self) {
+        let CompiledCurves {
+            curves: _curves,
+            numbers: _numbers,
+            texts: _texts,
+        } = self;
+    }
 }
 
 impl Model for CompiledCurves {
@@ -45,7 +55,8 @@ impl Model for CompiledCurves {
 
     ghost view = { λ all. all.curves };
 
-    ghost invariant = { λ all. IsSound all.curves × AreNamed (curve_named all.curves (letter "N")) all.numbers × AreNamed (curve_named all.curves (letter "S")) all.texts };
+    ghost invariant = { λ all. IsSound all.curves × AreNamed (curve_named all.curves (letter "N")) all.numbers
+        × AreNamed (curve_named all.curves (letter "S")) all.texts };
 }
 
 // The plan of rows that were found, if there are any.

@@ -15,7 +15,6 @@ use std::marker::Model;
 use std::snapshot::Snapshot;
 
 /// The curves of a book by their names. Contracts see the book's database.
-#[derive(Drop)]
 pub struct Curves {
     by_points: FirstRows<ByPointCurve>,
     points: RowGroups<ByPoint>,
@@ -24,6 +23,21 @@ pub struct Curves {
     polynomials: FirstRows<ByPolynomial>,
     logarithms: FirstRows<ByLogarithm>,
     book: Snapshot<Book>,
+}
+
+/// By hand, so that whoever lets one go proves one call.
+impl Drop for Curves {
+    fn drop(self) {
+        let Curves {
+            by_points: _by_points,
+            points: _points,
+            by_texts: _by_texts,
+            texts: _texts,
+            polynomials: _polynomials,
+            logarithms: _logarithms,
+            book: _book,
+        } = self;
+    }
 }
 
 impl Model for Curves {

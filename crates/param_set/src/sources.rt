@@ -24,7 +24,6 @@ use std::snapshot::Snapshot;
 use std::sync::Arc;
 
 /// The rows of a book by the keys that parameters look them up by. Contracts see the book's database.
-#[derive(Drop)]
 pub struct ParamSources {
     curves: CompiledCurves,
     // by POS
@@ -33,6 +32,19 @@ pub struct ParamSources {
     // by POS
     limits: RowGroups<ByLimited>,
     book: Snapshot<Book>,
+}
+
+/// By hand, so that whoever lets one go proves one call.
+impl Drop for ParamSources {
+    fn drop(self) {
+        let ParamSources {
+            curves: _curves,
+            selections: _selections,
+            checks: _checks,
+            limits: _limits,
+            book: _book,
+        } = self;
+    }
 }
 
 impl Model for ParamSources {

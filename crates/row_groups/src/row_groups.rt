@@ -27,7 +27,8 @@ impl<B: By> Model for RowGroups<B> {
 
     ghost view = { λ all. all.rows.value.items };
 
-    ghost invariant = { λ all. (key : B.Key) → rows_of (get B.Key.eq all.groups key) ≡ filter (λ row. option_eq B.Key.eq (B.key_of row) (Some key)) all.rows.value.items };
+    ghost invariant = { λ all. (key : B.Key) → rows_of (get B.Key.eq all.groups key)
+        ≡ filter (λ row. option_eq B.Key.eq (B.key_of row) (Some key)) all.rows.value.items };
 }
 
 // Puts a row behind those with its key.
@@ -55,7 +56,8 @@ fn groups<B: By>(
     alloc: Global,
     rows: &[B::Row],
 ) -> Result<HashMap<B::Key, Group<B::Row>>, AllocError>
-    ensures { IfOk result (λ groups. (key : B.Key) → rows_of (get B.Key.eq groups key) ≡ filter (λ row. option_eq B.Key.eq (B.key_of row) (Some key)) rows.now) }
+    ensures { IfOk result (λ groups. (key : B.Key) → rows_of (get B.Key.eq groups key)
+        ≡ filter (λ row. option_eq B.Key.eq (B.key_of row) (Some key)) rows.now) }
 {
     let mut groups = HashMap::new(alloc);
     for row in rows {

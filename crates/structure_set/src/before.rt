@@ -33,10 +33,19 @@ fn same_rows(old: &[VpdRow], new: &[VpdRow]) -> bool
 }
 
 /// A base, with the rows that its structures were compiled of. Contracts see its database.
-#[derive(Drop)]
 pub struct Before<'a> {
     set: &'a StructureSet,
     sources: Sources,
+}
+
+/// By hand, so that whoever lets one go proves one call.
+impl Drop for Before<'_> {
+    fn drop(self) {
+        let Before {
+            set: _,
+            sources: _sources,
+        } = self;
+    }
 }
 
 impl<'a> Model for Before<'a> {

@@ -24,11 +24,21 @@ use struct_plan::Structure;
 use type_items::item_of;
 
 /// The structures and the deduced parameters of a database, compiled. Contracts see the database.
-#[derive(Drop)]
 pub struct StructureSet {
     structures: HashMap<i128, Arc<Structure>>,
     deduced: FirstRows<ByNumber>,
     book: Snapshot<Book>,
+}
+
+/// By hand, so that whoever lets one go proves one call.
+impl Drop for StructureSet {
+    fn drop(self) {
+        let StructureSet {
+            structures: _structures,
+            deduced: _deduced,
+            book: _book,
+        } = self;
+    }
 }
 
 impl Model for StructureSet {

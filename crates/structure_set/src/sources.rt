@@ -15,11 +15,21 @@ use std::snapshot::Snapshot;
 use type_items::TypeItems;
 
 /// The rows of a book's structures by POS, and the type items of its parameters. Contracts see the book's database.
-#[derive(Drop)]
 pub struct Sources {
     rows: RowGroups<ByStructure>,
     items: TypeItems,
     book: Snapshot<Book>,
+}
+
+/// By hand, so that whoever lets one go proves one call.
+impl Drop for Sources {
+    fn drop(self) {
+        let Sources {
+            rows: _rows,
+            items: _items,
+            book: _book,
+        } = self;
+    }
 }
 
 impl Model for Sources {
@@ -33,7 +43,8 @@ impl Model for Sources {
 
     ghost view = { λ sources. sources.book.value };
 
-    ghost invariant = { λ sources. ((tpsd : ℤ) → filter (λ row. option_eq int_eq (Some (pos row.tpsd)) (Some tpsd)) sources.rows ≡ structure sources.book.value tpsd)
+    ghost invariant = { λ sources. ((tpsd : ℤ) → filter (λ row. option_eq int_eq (Some (pos row.tpsd)) (Some tpsd)) sources.rows
+        ≡ structure sources.book.value tpsd)
         × (sources.items ≡ sources.book.value.pcf) };
 }
 

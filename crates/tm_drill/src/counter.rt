@@ -35,7 +35,11 @@ impl Model for Counter {
 
     ghost Value = { Told };
 
-    ghost view = { λ c. record { text = text_of (shown c.lines.items) c.line; handed = text_of (take c.handed (shown c.lines.items)) c.handed_front.value; faults = c.faults } };
+    ghost view = { λ c. record {
+      text = text_of (shown c.lines.items) c.line;
+      handed = text_of (take c.handed (shown c.lines.items)) c.handed_front.value;
+      faults = c.faults;
+    } };
 
     ghost invariant = { λ c. IsKept c.counts (shown c.lines.items) c.line c.handed };
 }
@@ -89,7 +93,8 @@ impl Counter {
     // Takes the last part of a line, and its LF behind it.
     fn end_line(&mut self, part: &[u8]) -> Result<usize, Failed>
         requires { IsOneLine part.now }
-        ensures text { MatchResult result (λ n. (n ≡ length part.now + 1) × (self.new.text ≡ self.old.text ++ (part.now ++ 10 ∷ []))) (λ _. self.new.text ≡ self.old.text) }
+        ensures text { MatchResult result (λ n. (n ≡ length part.now + 1) × (self.new.text ≡ self.old.text ++ (part.now ++ 10 ∷ [])))
+            (λ _. self.new.text ≡ self.old.text) }
         ensures handed { self.new.handed ≡ self.old.handed }
         ensures cause { HasCause self.old.faults self.new.faults result }
     {

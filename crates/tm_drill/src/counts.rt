@@ -58,7 +58,8 @@ fn is_clear(line: &[u8]) -> bool
 fn add_packet(packets: &mut [u64], line: &[u8])
     requires few { length packets.old < 10 }
     requires fits { All (λ count. count < 2 ^ 64 - 1) packets.old }
-    ensures { (place : ℕ) → place < length packets.old → slice_index packets.new place ≡ slice_index packets.old place + (if is_packet (place + 1) line.now then 1 else 0) }
+    ensures { (place : ℕ) → place < length packets.old
+        → slice_index packets.new place ≡ slice_index packets.old place + (if is_packet (place + 1) line.now then 1 else 0) }
 {
     for (place, count) in packets.iter_mut().enumerate() {
         if is_packet(line, place as u8 + 1) {

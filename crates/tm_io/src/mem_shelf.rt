@@ -39,7 +39,8 @@ pub struct MemShelf {
 
 // The place of the first file of that name.
 fn place_of(files: &[MemFile], name: &str) -> Option<usize>
-    ensures octets { MatchOption result (file_of files.now name.now ≡ None) (λ i. (i < length files.now) × (file_of files.now name.now ≡ Some (octets_at files.now i))) }
+    ensures octets { MatchOption result (file_of files.now name.now ≡ None)
+        (λ i. (i < length files.now) × (file_of files.now name.now ≡ Some (octets_at files.now i))) }
     ensures fails { MatchOption result (fails_of files.now name.now ≡ []) (λ i. fails_of files.now name.now ≡ fails_at files.now i) }
 {
     for (i, file) in files.iter().enumerate() {

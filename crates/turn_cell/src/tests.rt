@@ -106,7 +106,8 @@ fn put<R: Wait>(rt: &R, turn: &Turn<Shelf>, seat: &mut Seat<Shelf>, item: u64) -
     ensures number { 1 ≤ length (holdings_of seat.new) }
     ensures room { length (own_moves seat.new) ≡ length (own_moves seat.old) + 1 }
     ensures back { IfErr result (λ back. back ≡ item) }
-    ensures callers { (before : _) × (seen_by seat.new ≡ before ++ move (number_of seat.old) tt (is_ok result) ∷ []) × IsOfSeatsBelow (callers_of turn.now) before }
+    ensures callers { (before : _) × (seen_by seat.new ≡ before ++ move (number_of seat.old) tt (is_ok result) ∷ [])
+        × IsOfSeatsBelow (callers_of turn.now) before }
 {
     let mut held = turn.enter(rt, seat);
     let reply = turn.append(seat, &mut held, item);

@@ -65,7 +65,8 @@ impl<J: Numbered + Drop> Queue<J> {
     pub fn put<R: Wait>(&self, rt: &R, pass: &mut Pass<J>, job: J) -> Result<(), J>
         requires pass { IsOf self.now pass.old }
         ensures pass { IsOf self.now pass.new }
-        ensures put { MatchResult result (λ _. account_of pass.new ≡ with_put (account_of pass.old) job) (λ back. (back ≡ job) × (account_of pass.new ≡ account_of pass.old)) }
+        ensures put { MatchResult result (λ _. account_of pass.new ≡ with_put (account_of pass.old) job)
+            (λ back. (back ≡ job) × (account_of pass.new ≡ account_of pass.old)) }
 
         // Full is what the pass can know of it: where it is whole, what was put and not got fills the room.
         ensures full { IfErr result (λ _. MayHoldSome (account_of pass.old) (room_of self.now)) }
