@@ -10,10 +10,10 @@ use Rattle.mib_model.specs.declared.database.Database.{Database}
 use Rattle.mib_model.specs.RegisterHistories.{RegisterHistory}
 use Rattle.session.specs.Sources.{Files}
 use Rattle.mibtm.proofs.Completeness.{held, not_failed, told}
-use Rattle.mibtm.specs.Live.{AreFound, AreSteady, CompletesLive, FeedIs, DeskIs, HoldFiles, Lived, LivedBy, LivesWhole, Names, Shelves, Unopened, opened, written_to}
+use Rattle.mibtm.specs.Live.{AreFound, AreSteady, CompletesLive, HoldFiles, LivesWhole}
+use Rattle.mibtm.specs.Statement.{FeedIs, DeskIs, Lived, LivedBy, Names, Shelves, Unopened, opened, written_to, OfFile}
 use Rattle.mibtm.specs.Objects.{SinkView}
 use Rattle.mibtm.specs.Sources.{sound_in}
-use Rattle.mibtm.specs.Statement.{OfFile}
 use Rattle.mibtm.specs.Tool.{IsUnfailed}
 
 -- an object whose count didn't rise didn't fail

@@ -9,10 +9,10 @@ use Rattle.session.specs.Sources.{Files}
 use Rattle.live_session.specs.Live.{Lives, object}
 use Rattle.mibtm.proofs.DecodeSteps.{fed}
 use Rattle.mibtm.proofs.StatementSteps.{each_told, missing_decoded}
-use Rattle.mibtm.specs.Live.{LivedBeside, LivedBy, StoppedBeside, Unopened, RanBeside, Lived, names, shelves, opened, written_to}
+use Rattle.mibtm.specs.Live.{LivedBeside, RanBeside}
+use Rattle.mibtm.specs.Statement.{LivedBy, StoppedBeside, Unopened, Lived, names, shelves, opened, written_to, Decoded, OfFile}
 use Rattle.mibtm.specs.Objects.{ShelfView, SinkView, HasStood, IsUncalled, IsUnwritten, shelf}
 use Rattle.mibtm.specs.Sources.{sound_in}
-use Rattle.mibtm.specs.Statement.{Decoded, OfFile}
 
 module _ {T F D O P : Type 0} (folder name desk_name : List ℕ) (tables : ShelfView T) (before mid now : F) (holds : F → Option Files)
     (left : F → Option (List ℕ)) (faults missed : F → ℕ) (desk : ShelfView D) (out : SinkView O) (replies : SinkView P) (db : Database) (held : Bool)

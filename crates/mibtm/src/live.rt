@@ -1,7 +1,8 @@
 // The command `live`: tables, a feed, and a desk beside it.
 ghost use Rattle.std.specs.Prelude.{◌≡◌, option_map};
 ghost use Rattle.edition_register.specs.Seats.{history_of};
-ghost use Rattle.mibtm.specs.Live.{LivedBeside, LivedBy, names, shelves};
+ghost use Rattle.mibtm.specs.Live.{LivedBeside};
+ghost use Rattle.mibtm.specs.Statement.{LivedBy, names, shelves};
 ghost use Rattle.mibtm.specs.Objects.{shelf, sink};
 
 use crate::load::{folder_edition, let_go};

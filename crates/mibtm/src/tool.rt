@@ -4,10 +4,10 @@ ghost use Rattle.mib_model.specs.Words.{command_of};
 ghost use Rattle.mib_model.specs.declared.database.Database.{Database};
 ghost use Rattle.mibtm.specs.Inputs.{IfCheck, IfDecode, IfDrill, IfLive, UnlessLive};
 ghost use Rattle.mib_model.specs.RegisterHistories.{RegisterHistory};
-ghost use Rattle.mibtm.specs.Live.{AreFound, AreSteady, CompletesLive, HoldFiles, LivedBy, Names, Shelves, names, shelves};
+ghost use Rattle.mibtm.specs.Live.{AreFound, AreSteady, CompletesLive, HoldFiles};
+ghost use Rattle.mibtm.specs.Statement.{LivedBy, Names, Shelves, names, shelves, Checked, Decoded, Drilled};
 ghost use Rattle.mibtm.specs.Objects.{ShelfView, SinkView, shelf, sink};
 ghost use Rattle.mibtm.specs.Sources.{sound_in};
-ghost use Rattle.mibtm.specs.Statement.{Checked, Decoded, Drilled};
 ghost use Rattle.mibtm.specs.Tool.{Completes, CompletesCheck, CompletesDrill, Held, IsSteady, IsSteadySink};
 ghost use Rattle.session.specs.Sources.{Files};
 
