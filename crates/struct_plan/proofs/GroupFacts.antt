@@ -1,31 +1,29 @@
 -- The rows still to walk with groups round a place.
-use Rattle.std.proofs.Common.{◌≡◌, ℕ, zero, suc, ◌+◌, ◌-◌, ◌<◌, ◌≤◌, ℤ, pos, negsuc, ◌<ℤ◌, ◌-ℤ◌, int_lt, Bool, true, false, cond, nat_eq, List, [], ◌∷◌, ◌++◌, length, take, drop, refl, sym, ap, subst, ◌∙◌, arith}
-use Rattle.std.proofs.lemmas.Bool.{eqb-true, eqb-false, lt-ltb, le-ltb}
-use Rattle.std.proofs.lemmas.Bool.Decides.{Decides-int_eq}
-use Rattle.std.proofs.lemmas.Int.{ints}
+use Rattle.std.proofs.Common.{◌≡◌, ℕ, zero, suc, ◌+◌, ◌-◌, ◌<◌, ◌≤◌, nat_lt, Bool, true, false, cond, nat_eq, List, [], ◌∷◌, ◌++◌, length, take, drop, refl, sym, ap, subst, ◌∙◌, arith}
+use Rattle.std.proofs.lemmas.Bool.{eqb-true, eqb-false, lt-ltb}
 use Rattle.std.proofs.lemmas.List.{append_assoc, append-nil, take-append-drop, drop-drop, length-drop, length-take-le, take-take, take-append-le, drop-append-le, drop-take}
 use Rattle.std.specs.List.{repeat}
-use Rattle.std.specs.Ordering.{int_eq}
 use Rattle.mib_model.specs.declared.rows.VpdRow.{VpdRow}
-use Rattle.mib_model.specs.Structures.{times, group_repeated}
+use Rattle.mib_model.specs.Structures.{group_repeated}
 use Rattle.mib_laws.proofs.Nesting.{Nested}
 use Rattle.struct_plan.specs.declared.group.Group.{Group}
 use Rattle.struct_plan.specs.Groups.{size_at, end_of, body, still_to_walk, Enclose, Ahead, once_less, settled_at, settled, entered_at, entered}
 use Rattle.struct_plan.proofs.NestFacts.{within-group, within-rows}
 
 -- numbers above 1
-more : (n : ℕ) → int_lt (pos 1) (pos (suc (suc n))) ≡ true
+more : (n : ℕ) → nat_lt 1 (suc (suc n)) ≡ true
 more n = lt-ltb 1 (suc (suc n)) (omega arith)
 
-not_none : (n : ℕ) → int_lt (pos (suc (suc n))) (pos 1) ≡ false
-not_none n = le-ltb (suc (suc n)) 1 (omega arith)
+not_none : (n : ℕ) (b : Bool) → nat_eq (suc (suc n)) 0 ≡ b → b ≡ false
+not_none n false is = refl
+not_none n true is = let same = eqb-true (suc (suc n)) 0 is in absurd (omega (arith, same))
 
-less : (n : ℕ) → pos (suc (suc n)) -ℤ pos 1 ≡ pos (suc n)
-less n = omega (arith, ints)
+less : (n : ℕ) → suc (suc n) - 1 ≡ suc n
+less n = omega arith
 
-not_one : (n : ℕ) (b : Bool) → int_eq (pos (suc (suc n))) (pos 1) ≡ b → b ≡ false
+not_one : (n : ℕ) (b : Bool) → nat_eq (suc (suc n)) 1 ≡ b → b ≡ false
 not_one n false is = refl
-not_one n true is = let same = (Decides-int_eq (pos (suc (suc n))) (pos 1)).0 is in absurd (omega (arith, ints, same))
+not_one n true is = let same = eqb-true (suc (suc n)) 1 is in absurd (omega (arith, same))
 
 module _ (rows : List VpdRow) where
   -- groups that hold some rows hold fewer
@@ -50,11 +48,11 @@ module _ (rows : List VpdRow) where
   take-still low at k [] around = refl
   take-still low at k (g ∷ gs) around =
       let e = end_of rows g in
-      let more : List VpdRow = repeat (times g.left) (body rows g) ++ still_to_walk rows e gs in
+      let more : List VpdRow = repeat g.left (body rows g) ++ still_to_walk rows e gs in
       let b = around.1 in
       let le = enclose-length g.row e gs around.4 in
       let front : length (take (e - at) (drop at rows)) ≡ e - at = length-take-le (e - at) (drop at rows) (omega (arith, length-drop at rows, le)) in
-      ap (take k) (append_assoc (take (e - at) (drop at rows)) (repeat (times g.left) (body rows g)) (still_to_walk rows e gs)) ∙
+      ap (take k) (append_assoc (take (e - at) (drop at rows)) (repeat g.left (body rows g)) (still_to_walk rows e gs)) ∙
       (take-append-le k (take (e - at) (drop at rows)) more (omega (arith, front, b)) ∙ take-take k (e - at) (drop at rows) (omega (arith, b)))
 
   -- the rows behind them
@@ -62,7 +60,7 @@ module _ (rows : List VpdRow) where
   drop-still low at k [] around = drop-drop k at rows
   drop-still low at k (g ∷ gs) around =
       let e = end_of rows g in
-      let reps : List VpdRow = repeat (times g.left) (body rows g) in
+      let reps : List VpdRow = repeat g.left (body rows g) in
       let behind : List VpdRow = still_to_walk rows e gs in
       let b = around.1 in
       let le = enclose-length g.row e gs around.4 in
@@ -104,7 +102,7 @@ module _ (rows : List VpdRow) where
         ap (λ (xs : List VpdRow). repeat n xs ++ drop s rest) (take-still at (at + 1) s gs around) ∙
         ap (λ (xs : List VpdRow). repeat n own ++ xs) (drop-still at (at + 1) s gs around)
 
-    again : (n : ℕ) → still_to_walk rows (at + 1) (record { row = at; left = pos n } ∷ gs) ≡ group_repeated s (suc n) rest
+    again : (n : ℕ) → still_to_walk rows (at + 1) (record { row = at; left = n } ∷ gs) ≡ group_repeated s (suc n) rest
     again n =
         let count : at + 1 + s - (at + 1) ≡ s = omega arith in
         ap (λ k. (take k (drop (at + 1) rows) ++ repeat n own) ++ still_to_walk rows (at + 1 + s) gs) count ∙ sym (repeated (suc n))
@@ -116,27 +114,25 @@ module _ (rows : List VpdRow) where
     none : still_to_walk rows (at + 1 + s) gs ≡ group_repeated s 0 rest
     none = sym (repeated 0)
 
-    walked : (b c : Bool) (left : ℤ) (n : ℕ) → b ≡ false → c ≡ true → left ≡ pos (suc n) → still_to_walk rows (cond b (at + 1 + s) (at + 1)) (cond c (record { row = at; left = left } ∷ gs) gs) ≡ group_repeated s (suc (suc n)) rest
+    walked : (b c : Bool) (left n : ℕ) → b ≡ false → c ≡ true → left ≡ suc n → still_to_walk rows (cond b (at + 1 + s) (at + 1)) (cond c (record { row = at; left = left } ∷ gs) gs) ≡ group_repeated s (suc (suc n)) rest
     walked true c left n bs cs is = absurd (cc bs)
     walked false false left n bs cs is = absurd (cc cs)
-    walked false true left n bs cs is = ap (λ (l : ℤ). still_to_walk rows (at + 1) (record { row = at; left = l } ∷ gs)) is ∙ again (suc n)
+    walked false true left n bs cs is = ap (λ l. still_to_walk rows (at + 1) (record { row = at; left = l } ∷ gs)) is ∙ again (suc n)
 
-    inside : (b c : Bool) (left : ℤ) (n : ℕ) → 0 < s → b ≡ false → c ≡ true → left ≡ pos (suc n) → Enclose rows (cond b (at + 1 + s) (at + 1)) (cond b (at + 1 + s) (at + 1)) (cond c (record { row = at; left = left } ∷ gs) gs)
+    inside : (b c : Bool) (left n : ℕ) → 0 < s → b ≡ false → c ≡ true → left ≡ suc n → Enclose rows (cond b (at + 1 + s) (at + 1)) (cond b (at + 1 + s) (at + 1)) (cond c (record { row = at; left = left } ∷ gs) gs)
     inside true c left n some bs cs is = absurd (cc bs)
     inside false false left n some bs cs is = absurd (cc cs)
-    inside false true left n some bs cs is = (omega arith, omega arith, some, omega (arith, ints, is), around)
+    inside false true left n some bs cs is = (omega arith, omega arith, some, omega (arith, is), around)
 
-    pub entered-still : (n : ℤ) → still_to_walk rows (entered_at at s n) (entered at n gs) ≡ group_repeated s (times n) rest
-    entered-still (negsuc n) = none
-    entered-still (pos zero) = none
-    entered-still (pos (suc zero)) = once
-    entered-still (pos (suc (suc n))) = walked (int_lt (pos (suc (suc n))) (pos 1)) (int_lt (pos 1) (pos (suc (suc n)))) (pos (suc (suc n)) -ℤ pos 1) n (not_none n) (more n) (less n)
+    pub entered-still : (n : ℕ) → still_to_walk rows (entered_at at s n) (entered at n gs) ≡ group_repeated s n rest
+    entered-still zero = none
+    entered-still (suc zero) = once
+    entered-still (suc (suc n)) = walked (nat_eq (suc (suc n)) 0) (nat_lt 1 (suc (suc n))) (suc (suc n) - 1) n (not_none n (nat_eq (suc (suc n)) 0) refl) (more n) (less n)
 
-    pub entered-enclose : 0 < s → (n : ℤ) → Enclose rows (entered_at at s n) (entered_at at s n) (entered at n gs)
-    entered-enclose some (negsuc n) = enclose-fewer at (at + 1 + s) (at + 1 + s) (at + 1 + s) gs (omega arith) (omega arith) around
-    entered-enclose some (pos zero) = enclose-fewer at (at + 1 + s) (at + 1 + s) (at + 1 + s) gs (omega arith) (omega arith) around
-    entered-enclose some (pos (suc zero)) = enclose-fewer at (at + 1 + s) (at + 1) (at + 1) gs (omega arith) (omega arith) around
-    entered-enclose some (pos (suc (suc n))) = inside (int_lt (pos (suc (suc n))) (pos 1)) (int_lt (pos 1) (pos (suc (suc n)))) (pos (suc (suc n)) -ℤ pos 1) n some (not_none n) (more n) (less n)
+    pub entered-enclose : 0 < s → (n : ℕ) → Enclose rows (entered_at at s n) (entered_at at s n) (entered at n gs)
+    entered-enclose some zero = enclose-fewer at (at + 1 + s) (at + 1 + s) (at + 1 + s) gs (omega arith) (omega arith) around
+    entered-enclose some (suc zero) = enclose-fewer at (at + 1 + s) (at + 1) (at + 1) gs (omega arith) (omega arith) around
+    entered-enclose some (suc (suc n)) = inside (nat_eq (suc (suc n)) 0) (nat_lt 1 (suc (suc n))) (suc (suc n) - 1) n some (not_none n (nat_eq (suc (suc n)) 0) refl) (more n) (less n)
 
   -- the innermost group where its end was reached: the walk goes on with its next repetition
   module _ (g : Group) (gs : List Group) (around : Enclose rows (end_of rows g) (end_of rows g) (g ∷ gs)) where
@@ -149,46 +145,44 @@ module _ (rows : List VpdRow) where
     settled-groups : List Group
     settled-groups = once_less g gs
 
-    at_end : (n : ℕ) → times g.left ≡ suc n → still_to_walk rows e (g ∷ gs) ≡ body rows g ++ (repeat n (body rows g) ++ still_to_walk rows e gs)
+    at_end : (n : ℕ) → g.left ≡ suc n → still_to_walk rows e (g ∷ gs) ≡ body rows g ++ (repeat n (body rows g) ++ still_to_walk rows e gs)
     at_end n is =
         let none : e - e ≡ 0 = omega arith in
-        ap (λ k. (take k (drop e rows) ++ repeat (times g.left) (body rows g)) ++ still_to_walk rows e gs) none ∙
+        ap (λ k. (take k (drop e rows) ++ repeat g.left (body rows g)) ++ still_to_walk rows e gs) none ∙
         (ap (λ k. repeat k (body rows g) ++ still_to_walk rows e gs) is ∙ append_assoc (body rows g) (repeat n (body rows g)) (still_to_walk rows e gs))
 
-    last_time : times g.left ≡ 1 → still_to_walk rows (g.row + 1) gs ≡ still_to_walk rows e (g ∷ gs)
+    last_time : g.left ≡ 1 → still_to_walk rows (g.row + 1) gs ≡ still_to_walk rows e (g ∷ gs)
     last_time is = still-split g.row (g.row + 1) (size_at rows g.row) gs holds ∙ sym (at_end 0 is)
 
-    next_time : (n : ℕ) → times g.left ≡ suc (suc n) → still_to_walk rows (g.row + 1) (record g { left = pos (suc n) } ∷ gs) ≡ still_to_walk rows e (g ∷ gs)
+    next_time : (n : ℕ) → g.left ≡ suc (suc n) → still_to_walk rows (g.row + 1) (record g { left = suc n } ∷ gs) ≡ still_to_walk rows e (g ∷ gs)
     next_time n is =
         let count : e - (g.row + 1) ≡ size_at rows g.row = omega arith in
         ap (λ k. (take k (drop (g.row + 1) rows) ++ repeat (suc n) (body rows g)) ++ still_to_walk rows e gs) count ∙
         (append_assoc (body rows g) (repeat (suc n) (body rows g)) (still_to_walk rows e gs) ∙ sym (at_end (suc n) is))
 
-    next_still : (b : Bool) (left : ℤ) (n : ℕ) → times g.left ≡ suc (suc n) → b ≡ false → left ≡ pos (suc n) → still_to_walk rows (g.row + 1) (cond b gs (record g { left = left } ∷ gs)) ≡ still_to_walk rows e (g ∷ gs)
+    next_still : (b : Bool) (left n : ℕ) → g.left ≡ suc (suc n) → b ≡ false → left ≡ suc n → still_to_walk rows (g.row + 1) (cond b gs (record g { left = left } ∷ gs)) ≡ still_to_walk rows e (g ∷ gs)
     next_still true left n is bs same = absurd (cc bs)
-    next_still false left n is bs same = ap (λ (l : ℤ). still_to_walk rows (g.row + 1) (record g { left = l } ∷ gs)) same ∙ next_time n is
+    next_still false left n is bs same = ap (λ l. still_to_walk rows (g.row + 1) (record g { left = l } ∷ gs)) same ∙ next_time n is
 
-    next_enclose : (b : Bool) (left : ℤ) (n : ℕ) → b ≡ false → left ≡ pos (suc n) → Enclose rows (g.row + 1) (g.row + 1) (cond b gs (record g { left = left } ∷ gs))
+    next_enclose : (b : Bool) (left n : ℕ) → b ≡ false → left ≡ suc n → Enclose rows (g.row + 1) (g.row + 1) (cond b gs (record g { left = left } ∷ gs))
     next_enclose true left n bs same = absurd (cc bs)
-    next_enclose false left n bs same = (omega arith, omega arith, around.2, omega (arith, ints, same), holds)
+    next_enclose false left n bs same = (omega arith, omega arith, around.2, omega (arith, same), holds)
 
-    pub repeated-still : (left : ℤ) → g.left ≡ left → pos 0 <ℤ left → still_to_walk rows (g.row + 1) (cond (int_eq left (pos 1)) gs (record g { left = left -ℤ pos 1 } ∷ gs)) ≡ still_to_walk rows e (g ∷ gs)
-    repeated-still (negsuc n) is some = absurd (omega (arith, ints, some))
-    repeated-still (pos zero) is some = absurd (omega (arith, ints, some))
-    repeated-still (pos (suc zero)) is some = last_time (ap times is)
-    repeated-still (pos (suc (suc n))) is some = next_still (int_eq (pos (suc (suc n))) (pos 1)) (pos (suc (suc n)) -ℤ pos 1) n (ap times is) (not_one n (int_eq (pos (suc (suc n))) (pos 1)) refl) (less n)
+    pub repeated-still : (left : ℕ) → g.left ≡ left → 0 < left → still_to_walk rows (g.row + 1) (cond (nat_eq left 1) gs (record g { left = left - 1 } ∷ gs)) ≡ still_to_walk rows e (g ∷ gs)
+    repeated-still zero is some = absurd (omega (arith, some))
+    repeated-still (suc zero) is some = last_time is
+    repeated-still (suc (suc n)) is some = next_still (nat_eq (suc (suc n)) 1) (suc (suc n) - 1) n is (not_one n (nat_eq (suc (suc n)) 1) refl) (less n)
 
-    pub repeated-enclose : (left : ℤ) → pos 0 <ℤ left → Enclose rows (g.row + 1) (g.row + 1) (cond (int_eq left (pos 1)) gs (record g { left = left -ℤ pos 1 } ∷ gs))
-    repeated-enclose (negsuc n) some = absurd (omega (arith, ints, some))
-    repeated-enclose (pos zero) some = absurd (omega (arith, ints, some))
-    repeated-enclose (pos (suc zero)) some = enclose-fewer g.row e (g.row + 1) (g.row + 1) gs (omega arith) (omega arith) holds
-    repeated-enclose (pos (suc (suc n))) some = next_enclose (int_eq (pos (suc (suc n))) (pos 1)) (pos (suc (suc n)) -ℤ pos 1) n (not_one n (int_eq (pos (suc (suc n))) (pos 1)) refl) (less n)
+    pub repeated-enclose : (left : ℕ) → 0 < left → Enclose rows (g.row + 1) (g.row + 1) (cond (nat_eq left 1) gs (record g { left = left - 1 } ∷ gs))
+    repeated-enclose zero some = absurd (omega (arith, some))
+    repeated-enclose (suc zero) some = enclose-fewer g.row e (g.row + 1) (g.row + 1) gs (omega arith) (omega arith) holds
+    repeated-enclose (suc (suc n)) some = next_enclose (nat_eq (suc (suc n)) 1) (suc (suc n) - 1) n (not_one n (nat_eq (suc (suc n)) 1) refl) (less n)
 
     ahead-outer : (hs : List Group) → Enclose rows g.row e hs → Ahead rows (g.row + 1) hs
     ahead-outer [] within = let some = around.2 in omega (arith, some, within)
     ahead-outer (h ∷ hs) within = let some = around.2 in let b = within.1 in omega (arith, some, b)
 
-    pub repeated-ahead : (b : Bool) (left : ℤ) → Ahead rows (g.row + 1) (cond b gs (record g { left = left } ∷ gs))
+    pub repeated-ahead : (b : Bool) (left : ℕ) → Ahead rows (g.row + 1) (cond b gs (record g { left = left } ∷ gs))
     repeated-ahead true left = ahead-outer gs holds
     repeated-ahead false left = let some = around.2 in omega (arith, some)
 
@@ -222,7 +216,7 @@ module _ (rows : List VpdRow) where
     ahead-choice false g gs is around = let other = eqb-false at (end_of rows g) is in let b = around.1 in omega (arith, other, b)
     ahead-choice true g gs is around =
         let here : at ≡ end_of rows g = eqb-true at (end_of rows g) is in
-        repeated-ahead g gs (subst (λ n. Enclose rows n n (g ∷ gs)) here around) (int_eq g.left (pos 1)) (g.left -ℤ pos 1)
+        repeated-ahead g gs (subst (λ n. Enclose rows n n (g ∷ gs)) here around) (nat_eq g.left 1) (g.left - 1)
 
     pub settled-ahead : (gs : List Group) → Enclose rows at at gs → Ahead rows (settled_at rows at gs) (settled rows at gs)
     settled-ahead [] around = around

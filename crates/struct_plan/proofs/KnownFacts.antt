@@ -1,20 +1,24 @@
 -- The rows up to the end of some groups, and those behind.
-use Rattle.std.proofs.Common.{◌≡◌, ℕ, zero, suc, ◌+◌, ◌-◌, ◌<◌, ◌≤◌, ℤ, pos, negsuc, ◌<ℤ◌, Bool, true, false, nat_le, List, [], ◌∷◌, ◌++◌, length, take, drop, refl, sym, ap, ◌∙◌, arith}
+use Rattle.std.proofs.Common.{◌≡◌, ℕ, zero, suc, ◌+◌, ◌-◌, ◌<◌, ◌≤◌, Bool, true, false, nat_le, List, [], ◌∷◌, ◌++◌, length, take, drop, min, refl, sym, ap, subst, ◌∙◌, arith}
 use Rattle.std.proofs.lemmas.Bool.{leb-true, leb-false}
-use Rattle.std.proofs.lemmas.Int.{ints}
 use Rattle.std.proofs.lemmas.List.{append_assoc, append-nil, length-drop, length-take-le, take-append-drop, take_all}
 use Rattle.std.specs.List.{repeat}
 use Rattle.mib_model.specs.declared.database.Database.{Database}
 use Rattle.mib_model.specs.declared.rows.VpdRow.{VpdRow}
 use Rattle.mib_model.specs.Fixed.{most_values}
-use Rattle.mib_model.specs.Structures.{times}
+use Rattle.mib_model.specs.Structures.{group_repeated}
 use Rattle.mib_model.specs.Walk.{Walking, walked}
 use Rattle.mib_laws.proofs.Nesting.{Nested, nested-append, nested-drop, nested-take, nested-repeat}
 use Rattle.struct_plan.specs.declared.group.Group.{Group}
 use Rattle.struct_plan.specs.Groups.{size_at, end_of, body, to_end, still_to_walk, Ahead, Enclose}
 use Rattle.struct_plan.proofs.NestFacts.{group-fits, end-fits}
-use Rattle.struct_plan.proofs.GroupFacts.{enclose-take, enclose-length}
+use Rattle.struct_plan.proofs.GroupFacts.{enclose-take, enclose-length, take-still}
 use Rattle.struct_plan.proofs.LeastFacts.{least, least-append, least-some, least-repeat, rows-behind}
+
+repeat-sum : (m k n : ℕ) (xs : List VpdRow) → n ≡ m + k → repeat n xs ≡ repeat m xs ++ repeat k xs
+repeat-sum zero k n xs is = let same : n ≡ k = omega (arith, is) in ap (λ i. repeat i xs) same
+repeat-sum (suc m) k zero xs is = absurd (omega (arith, is))
+repeat-sum (suc m) k (suc n) xs is = ap (λ (ys : List VpdRow). xs ++ ys) (repeat-sum m k n xs (omega (arith, is))) ∙ sym (append_assoc xs (repeat m xs) (repeat k xs))
 
 module _ (rows : List VpdRow) where
   known : ℕ → List Group → List VpdRow
@@ -33,7 +37,7 @@ module _ (rows : List VpdRow) where
       sym (append_assoc (to_end rows at g) (known (end_of rows g) gs) (still_to_walk rows (last_end (end_of rows g) gs) hs))
 
   module _ (nested : Nested rows) where
-    module _ (at : ℕ) (g : Group) (above : g.row < at) (below : at ≤ end_of rows g) (some : 0 < size_at rows g.row) (left : pos 0 <ℤ g.left) (inside : end_of rows g ≤ length rows) where
+    module _ (at : ℕ) (g : Group) (above : g.row < at) (below : at ≤ end_of rows g) (some : 0 < size_at rows g.row) (left : 0 < g.left) (inside : end_of rows g ≤ length rows) where
       own-nested : Nested (body rows g)
       own-nested = nested-take (size_at rows g.row) (drop (g.row + 1) rows) (group-fits rows nested g.row) (nested-drop (g.row + 1) rows nested)
 
@@ -42,20 +46,15 @@ module _ (rows : List VpdRow) where
 
       end-nested : Nested (to_end rows at g)
       end-nested =
-          nested-append (take (end_of rows g - at) (drop at rows)) (repeat (times g.left) (body rows g)) rest-nested (nested-repeat (times g.left) (body rows g) own-nested)
-
-      times_some : (n : ℤ) → pos 0 <ℤ n → 1 ≤ times n
-      times_some (pos n) lt = omega (arith, ints, lt)
-      times_some (negsuc n) lt = absurd (omega (arith, ints, lt))
+          nested-append (take (end_of rows g - at) (drop at rows)) (repeat g.left (body rows g)) rest-nested (nested-repeat g.left (body rows g) own-nested)
 
       end-least : 1 ≤ least (to_end rows at g)
       end-least =
           let long : length (body rows g) ≡ size_at rows g.row = length-take-le (size_at rows g.row) (drop (g.row + 1) rows) (omega (arith, length-drop (g.row + 1) rows, inside)) in
           let one = least-some (body rows g) (omega (arith, long, some)) own-nested in
-          let all = least-append (take (end_of rows g - at) (drop at rows)) (repeat (times g.left) (body rows g)) rest-nested in
-          let again = least-repeat (times g.left) (body rows g) own-nested one in
-          let n = times_some g.left left in
-          omega (arith, all, again, n)
+          let all = least-append (take (end_of rows g - at) (drop at rows)) (repeat g.left (body rows g)) rest-nested in
+          let again = least-repeat g.left (body rows g) own-nested one in
+          omega (arith, all, again, left)
 
       -- one more where the place stands before its end
       end-least-more : at < end_of rows g → 2 ≤ least (to_end rows at g)
@@ -64,10 +63,9 @@ module _ (rows : List VpdRow) where
           let front : length (take (end_of rows g - at) (drop at rows)) ≡ end_of rows g - at = length-take-le (end_of rows g - at) (drop at rows) (omega (arith, length-drop at rows, inside)) in
           let one = least-some (body rows g) (omega (arith, long, some)) own-nested in
           let here = least-some (take (end_of rows g - at) (drop at rows)) (omega (arith, front, before)) rest-nested in
-          let all = least-append (take (end_of rows g - at) (drop at rows)) (repeat (times g.left) (body rows g)) rest-nested in
-          let again = least-repeat (times g.left) (body rows g) own-nested one in
-          let n = times_some g.left left in
-          omega (arith, all, again, n, here)
+          let all = least-append (take (end_of rows g - at) (drop at rows)) (repeat g.left (body rows g)) rest-nested in
+          let again = least-repeat g.left (body rows g) own-nested one in
+          omega (arith, all, again, left, here)
 
     known-nested : (low at : ℕ) (gs : List Group) → low ≤ at → Enclose rows low at gs → Nested (known at gs)
     unfolding known
@@ -147,3 +145,30 @@ module _ (rows : List VpdRow) where
           ap (λ (todo : List VpdRow). walked db packet k (record w { todo = todo })) whole ∙
           (rows-behind db packet (still_to_walk rows (last_end at hs) (drop n gs)) (still_to_walk rows (last_end at hs) []) k (known at hs) (known-nested at at hs (omega arith) within) w few (omega (arith, many, count, least)) ∙
           ap (λ (todo : List VpdRow). walked db packet k (record w { todo = todo })) (sym part))
+
+    -- a group that is walked so often that no more values have room behind it may be walked less often
+    pub rounds-suffice : (db : Database) (packet : List ℕ) (n m k at : ℕ) (gs : List Group) (w : Walking) → 0 < size_at rows at → Enclose rows at (at + 1 + size_at rows at) gs → length w.values ≤ most_values → most_values < length w.values + m
+        → walked db packet k (record w { todo = group_repeated (size_at rows at) n (still_to_walk rows (at + 1) gs) }) ≡ walked db packet k (record w { todo = group_repeated (size_at rows at) (min n m) (still_to_walk rows (at + 1) gs) })
+    rounds-suffice db packet n m k at gs w some around few many = sides (nat_le n m) refl where
+      sides : (b : Bool) → nat_le n m ≡ b → walked db packet k (record w { todo = group_repeated (size_at rows at) n (still_to_walk rows (at + 1) gs) }) ≡ walked db packet k (record w { todo = group_repeated (size_at rows at) (min n m) (still_to_walk rows (at + 1) gs) })
+      sides true is =
+          let le = leb-true n m is in
+          let same : n ≡ min n m = omega (arith, le) in
+          ap (λ i. walked db packet k (record w { todo = group_repeated (size_at rows at) i (still_to_walk rows (at + 1) gs) })) same
+      sides false is =
+          let s : ℕ = size_at rows at in
+          let rest : List VpdRow = still_to_walk rows (at + 1) gs in
+          let own : List VpdRow = take s rest in
+          let gt = leb-false n m is in
+          let less : min n m ≡ m = omega (arith, gt) in
+          let here : take s rest ≡ take s (drop (at + 1) rows) = take-still rows at (at + 1) s gs around in
+          let le = enclose-length rows at (at + 1 + s) gs around in
+          let long : length (take s rest) ≡ s = ap length here ∙ length-take-le s (drop (at + 1) rows) (omega (arith, length-drop (at + 1) rows, le)) in
+          let own-nested : Nested (take s rest) = subst Nested (sym here) (nested-take s (drop (at + 1) rows) (group-fits rows nested at) (nested-drop (at + 1) rows nested)) in
+          let one = least-some (take s rest) (omega (arith, long, some)) own-nested in
+          let least = least-repeat m (take s rest) own-nested one in
+          let whole : group_repeated (size_at rows at) n (still_to_walk rows (at + 1) gs) ≡ repeat m own ++ (repeat (n - m) own ++ drop s rest) =
+          ap (λ (xs : List VpdRow). xs ++ drop s rest) (repeat-sum m (n - m) n own (omega (arith, gt))) ∙ append_assoc (repeat m own) (repeat (n - m) own) (drop s rest) in
+          ap (λ (todo : List VpdRow). walked db packet k (record w { todo = todo })) whole ∙
+          (rows-behind db packet (repeat (n - m) own ++ drop s rest) (drop s rest) k (repeat m own) (nested-repeat m own own-nested) w few (omega (arith, many, least)) ∙
+          ap (λ i. walked db packet k (record w { todo = group_repeated s i rest })) (sym less))

@@ -1,4 +1,3 @@
-pub mod RoundFacts
 pub mod StackFacts
 pub mod NestFacts
 pub mod GroupFacts

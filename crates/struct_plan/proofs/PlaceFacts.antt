@@ -1,10 +1,10 @@
 -- A place among the rows of a structure, from row to row.
-use Rattle.std.proofs.Common.{◌≡◌, ℕ, zero, suc, ◌+◌, ◌-◌, ◌*◌, ◌<◌, inl, inr, ◌≤◌, ℤ, pos, ◌-ℤ◌, int_lt, Bool, true, false, cond, List, [], ◌∷◌, map, length, take, drop, Option, Some, None, refl, sym, ap, subst, ◌∙◌, arith}
+use Rattle.std.proofs.Common.{◌≡◌, ℕ, zero, suc, ◌+◌, ◌-◌, ◌*◌, ◌<◌, inl, inr, ◌≤◌, ℤ, nat_lt, nat_eq, Bool, true, false, cond, List, [], ◌∷◌, length, take, Option, Some, None, refl, sym, ap, subst, ◌∙◌, arith}
+use Rattle.std.proofs.lemmas.Bool.{eqb-true}
 use Rattle.std.proofs.lemmas.List.{drop_all}
 use Rattle.std.proofs.Math.Nat.{suc-mul}
 use Rattle.mib_model.specs.declared.packet.Ended.TheVariants as ended
 use Rattle.struct_plan.proofs.CourseFacts.{gives-none, gives-todo}
-use Rattle.std.proofs.lemmas.Bool.{le-ltb}
 use Rattle.std.specs.List.{cons_option}
 use Rattle.mib_model.specs.declared.database.Database.{Database}
 use Rattle.mib_model.specs.declared.packet.Value.{Value}
@@ -15,17 +15,13 @@ use Rattle.mib_model.specs.Walk.{Extracted, walked}
 use Rattle.mib_laws.proofs.LimitFacts.{structure-rows}
 use Rattle.mib_laws.proofs.Nesting.{Nested}
 use Rattle.mib_laws.proofs.SoundStructures.{structures-good}
-use Rattle.bit_field.specs.declared.values.Values.{Values}
 use Rattle.struct_plan.specs.declared.course.Course.{Course}
-use Rattle.struct_plan.specs.declared.place.Place.{Place}
-use Rattle.struct_plan.specs.Places.{IsPlace}
-use Rattle.struct_plan.specs.Stacks.{kept, round, group_in}
 use Rattle.struct_plan.specs.declared.group.Group.{Group}
 use Rattle.struct_plan.specs.Courses.{Gives, IsFurther, IsStructure, walking}
-use Rattle.struct_plan.specs.Groups.{size_at, end_of, still_to_walk, Enclose, Ahead, IsOfRows, entered, entered_at, settled, settled_at}
+use Rattle.struct_plan.specs.Groups.{size_at, end_of, still_to_walk, Enclose, Ahead, IsOfRows, rounds, entered, entered_at, settled, settled_at}
 use Rattle.struct_plan.specs.Slices.{StructureRows}
 use Rattle.struct_plan.proofs.GroupFacts.{ahead-length, enclose-length, enclose-take, entered-still, entered-enclose, settled-still, settled-enclose, settled-ahead}
-use Rattle.struct_plan.proofs.KnownFacts.{innermost-suffice}
+use Rattle.struct_plan.proofs.KnownFacts.{innermost-suffice, rounds-suffice}
 
 -- a structure of a sound database is nested
 pub structure-nested : (db : Database) (rows : StructureRows) → IsStructure db rows → Nested rows.vpds
@@ -46,8 +42,24 @@ gives-innermost db packet end rows course values at gs gs' nested around few is 
     let same = innermost-suffice rows nested db packet (most_values - length values + 1) steps at gs (walking [] course values) around few (omega (arith, few)) in
     (steps, ap (λ (hs : List Group). walked db packet steps (walking (still_to_walk rows at hs) course values)) is ∙ (sym same ∙ gives))
 
+-- a group that is walked as often as matters
+pub gives-rounds : (db : Database) (packet : List ℕ) (end : Extracted) (rows : List VpdRow) (course : Course) (values : List Value) (at size : ℕ) (raw : ℤ) (gs : List Group) → Nested rows → size ≡ size_at rows at → 0 < size → Enclose rows at (at + 1 + size) gs → length values ≤ most_values
+    → Gives db packet end (walking (group_repeated size (times raw) (still_to_walk rows (at + 1) gs)) course values) → Gives db packet end (walking (group_repeated size (rounds raw) (still_to_walk rows (at + 1) gs)) course values)
+gives-rounds db packet end rows course values at size raw gs nested sized some around few (steps, gives) =
+    let some_at : 0 < size_at rows at = omega (arith, sized, some) in
+    let around_at : Enclose rows at (at + 1 + size_at rows at) gs = subst (λ s. Enclose rows at (at + 1 + s) gs) sized around in
+    let same = rounds-suffice rows nested db packet (times raw) (most_values + 1) steps at gs (walking [] course values) some_at around_at few (omega arith) in (
+      steps,
+      ap (λ s. walked db packet steps (walking (group_repeated s (rounds raw) (still_to_walk rows (at + 1) gs)) course values)) sized ∙
+          (sym same ∙ (ap (λ s. walked db packet steps (walking (group_repeated s (times raw) (still_to_walk rows (at + 1) gs)) course values)) (sym sized) ∙ gives)),
+    )
+
+not-none : (n : ℕ) (b : Bool) → nat_eq n 0 ≡ b → 0 < n → b ≡ false
+not-none n false is some = refl
+not-none n true is some = let none = eqb-true n 0 is in absurd (omega (arith, none, some))
+
 -- a place where the walk goes on
-module _ (rows : List VpdRow) (at n : ℕ) (count : ℤ) (gs gs' : List Group) (some : 0 < size_at rows at) (around : Enclose rows at (at + 1 + size_at rows at) gs) (is' : gs' ≡ take n (entered at count gs)) where
+module _ (rows : List VpdRow) (at n count : ℕ) (gs gs' : List Group) (some : 0 < size_at rows at) (around : Enclose rows at (at + 1 + size_at rows at) gs) (is' : gs' ≡ take n (entered at count gs)) where
   abbrev next : ℕ
   next = entered_at at (size_at rows at) count
 
@@ -55,7 +67,7 @@ module _ (rows : List VpdRow) (at n : ℕ) (count : ℤ) (gs gs' : List Group) (
   entered-around = subst (Enclose rows next next) (sym is') (enclose-take rows n next next (entered at count gs) (entered-enclose rows at gs around some count))
 
   pub entered-gives : (db : Database) (packet : List ℕ) (end : Extracted) (course : Course) (values : List Value) → Nested rows → length values ≤ most_values → n ≡ most_values - length values + 1
-      → Gives db packet end (walking (group_repeated (size_at rows at) (times count) (still_to_walk rows (at + 1) gs)) course values) → Gives db packet end (walking (still_to_walk rows next gs') course values)
+      → Gives db packet end (walking (group_repeated (size_at rows at) count (still_to_walk rows (at + 1) gs)) course values) → Gives db packet end (walking (still_to_walk rows next gs') course values)
   entered-gives db packet end course values nested few room gives =
       gives-innermost db packet end rows course values next (entered at count gs) gs' nested (entered-enclose rows at gs around some count) few
       (is' ∙ ap (λ k. take k (entered at count gs)) room)
@@ -70,19 +82,19 @@ module _ (rows : List VpdRow) (at n : ℕ) (count : ℤ) (gs gs' : List Group) (
   ahead-first (suc m) [] more ahead = ahead
   ahead-first (suc m) (h ∷ hs) more ahead = ahead
 
-  ahead-chosen : (b : Bool) (left : ℤ) → Ahead rows (at + 1) (cond b (record { row = at; left = left } ∷ gs) gs)
+  ahead-chosen : (b : Bool) (left : ℕ) → Ahead rows (at + 1) (cond b (record { row = at; left = left } ∷ gs) gs)
   ahead-chosen true left = omega (arith, some)
   ahead-chosen false left = ahead-next gs around
 
   -- behind the row of a group that is walked at least once
-  pub next-place : (k : ℕ) → count ≡ pos (suc k) → next ≡ at + 1
+  pub next-place : (k : ℕ) → count ≡ suc k → next ≡ at + 1
   next-place k is =
-      let low : int_lt (pos (suc k)) (pos 1) ≡ false = le-ltb (suc k) 1 (omega arith) in
-      ap (λ (c : ℤ). cond (int_lt c (pos 1)) (at + 1 + size_at rows at) (at + 1)) is ∙ ap (λ b. cond b (at + 1 + size_at rows at) (at + 1)) low
+      let some : nat_eq count 0 ≡ false = not-none count (nat_eq count 0) refl (omega (arith, is)) in
+      ap (λ b. cond b (at + 1 + size_at rows at) (at + 1)) some
 
-  pub entered-ahead : (k : ℕ) → count ≡ pos (suc k) → 0 < n → Ahead rows next gs'
+  pub entered-ahead : (k : ℕ) → count ≡ suc k → 0 < n → Ahead rows next gs'
   entered-ahead k is more =
-      let here : Ahead rows (at + 1) (take n (entered at count gs)) = ahead-first n (entered at count gs) more (ahead-chosen (int_lt (pos 1) count) (count -ℤ pos 1)) in
+      let here : Ahead rows (at + 1) (take n (entered at count gs)) = ahead-first n (entered at count gs) more (ahead-chosen (nat_lt 1 count) (count - 1)) in
       subst (Ahead rows next) (sym is') (subst (λ m. Ahead rows m (take n (entered at count gs))) (sym (next-place k is)) here)
 
 -- a place that was settled
@@ -100,7 +112,7 @@ module _ (rows : List VpdRow) (at at' : ℕ) (gs gs' : List Group) (around : Enc
       subst (λ n. Ahead rows n gs') (sym there) (subst (λ (hs : List Group). Ahead rows (settled_at rows at gs) hs) (sym is) (settled-ahead rows at gs around))
 
 -- a place behind the row of a group
-module _ (rows : List VpdRow) (at at' size used : ℕ) (count : ℤ) (gs gs' : List Group) (sized : size ≡ size_at rows at) (some : 0 < size) (around : Enclose rows at (at + 1 + size) gs) (there : at' ≡ entered_at at size count) (is : gs' ≡ take (most_values - used + 1) (entered at count gs)) where
+module _ (rows : List VpdRow) (at at' size used count : ℕ) (gs gs' : List Group) (sized : size ≡ size_at rows at) (some : 0 < size) (around : Enclose rows at (at + 1 + size) gs) (there : at' ≡ entered_at at size count) (is : gs' ≡ take (most_values - used + 1) (entered at count gs)) where
   some_at : 0 < size_at rows at
   some_at = omega (arith, sized, some)
 
@@ -114,32 +126,32 @@ module _ (rows : List VpdRow) (at at' size used : ℕ) (count : ℤ) (gs gs' : L
   behind-around = subst (λ m. Enclose rows m m gs') (sym there_at) (entered-around rows at (most_values - used + 1) count gs gs' some_at around_at is)
 
   pub behind-gives : (db : Database) (packet : List ℕ) (end : Extracted) (course : Course) (values : List Value) → Nested rows → used ≤ most_values → length values ≡ used
-      → Gives db packet end (walking (group_repeated size (times count) (still_to_walk rows (at + 1) gs)) course values) → Gives db packet end (walking (still_to_walk rows at' gs') course values)
+      → Gives db packet end (walking (group_repeated size count (still_to_walk rows (at + 1) gs)) course values) → Gives db packet end (walking (still_to_walk rows at' gs') course values)
   behind-gives db packet end course values nested few same gives =
       let room : most_values - used + 1 ≡ most_values - length values + 1 = omega (arith, same) in
       subst (λ m. Gives db packet end (walking (still_to_walk rows m gs') course values)) (sym there_at)
       (entered-gives rows at (most_values - used + 1) count gs gs' some_at around_at is db packet end course values nested (omega (arith, same, few)) room
-      (subst (λ s. Gives db packet end (walking (group_repeated s (times count) (still_to_walk rows (at + 1) gs)) course values)) sized gives))
+      (subst (λ s. Gives db packet end (walking (group_repeated s count (still_to_walk rows (at + 1) gs)) course values)) sized gives))
 
-  pub behind-ahead : (k : ℕ) → count ≡ pos (suc k) → Ahead rows at' gs'
+  pub behind-ahead : (k : ℕ) → count ≡ suc k → Ahead rows at' gs'
   behind-ahead k one = subst (λ m. Ahead rows m gs') (sym there_at) (entered-ahead rows at (most_values - used + 1) count gs gs' some_at around_at is k one (omega arith))
 
 take_none : (n : ℕ) → let none : List Group = [] in take n none ≡ none
 take_none zero = refl
 take_none (suc n) = refl
 
+-- where none were kept, none are when a value was given
+pub none-given : (kept kept' : List Group) (room : ℕ) → kept ≡ [] → kept' ≡ take room kept → kept' ≡ []
+none-given kept kept' room none is = is ∙ (ap (take room) none ∙ take_none room)
+
 -- the groups round a place when a value was given: as many as matter
 pub groups-given : (o : Option Group) (kept kept' : List Group) (room : ℕ) → (o ≡ None → kept ≡ []) → kept' ≡ take room kept → cons_option o kept' ≡ take (room + 1) (cons_option o kept)
 groups-given None kept kept' room alone is =
     let none : kept ≡ [] = alone refl in
-    is ∙ (ap (take room) none ∙ (take_none room ∙ sym (ap (take (room + 1)) none ∙ take_none (room + 1))))
+    none-given kept kept' room none is ∙ sym (ap (take (room + 1)) none ∙ take_none (room + 1))
 groups-given (Some g) kept kept' room alone is =
     let more : room + 1 ≡ suc room = omega arith in
     ap (λ (gs : List Group). g ∷ gs) is ∙ ap (λ n. take n (g ∷ kept)) (sym more)
-
--- no groups are kept where there is no innermost one
-pub none-kept : (values : Values) (place : Place) → IsPlace values place → place.inner ≡ None → kept values place.stack ≡ []
-none-kept values place is none = ap (λ n. map group_in (take n (round (place.stack.top - values.used) (drop values.used values.slots.now)))) (is.alone none)
 
 -- where no row is left
 pub gives-whole : (db : Database) (packet : List ℕ) (end : Extracted) (rows : List VpdRow) (course : Course) (values : List Value) (at : ℕ) (gs : List Group) → Enclose rows at at gs → Ahead rows at gs → length rows ≤ at

@@ -1,5 +1,5 @@
 -- A place among the rows of a structure, with the groups round it. [This profile.]
-use Rattle.std.specs.Prelude.{◌≡◌, List, None}
+use Rattle.std.specs.Prelude.{◌≡◌, List, [], None}
 use Rattle.std.specs.List.{cons_option}
 use Rattle.mib_model.specs.declared.rows.VpdRow.{VpdRow}
 use Rattle.bit_field.specs.declared.values.Values.{Values}
@@ -12,10 +12,10 @@ use Rattle.struct_plan.specs.Stacks.{kept, IsWithin}
 abbrev pub groups : Values → Place → List Group
 groups values place = cons_option place.inner (kept values place.stack)
 
--- a place whose stack is within the slots that aren't in use, and is empty where there is no innermost group
+-- a place whose stack is within the slots that aren't in use, and keeps no groups where there is no innermost one
 pub record IsPlace (values : Values) (place : Place) : Type 0 where
   pub within : IsWithin values place.stack
-  pub alone : place.inner ≡ None → place.stack.count ≡ 0
+  pub alone : place.inner ≡ None → kept values place.stack ≡ []
 
 -- a place among rows: within the groups round it
 pub record IsAmong (rows : List VpdRow) (values : Values) (place : Place) : Type 0 where

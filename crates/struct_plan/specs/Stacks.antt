@@ -1,36 +1,48 @@
 -- Groups kept in the slots of values that aren't in use. [This profile.]
-use Rattle.std.specs.Prelude.{ℕ, ◌+◌, ◌-◌, ◌≤◌, List, ◌∷◌, ◌++◌, map, take, drop, Option, Some, None}
+use Rattle.std.specs.Prelude.{ℕ, ◌+◌, ◌-◌, ◌*◌, ◌/◌, ◌%◌, ◌^◌, ◌≤◌, nat_abs, List, [], ◌∷◌, take, drop, Option, Some, None}
+use Rattle.std.specs.List.{cons_option}
 use Rattle.mib_model.specs.declared.packet.Value.{Value}
 use Rattle.mib_model.specs.Fixed.{most_values}
 use Rattle.bit_field.specs.declared.values.Values.{Values}
 use Rattle.struct_plan.specs.declared.group.Group.{Group}
 use Rattle.struct_plan.specs.declared.stack.Stack.{Stack}
 
--- a list from a place on, and round to that place
-abbrev pub round : {A : Type 0} → ℕ → List A → List A
-round at xs = drop at xs ++ take at xs
+-- the group of a number: its row, and how often it is still repeated, in 32 bits each
+abbrev pub group_of : ℕ → Group
+group_of number = record { row = number / 2 ^ 32; left = number % 2 ^ 32 }
 
--- the group that a slot keeps: its row in `at`, and how often it is still repeated in `raw`
-abbrev pub group_in : Value → Group
-group_in value = record { row = value.at; left = value.raw }
+-- the inner of the two groups that a slot keeps
+abbrev pub inner_in : Value → Group
+inner_in slot = group_of (nat_abs slot.raw % 2 ^ 64)
 
--- the slots that aren't in use
-abbrev pub unused : Values → List Value
-unused values = drop values.used values.slots.now
+-- the outer of them
+abbrev pub outer_in : Value → Group
+outer_in slot = group_of slot.at
 
--- the slots that keep groups: so many from the top on, and round behind the last to the first that isn't in use
-abbrev pub kept_slots : Values → Stack → List Value
-kept_slots values stack = take stack.count (round (stack.top - values.used) (unused values))
+-- the groups in some slots, two in each
+abbrev pub paired : List Value → List Group
+paired [] = []
+paired (slot ∷ slots) = inner_in slot ∷ outer_in slot ∷ paired slots
 
--- the groups that are kept, the innermost first
+-- the groups that stand in a stack, the innermost first: the single one, and those in the slots from the top on
+abbrev pub standing : Values → Stack → List Group
+standing values stack = cons_option stack.single (paired (drop stack.top values.slots.now))
+
+-- those of them that are kept
 abbrev pub kept : Values → Stack → List Group
-kept values stack = map group_in (kept_slots values stack)
+kept values stack = take stack.count (standing values stack)
 
--- a stack within the slots that aren't in use
+-- how many single groups there are
+abbrev pub singles : Option Group → ℕ
+singles None = 0
+singles (Some group) = 1
+
+-- a stack within the slots that aren't in use, in which as many groups stand as are kept
 pub record IsWithin (values : Values) (stack : Stack) : Type 0 where
   pub low : values.used ≤ stack.top
   pub high : stack.top ≤ most_values
   pub count : values.used + stack.count ≤ most_values
+  pub whole : stack.count ≤ singles stack.single + 2 * (most_values - stack.top)
 
 -- groups before one was taken off
 abbrev pub popped : Option Group → List Group → List Group

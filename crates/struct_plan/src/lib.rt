@@ -4,8 +4,8 @@
 //! repeated, offsets; it gives the values and tells how they end (`structure_values` of mib_model). Names and types are
 //! looked up when a structure is compiled; the walk finds a structure or a deduced parameter by one call of the caller's
 //! `Structures`. It takes no memory: groups that are still to be repeated are kept in the slots of the list of values that
-//! aren't in use, and one outside it. Each repetition gives a value, so no more of them can be reached than there are
-//! slots. It rests on mib_model for the definitions and types, on mib_laws for the law that walks end, on bit_field for the
+//! aren't in use, two in a slot, and two outside it. Each repetition gives a value, so no more of them can be reached than
+//! there are slots. It rests on mib_model for the definitions and types, on mib_laws for the law that walks end, on bit_field for the
 //! values and on first_rows for looking rows up.
 #![tactic(auto)]
 

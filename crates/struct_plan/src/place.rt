@@ -1,5 +1,5 @@
 // A place among the rows of a structure.
-ghost use Rattle.std.specs.Prelude.{◌≡◌, ℕ, ◌+◌, ◌-◌, ◌<◌, ◌≤◌, List, ◌∷◌, take, length, Some, None};
+ghost use Rattle.std.specs.Prelude.{◌≡◌, ℕ, ◌+◌, ◌-◌, ◌<◌, ◌≤◌, ◌^◌, List, ◌∷◌, take, length, Some, None};
 ghost use Rattle.mib_model.specs.declared.database.Database.{Database};
 ghost use Rattle.mib_model.specs.Fixed.{most_values};
 ghost use Rattle.mib_model.specs.Structures.{group_repeated, times};
@@ -7,13 +7,13 @@ ghost use Rattle.mib_model.specs.Walk.{Extracted};
 ghost use Rattle.bit_field.specs.Taken.{taken};
 ghost use Rattle.struct_plan.specs.declared.course.Course.{Course};
 ghost use Rattle.struct_plan.specs.Courses.{Gives, IsStructure, walking};
-ghost use Rattle.struct_plan.specs.Groups.{entered, entered_at, settled, settled_at, size_at, still_to_walk, Enclose, IsOfRows};
+ghost use Rattle.struct_plan.specs.Groups.{entered, entered_at, rounds, settled, settled_at, size_at, still_to_walk, Enclose, IsOfRows};
 ghost use Rattle.struct_plan.specs.Places.{groups, IsAmong, IsPlace};
 
 use crate::group::Group;
 use crate::stack::Stack;
 use crate::structure::Structure;
-use bit_field::Values;
+use bit_field::{MOST_VALUES, Values};
 
 /// A place among the rows of a structure: the next row, and the groups round it that are still to be repeated, the
 /// innermost beside those on the stack.
@@ -24,10 +24,17 @@ pub struct Place {
     pub stack: Stack,
 }
 
+// How often a raw number says that a group is walked, as far as it matters: no more values have room.
+fn rounds_of(raw: i128) -> u32
+    ensures { result ≡ rounds raw }
+{
+    raw.clamp(0, i128::from(MOST_VALUES) + 1) as u32
+}
+
 impl Place {
     /// The first row.
     pub fn new() -> Place
-        ensures { result ≡ record { at = 0; inner = None; stack = record { top = most_values; count = 0 } } }
+        ensures { result ≡ record { at = 0; inner = None; stack = record { top = most_values; single = None; count = 0 } } }
     {
         Place {
             at: 0,
@@ -56,11 +63,11 @@ impl Place {
     }
 
     // Goes on behind a row whose group is walked so often: into the group, or past it.
-    fn enter(&mut self, size: u16, count: i128, values: &mut Values)
+    fn enter(&mut self, size: u16, count: u32, values: &mut Values)
         requires slots { length values.old.slots.now ≡ most_values }
         requires used { values.old.used ≤ most_values }
         requires place { IsPlace values.old self.old }
-        requires room { self.old.at + 1 + size ≤ usize.MAX }
+        requires room { self.old.at + 1 + size < 2 ^ 32 }
         ensures at { self.new.at ≡ entered_at self.old.at size count }
         ensures groups { groups values.new self.new ≡ take (most_values - values.old.used + 1) (entered self.old.at count (groups values.old self.old)) }
         ensures place { IsPlace values.new self.new }
@@ -69,13 +76,13 @@ impl Place {
         ensures slots { length values.new.slots.now ≡ most_values }
         ensures borrow { values.new.slots.ghost_name ≡ values.old.slots.ghost_name }
     {
-        if count < 1 {
+        if count == 0 {
             self.at += 1 + usize::from(size);
             return;
         }
         if count > 1 {
             let group = Group {
-                row: self.at as u64,
+                row: self.at as u32,
                 left: count - 1,
             };
             self.push(group, values);
@@ -116,7 +123,7 @@ impl Place {
         requires used { values.now.used ≤ most_values }
         requires place { IsPlace values.now self.old }
         requires around { Enclose structure.now.vpds self.old.at (self.old.at + 1) (groups values.now self.old) }
-        requires room { length structure.now.vpds ≤ usize.MAX }
+        requires room { length structure.now.vpds < 2 ^ 32 }
         ensures still { still_to_walk structure.now.vpds self.new.at (groups values.now self.new)
             ≡ still_to_walk structure.now.vpds (self.old.at + 1) (groups values.now self.old) }
         ensures among { IsAmong structure.now.vpds values.now self.new }
@@ -126,16 +133,16 @@ impl Place {
     }
 
     /// Goes on behind a row whose group is counted.
-    pub fn repeat(&mut self, size: u16, count: i128, structure: &Structure, values: &mut Values)
+    pub fn repeat(&mut self, size: u16, raw: i128, structure: &Structure, values: &mut Values)
         requires slots { length values.old.slots.now ≡ most_values }
         requires used { values.old.used ≤ most_values }
         requires place { IsPlace values.old self.old }
         requires size { size ≡ size_at structure.now.vpds self.old.at }
         requires some { 0 < size }
         requires around { Enclose structure.now.vpds self.old.at (self.old.at + 1 + size) (groups values.old self.old) }
-        requires room { length structure.now.vpds ≤ usize.MAX }
+        requires room { length structure.now.vpds < 2 ^ 32 }
         ensures gives { (db : Database) (packet : List ℕ) (end : Extracted) (course : Course) → IsStructure db structure.now →
-            Gives db packet end (walking (group_repeated size (times count) (still_to_walk structure.now.vpds (self.old.at + 1) (groups values.old self.old)))
+            Gives db packet end (walking (group_repeated size (times raw) (still_to_walk structure.now.vpds (self.old.at + 1) (groups values.old self.old)))
             course (taken values.old)) →
             Gives db packet end (walking (still_to_walk structure.now.vpds self.new.at (groups values.new self.new)) course (taken values.new)) }
         ensures among { IsAmong structure.now.vpds values.new self.new }
@@ -144,7 +151,7 @@ impl Place {
         ensures slots { length values.new.slots.now ≡ most_values }
         ensures borrow { values.new.slots.ghost_name ≡ values.old.slots.ghost_name }
     {
-        self.enter(size, count, values);
+        self.enter(size, rounds_of(raw), values);
         self.settle(structure, values);
     }
 
@@ -163,7 +170,7 @@ impl Place {
         requires some { 0 < size }
         requires times { 0 < count }
         requires around { Enclose structure.now.vpds self.old.at (self.old.at + 1 + size) (groups values.old self.old) }
-        requires room { length structure.now.vpds ≤ usize.MAX }
+        requires room { length structure.now.vpds < 2 ^ 32 }
         ensures gives { (db : Database) (packet : List ℕ) (end : Extracted) (course : Course) → IsStructure db structure.now →
             Gives db packet end (walking (group_repeated size count (still_to_walk structure.now.vpds (self.old.at + 1) (groups values.old self.old)))
             course (taken values.old)) →
@@ -175,6 +182,6 @@ impl Place {
         ensures slots { length values.new.slots.now ≡ most_values }
         ensures borrow { values.new.slots.ghost_name ≡ values.old.slots.ghost_name }
     {
-        self.enter(size, i128::from(count), values);
+        self.enter(size, u32::from(count), values);
     }
 }

@@ -1,102 +1,143 @@
 // Groups kept in the slots of values that aren't in use.
-ghost use Rattle.std.specs.Prelude.{◌≡◌, ◌+◌, ◌-◌, ◌*◌, ◌<◌, ◌≤◌, [], ◌∷◌, ◌++◌, take, drop, length, Option, Some, None};
+ghost use Rattle.std.specs.Prelude.{◌≡◌, ◌+◌, ◌-◌, ◌*◌, ◌<◌, ◌≤◌, [], ◌∷◌, ◌++◌, take, drop, length, min, Option, Some, None};
 ghost use Rattle.mib_model.specs.declared.packet.Value.{Value};
 ghost use Rattle.mib_model.specs.Fixed.{most_values};
 ghost use Rattle.bit_field.specs.Taken.{taken};
-ghost use Rattle.struct_plan.specs.Stacks.{round, group_in, unused, kept, IsWithin, popped};
+ghost use Rattle.struct_plan.specs.Stacks as Spec;
+ghost use Rattle.struct_plan.specs.Stacks.{inner_in, outer_in, kept, standing, IsWithin, popped};
 
 use crate::group::Group;
 use bit_field::{MOST_VALUES, Values};
 use mib_model::Value;
 
-/// A stack of groups in the slots of a list of values that aren't in use, which holds as many as there are such slots: the
-/// slot of the innermost, behind the last of which stands the first slot that isn't in use, and how many groups there are.
-/// Where there are more, those that lie outermost are lost.
+// The weight of a row in the number of a group.
+const ROW_WEIGHT: u64 = 4_294_967_296;
+
+/// A stack of groups in the slots of a list of values that aren't in use, two in a slot: the slot of the innermost two, the
+/// one innermost group that has no slot yet, and how many groups are kept, as many as there are such slots at most. Where
+/// there are more, those that lie outermost are lost.
+///
+/// Twice as many groups have room as are kept. So where no slot is free the inner half of the slots is all that is needed:
+/// it is copied to the last places, and the other half is free. No more slots are copied than were filled since the last
+/// time.
 #[derive(Clone, Copy)]
 pub struct Stack {
     pub top: u32,
+    pub single: Option<Group>,
     pub count: u32,
 }
 
-// A slot with a group in it.
-fn keeping(slot: Value, group: Group) -> Value
-    ensures { group_in result ≡ group }
+// The number of a group: its row, and how often it is still repeated, in half of the bits each.
+fn number_of(group: Group) -> u64
+    ensures { Spec.group_of result ≡ group }
+{
+    u64::from(group.row) * ROW_WEIGHT + u64::from(group.left)
+}
+
+// The group of a number.
+fn group_of(number: u64) -> Group
+    ensures { result ≡ Spec.group_of number }
+{
+    Group {
+        row: (number / ROW_WEIGHT) as u32,
+        left: (number % ROW_WEIGHT) as u32,
+    }
+}
+
+// A slot with two groups in it.
+fn keeping(slot: Value, inner: Group, outer: Group) -> Value
+    ensures inner { inner_in result ≡ inner }
+    ensures outer { outer_in result ≡ outer }
 {
     Value {
-        at: group.row,
-        raw: group.left,
+        raw: i128::from(number_of(inner)),
+        at: number_of(outer),
         ..slot
     }
 }
 
-// The group in a slot.
-fn group_of(slot: Value) -> Group
-    ensures { result ≡ group_in slot }
+// The inner group in a slot.
+fn inner_of(slot: Value) -> Group
+    ensures { result ≡ inner_in slot }
 {
-    Group {
-        row: slot.at,
-        left: slot.raw,
-    }
+    group_of((slot.raw.unsigned_abs() % (1 << 64)) as u64)
 }
 
-// How far slots turn so that the place behind some comes behind the last slot.
-fn turns(behind: u32, room: u32) -> u32
-    requires { behind < 2 * room }
-    ensures straight { behind < room → result ≡ behind }
-    ensures around { room ≤ behind → result + room ≡ behind }
+// Copies so many slots from a place on to the last places.
+fn copy_to_end(slots: &mut [Value], from: usize, count: usize)
+    requires { from + 2 * count ≤ length slots.old }
+    ensures { slots.new ≡ take (length slots.old - count) slots.old ++ take count (drop from slots.old) }
 {
-    if behind < room { behind } else { behind - room }
-}
-
-// Turns the slots from a place on, so many to the left.
-fn turn(slots: &mut [Value], from: usize, by: usize)
-    requires { from + by ≤ length slots.old }
-    ensures { slots.new ≡ take from slots.old ++ round by (drop from slots.old) }
-{
-    slots[from..].rotate_left(by);
+    let end = slots.len() - count;
+    slots.copy_within(from..from + count, end);
 }
 
 impl Stack {
     /// A stack of no groups.
     pub fn new() -> Stack
-        ensures { result ≡ record { top = most_values; count = 0 } }
+        ensures { result ≡ record { top = most_values; single = None; count = 0 } }
     {
         Stack {
             top: MOST_VALUES,
+            single: None,
             count: 0,
         }
     }
 
-    // The slot of the innermost group.
-    fn innermost(self, values: &Values) -> u32
-        requires slots { length values.now.slots.now ≡ most_values }
+    // Makes room for one more: where as many groups are kept as there are slots, the outermost is lost.
+    fn lose(&mut self, values: &Values)
         requires used { values.now.used < most_values }
-        requires within { IsWithin values.now self }
-        ensures low { values.now.used ≤ result }
-        ensures high { result < most_values }
-        ensures same { round (result - values.now.used) (unused values.now) ≡ round (self.top - values.now.used) (unused values.now) }
+        requires within { IsWithin values.now self.old }
+        ensures groups { kept values.now self.new ≡ take (most_values - (values.now.used + 1)) (kept values.now self.old) }
+        ensures within { IsWithin values.now self.new }
+        ensures fewer { values.now.used + self.new.count < most_values }
     {
-        if self.top == MOST_VALUES {
-            values.used
-        } else {
-            self.top
-        }
+        self.count = self.count.min(MOST_VALUES - values.used - 1);
     }
 
-    // The slot for another group.
-    fn next(self, values: &Values) -> u32
-        requires slots { length values.now.slots.now ≡ most_values }
-        requires used { values.now.used < most_values }
-        requires within { IsWithin values.now self }
-        ensures low { values.now.used ≤ result }
-        ensures high { result < most_values }
-        ensures same { round (result + 1 - values.now.used) (unused values.now) ≡ round (self.top - values.now.used) (unused values.now) }
+    // Frees the first slot that isn't in use.
+    fn free_slot(&mut self, values: &mut Values)
+        requires slots { length values.old.slots.now ≡ most_values }
+        requires within { IsWithin values.old self.old }
+        requires fewer { values.old.used + self.old.count < most_values }
+        ensures groups { kept values.new self.new ≡ kept values.old self.old }
+        ensures free { values.old.used < self.new.top }
+        ensures within { IsWithin values.new self.new }
+        ensures single { self.new.single ≡ self.old.single }
+        ensures count { self.new.count ≡ self.old.count }
+        ensures taken { taken values.new ≡ taken values.old }
+        ensures used { values.new.used ≡ values.old.used }
+        ensures slots { length values.new.slots.now ≡ most_values }
+        ensures borrow { values.new.slots.ghost_name ≡ values.old.slots.ghost_name }
     {
-        if self.top == values.used {
-            MOST_VALUES - 1
-        } else {
-            self.top - 1
+        if values.used < self.top {
+            return;
         }
+        let count = (MOST_VALUES - values.used) / 2;
+        copy_to_end(values.slots, values.used as usize, count as usize);
+        self.top = MOST_VALUES - count;
+    }
+
+    // Puts a group innermost, in one slot with the single one.
+    fn pair(&mut self, inner: Group, outer: Group, values: &mut Values)
+        requires slots { length values.old.slots.now ≡ most_values }
+        requires within { IsWithin values.old self.old }
+        requires free { values.old.used < self.old.top }
+        requires fewer { values.old.used + self.old.count < most_values }
+        requires single { self.old.single ≡ Some outer }
+        ensures standing { standing values.new self.new ≡ inner ∷ standing values.old self.old }
+        ensures count { self.new.count ≡ self.old.count + 1 }
+        ensures within { IsWithin values.new self.new }
+        ensures taken { taken values.new ≡ taken values.old }
+        ensures used { values.new.used ≡ values.old.used }
+        ensures slots { length values.new.slots.now ≡ most_values }
+        ensures borrow { values.new.slots.ghost_name ≡ values.old.slots.ghost_name }
+    {
+        self.top -= 1;
+        let slot = self.top as usize;
+        values.slots[slot] = keeping(values.slots[slot], inner, outer);
+        self.single = None;
+        self.count += 1;
     }
 
     /// Puts a group innermost. Where there is no slot for another, the outermost is lost.
@@ -114,12 +155,14 @@ impl Stack {
         if values.used == MOST_VALUES {
             return;
         }
-        self.top = self.next(values);
-        let slot = self.top as usize;
-        values.slots[slot] = keeping(values.slots[slot], group);
-        if self.count < MOST_VALUES - values.used {
+        self.lose(values);
+        let Some(outer) = self.single else {
+            self.single = Some(group);
             self.count += 1;
-        }
+            return;
+        };
+        self.free_slot(values);
+        self.pair(group, outer, values);
     }
 
     /// Takes the innermost group off, if there is one.
@@ -128,41 +171,21 @@ impl Stack {
         requires used { values.now.used ≤ most_values }
         requires within { IsWithin values.now self.old }
         ensures groups { popped result (kept values.now self.new) ≡ kept values.now self.old }
-        ensures none { result ≡ None → self.new.count ≡ 0 }
+        ensures none { result ≡ None → kept values.now self.new ≡ [] }
         ensures within { IsWithin values.now self.new }
     {
         if self.count == 0 {
             return None;
         }
-        let top = self.innermost(values);
-        let slot = values.slots[top as usize];
-        self.top = top + 1;
         self.count -= 1;
-        Some(group_of(slot))
-    }
-
-    // Frees the first slot that isn't in use. Where all slots keep groups, the outermost is lost.
-    fn free_slot(&mut self, values: &mut Values)
-        requires slots { length values.old.slots.now ≡ most_values }
-        requires used { values.old.used < most_values }
-        requires within { IsWithin values.old self.old }
-        ensures groups { kept values.new self.new ≡ take (most_values - (values.old.used + 1)) (kept values.old self.old) }
-        ensures free { values.old.used < self.new.top }
-        ensures whole { self.new.top + self.new.count ≤ most_values }
-        ensures taken { taken values.new ≡ taken values.old }
-        ensures used { values.new.used ≡ values.old.used }
-        ensures slots { length values.new.slots.now ≡ most_values }
-        ensures borrow { values.new.slots.ghost_name ≡ values.old.slots.ghost_name }
-    {
-        if values.used < self.top && self.top + self.count <= MOST_VALUES {
-            return;
+        if let Some(group) = self.single {
+            self.single = None;
+            return Some(group);
         }
-        let room = MOST_VALUES - values.used;
-        let count = self.count.min(room - 1);
-        let by = turns(self.top - values.used + count, room);
-        turn(values.slots, values.used as usize, by as usize);
-        self.top = MOST_VALUES - count;
-        self.count = count;
+        let slot = values.slots[self.top as usize];
+        self.top += 1;
+        self.single = Some(group_of(slot.at));
+        Some(inner_of(slot))
     }
 
     /// Appends a value to the list. Where all slots keep groups, the outermost is lost.
@@ -177,6 +200,7 @@ impl Stack {
         ensures slots { length values.new.slots.now ≡ most_values }
         ensures borrow { values.new.slots.ghost_name ≡ values.old.slots.ghost_name }
     {
+        self.lose(values);
         self.free_slot(values);
         values.push(value);
     }

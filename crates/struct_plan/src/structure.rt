@@ -1,4 +1,4 @@
-ghost use Rattle.std.specs.Prelude.{◌≡◌, ◌+◌, ◌<◌, ◌≤◌, List, ◌∷◌, drop, length, Option, IfOk, OnOk, OnErr};
+ghost use Rattle.std.specs.Prelude.{◌≡◌, ◌+◌, ◌<◌, ◌≤◌, ◌^◌, List, ◌∷◌, drop, length, Option, IfOk, OnOk, OnErr};
 ghost use Rattle.mib_model.specs.declared.rows.VpdRow.{VpdRow};
 ghost use Rattle.std.specs.Option.{option_copied};
 ghost use Rattle.mib_model.specs.declared.database.Database.{Database};
@@ -25,7 +25,7 @@ pub struct Structure {
 }
 
 impl Model for Structure {
-    ghost use Rattle.std.specs.Prelude.{◌≡◌, map};
+    ghost use Rattle.std.specs.Prelude.{◌≡◌, ◌<◌, ◌^◌, length, map};
     ghost use Rattle.struct_plan.specs.Entries.{entry_of};
     ghost use Rattle.struct_plan.specs.Slices.{StructureRows};
 
@@ -33,12 +33,13 @@ impl Model for Structure {
 
     ghost view = { λ structure. record { vpds = structure.vpds.value.items; types = structure.types.value.items } };
 
-    ghost invariant = { λ structure. structure.entries.items ≡ map (entry_of structure.types.value.items) structure.vpds.value.items };
+    ghost invariant = { λ structure.
+        (structure.entries.items ≡ map (entry_of structure.types.value.items) structure.vpds.value.items) × (length structure.vpds.value.items < 2 ^ 32) };
 }
 
 impl Structure {
     /// Compiles the rows of a structure by POS and the type items of their names, in one step. An error is want of
-    /// memory, and takes no step.
+    /// memory, which more than 2^32 - 1 rows are too, and takes no step.
     pub fn compile<L: Ledger>(
         alloc: Global,
         vpds: &[VpdRow],
@@ -49,6 +50,9 @@ impl Structure {
         ensures step { OnOk result (steps.new ≡ steps.old + 1) }
         ensures refused { OnErr result (steps.new ≡ steps.old) }
     {
+        if u32::try_from(vpds.len()).is_err() {
+            return Err(AllocError);
+        }
         let rows = Vec::from_slice(alloc, vpds)?;
         let items = Vec::from_slice(alloc, types)?;
         let entries = entries(alloc, &rows, &FirstRows::new(alloc, &items)?)?;
@@ -72,7 +76,7 @@ impl Structure {
         requires { at < length self.now.vpds }
         ensures entry { (row : VpdRow) (rows : List VpdRow) → drop at self.now.vpds ≡ row ∷ rows → result ≡ entry_of self.now.types row }
         ensures size { result.size ≡ Spec.size_at self.now.vpds at }
-        ensures room { length self.now.vpds ≤ usize.MAX }
+        ensures room { length self.now.vpds < 2 ^ 32 }
     {
         self.entries[at]
     }

@@ -113,7 +113,7 @@ fn go_on(
     requires size { size ≡ size_at structure.now.vpds place.old.at }
     requires some { after ≡ Then.Repeat → 0 < size }
     requires around { Enclose structure.now.vpds place.old.at (place.old.at + 1 + size) (groups values.old place.old) }
-    requires room { length structure.now.vpds ≤ usize.MAX }
+    requires room { length structure.now.vpds < 2 ^ 32 }
     ensures goes { (db : Database) (octets : List ℕ) (end : Extracted) (row : VpdRow) →
         IsStructure db structure.now → after ≡ then_of row → size ≡ row.grpsize →
         Leads db octets end (after_value db row (still_to_walk structure.now.vpds (place.old.at + 1) (groups values.old place.old)) raw

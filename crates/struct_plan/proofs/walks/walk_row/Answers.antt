@@ -9,7 +9,7 @@ use Rattle.struct_plan.specs.Courses.{Gives, Leads, walking}
 use Rattle.struct_plan.specs.Groups.{still_to_walk, Enclose, Ahead}
 use Rattle.struct_plan.specs.Places.{groups}
 use Rattle.struct_plan.proofs.GroupFacts.{enclose-take}
-use Rattle.struct_plan.proofs.PlaceFacts.{groups-given, none-kept, structure-nested}
+use Rattle.struct_plan.proofs.PlaceFacts.{groups-given, none-given, structure-nested}
 use Rattle.struct_plan.proofs.KnownFacts.{ahead-take}
 use Rattle.struct_plan.specs.Entries.{field_at}
 use Rattle.mib_model.specs.Walk.{after_value, on_subject}
@@ -40,6 +40,13 @@ go_on-requires-clause-some g c = λ counts.
     counts-some (g.S.Structures.tables c.args.all.now) c.args.structure.now c.requires.structure c.args.place.now.at (groups c.args.values.now c.args.place.now) c.entry-entry.result
     c.requires.inside c.requires.among.around c.requires.among.ahead c.entry-entry.ensures.size c.entry-entry.ensures.entry c.in-Give.subject c.in-Give.after c.in-Give.is (sym c.in-Give.after-is ∙ counts)
 
+pub go_on-requires-clause-place : goal.go_on-requires-clause-place
+go_on-requires-clause-place g c =
+    record {
+      within = c.in-Ok.ensures.within;
+      alone = λ none. none-given (kept c.args.values.now c.args.place.now.stack) (kept c.give.new.values c.give.new.stack) (most_values - c.give.new.values.used) (c.requires.among.kept.alone none) c.in-Ok.ensures.groups;
+    }
+
 pub go_on-requires-clause-around : goal.go_on-requires-clause-around
 go_on-requires-clause-around g c =
     let db = g.S.Structures.tables c.args.all.now in
@@ -48,7 +55,7 @@ go_on-requires-clause-around g c =
     let gs : List Group = groups c.args.values.now c.args.place.now in
     let around = around-row db rows c.requires.structure at gs c.entry-entry.result c.requires.inside c.requires.among.around c.requires.among.ahead c.entry-entry.ensures.size c.entry-entry.ensures.entry in
     let given : groups c.give.new.values (record { at = at; inner = c.args.place.now.inner; stack = c.give.new.stack }) ≡ take (most_values - c.give.new.values.used + 1) gs =
-    groups-given c.args.place.now.inner (kept c.args.values.now c.args.place.now.stack) (kept c.give.new.values c.give.new.stack) (most_values - c.give.new.values.used) (none-kept c.args.values.now c.args.place.now c.requires.among.kept) c.in-Ok.ensures.groups in
+    groups-given c.args.place.now.inner (kept c.args.values.now c.args.place.now.stack) (kept c.give.new.values c.give.new.stack) (most_values - c.give.new.values.used) c.requires.among.kept.alone c.in-Ok.ensures.groups in
     subst (Enclose rows.vpds at (at + 1 + c.entry-entry.result.size)) (sym given) (enclose-take rows.vpds (most_values - c.give.new.values.used + 1) at (at + 1 + c.entry-entry.result.size) gs around)
 
 pub returns-in-Repeat-clause-goes : goal.returns-in-Repeat-clause-goes
@@ -94,7 +101,7 @@ returns-in-Ok-clause-goes g c = λ end gives.
     let room : ℕ = most_values - c.give.new.values.used + 1 in
     let gs : List Group = groups c.give.new.values (record { at = at; inner = c.args.place.now.inner; stack = c.give.new.stack }) in
     let fewer : gs ≡ take room old-groups =
-    groups-given c.args.place.now.inner (kept old c.args.place.now.stack) (kept c.give.new.values c.give.new.stack) (most_values - c.give.new.values.used) (none-kept old c.args.place.now c.requires.among.kept) c.in-Ok.ensures.groups in
+    groups-given c.args.place.now.inner (kept old c.args.place.now.stack) (kept c.give.new.values c.give.new.stack) (most_values - c.give.new.values.used) c.requires.among.kept.alone c.in-Ok.ensures.groups in
     let course : Course = c.args.course.now in
     let entry = c.entry-entry.result in
     let cursor : to_z w128 (of_z w128 (to_z w128 (of_z w128 course.cursor) +ℤ to_z w128 (of_z w128 c.from.result))) ≡ course.cursor +ℤ entry.offset = grind (arith, to_z-of_z) in

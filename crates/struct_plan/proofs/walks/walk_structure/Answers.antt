@@ -15,9 +15,9 @@ loop-place-init g c =
     let rows = c.args.structure.now.vpds in
     let values = c.args.values.now in
     let course = c.args.course.now in
-    let first : Place = record { at = 0; inner = None; stack = record { top = most_values; count = 0 } } in
+    let first : Place = record { at = 0; inner = None; stack = record { top = most_values; single = None; count = 0 } } in
     let there : first ≡ c.new-place.result = sym c.new-place.ensures in
-    let within : IsWithin values first.stack = record { low = c.requires.used; high = omega arith; count = omega arith } in
+    let within : IsWithin values first.stack = record { low = c.requires.used; high = omega arith; count = omega arith; whole = omega arith } in
     let among : IsAmong rows values first = record { kept = record { within = within; alone = λ none. refl }; around = omega arith; ahead = omega arith } in
     record {
       gives = λ end gives. subst (λ (p : Place). Gives db c.args.packet.now end (walking (still_to_walk rows p.at (groups values p)) course (taken values))) there gives;

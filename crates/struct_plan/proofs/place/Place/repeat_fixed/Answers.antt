@@ -1,8 +1,7 @@
-use Rattle.std.proofs.Common.{◌≡◌, ◌∙◌, ◌+◌, ◌-◌, suc, ℤ, pos, List, length, sym, ap, subst, arith}
-use Rattle.std.proofs.lemmas.Int.{to_z-of_z}
+use Rattle.std.proofs.Common.{◌≡◌, ◌∙◌, ◌+◌, ◌-◌, suc, List, length, sym, ap, subst, arith}
 use Rattle.std.proofs.lemmas.List.{length-take-le}
 use Rattle.mib_model.specs.declared.rows.VpdRow.{VpdRow}
-use Rattle.mib_model.specs.Structures.{group_repeated, times}
+use Rattle.mib_model.specs.Structures.{group_repeated}
 use Rattle.bit_field.specs.Taken.{taken}
 use Rattle.struct_plan.specs.declared.group.Group.{Group}
 use Rattle.struct_plan.specs.Courses.{Gives, walking}
@@ -11,8 +10,6 @@ use Rattle.struct_plan.specs.Places.{groups}
 use Rattle.struct_plan.proofs.GroupFacts.{enclose-length}
 use Rattle.struct_plan.proofs.PlaceFacts.{structure-nested, behind-around, behind-gives, behind-ahead}
 use Rattle.struct_plan.proofs.place.Place.repeat_fixed.Goals as goal
-use mir.Val.{to_z, of_z}
-use mir.Syntax.{w128}
 
 pub enter-requires-clause-room : goal.enter-requires-clause-room
 enter-requires-clause-room c =
@@ -26,12 +23,12 @@ returns-clause-gives c = λ db packet end course is gives.
     let old = c.args.values.now in
     let at = c.args.self.now.at in
     let gs : List Group = groups old c.args.self.now in
-    let n : ℤ = to_z w128 (of_z w128 c.from.result) in
-    let count : n ≡ pos c.args.count = (let e : n ≡ c.from.result = grind (arith, to_z-of_z) in e ∙ c.from.ensures) in
+    let n = c.from.result in
+    let count : c.args.count ≡ n = sym c.from.ensures in
     let used : length (taken c.enter.new.values) ≡ old.used = ap length c.enter.ensures.taken ∙ length-take-le old.used old.slots.now (omega arith) in
-    let same : Gives db packet end (walking (group_repeated c.args.size (times n) (still_to_walk rows (at + 1) gs)) course (taken c.enter.new.values)) =
-    subst (λ vs. Gives db packet end (walking (group_repeated c.args.size (times n) (still_to_walk rows (at + 1) gs)) course vs)) (sym c.enter.ensures.taken)
-    (subst (λ k. Gives db packet end (walking (group_repeated c.args.size (times k) (still_to_walk rows (at + 1) gs)) course (taken old))) (sym count) gives) in
+    let same : Gives db packet end (walking (group_repeated c.args.size n (still_to_walk rows (at + 1) gs)) course (taken c.enter.new.values)) =
+    subst (λ vs. Gives db packet end (walking (group_repeated c.args.size n (still_to_walk rows (at + 1) gs)) course vs)) (sym c.enter.ensures.taken)
+    (subst (λ k. Gives db packet end (walking (group_repeated c.args.size k (still_to_walk rows (at + 1) gs)) course (taken old))) count gives) in
     behind-gives rows at c.enter.new.self.at c.args.size old.used n gs (groups c.enter.new.values c.enter.new.self) c.requires.size c.requires.some c.requires.around c.enter.ensures.at c.enter.ensures.groups
     db packet end course (taken c.enter.new.values) (structure-nested db c.args.structure.now is) c.requires.used used same
 
@@ -42,11 +39,10 @@ returns-clause-among c =
     let at = c.args.self.now.at in
     let gs : List Group = groups old c.args.self.now in
     let gs' : List Group = groups c.enter.new.values c.enter.new.self in
-    let n : ℤ = to_z w128 (of_z w128 c.from.result) in
-    let count : n ≡ pos c.args.count = (let e : n ≡ c.from.result = grind (arith, to_z-of_z) in e ∙ c.from.ensures) in
-    let one : c.args.count ≡ suc (c.args.count - 1) = omega arith in
+    let n = c.from.result in
+    let one : n ≡ suc (n - 1) = omega (arith, c.from.ensures) in
     record {
       kept = c.enter.ensures.place;
       around = behind-around rows at c.enter.new.self.at c.args.size old.used n gs gs' c.requires.size c.requires.some c.requires.around c.enter.ensures.at c.enter.ensures.groups;
-      ahead = behind-ahead rows at c.enter.new.self.at c.args.size old.used n gs gs' c.requires.size c.requires.some c.requires.around c.enter.ensures.at c.enter.ensures.groups (c.args.count - 1) (count ∙ ap pos one);
+      ahead = behind-ahead rows at c.enter.new.self.at c.args.size old.used n gs gs' c.requires.size c.requires.some c.requires.around c.enter.ensures.at c.enter.ensures.groups (n - 1) one;
     }
