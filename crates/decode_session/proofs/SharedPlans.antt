@@ -1,4 +1,4 @@
--- The plans of an edition may be read by several threads.
+-- The plans of an edition may be read by several threads, and may go to another.
 use denote.Param.Send.{IsSend, IsSync, sendable}
 use Rattle.std.proofs.Crossing.{crosses}
 use Rattle.std.proofs.MapsCrossing.{crosses as map_crosses}
@@ -29,5 +29,11 @@ param-send = search (choice-send, checks-send, crosses, sendable) depth 60 fits 
 pub params-sync : IsSync Params.the_row
 params-sync = search (param-send, param-sync, crosses, sendable) depth 60 fits 20000
 
+pub params-send : IsSend Params.the_row
+params-send = search (param-send, param-sync, crosses, sendable) depth 60 fits 20000
+
 pub ident-sync : IsSync Ident.the_row
 ident-sync = search (map_crosses, crosses, sendable) depth 60 fits 20000
+
+pub ident-send : IsSend Ident.the_row
+ident-send = search (map_crosses, crosses, sendable) depth 60 fits 20000

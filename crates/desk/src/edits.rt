@@ -5,7 +5,7 @@ ghost use Rattle.mib_model.specs.DeskLines as Spec;
 use crate::desk::Desk;
 use mib_model::{Kind, Reply};
 use mib_rows::{ReadFault, read_key, read_row};
-use mib_tables::Put;
+use mib_tables::{DelFault, Put};
 use std::alloc::Global;
 
 impl Desk {
@@ -52,7 +52,8 @@ impl Desk {
         };
         match self.draft.del(&key) {
             Ok(()) => Reply::Deleted,
-            Err(_) => Reply::NoRow,
+            Err(DelFault::NoRow) => Reply::NoRow,
+            Err(DelFault::Memory) => Reply::Want,
         }
     }
 

@@ -1,4 +1,4 @@
-ghost use Rattle.std.specs.Prelude.{◌≡◌, ◌≤◌, length, is_ok, IfOk, OnOk, OnErr};
+ghost use Rattle.std.specs.Prelude.{◌≡◌, ◌≤◌, length, true, false, Err, IfOk, OnOk, OnErr};
 ghost use Rattle.mib_model.specs.Database.{database_of, no_rows};
 ghost use Rattle.mib_model.specs.Drafts.{is_held, put_in, rows_of, with_rows, without_key};
 ghost use Rattle.mib_model.specs.Keys.{key_in};
@@ -8,7 +8,7 @@ ghost use Rattle.mib_model.specs.declared.limits.TheConstants.{HELD_MOST};
 ghost use Rattle.mib_tables.specs.Kinds.{kind_of_key};
 ghost use Rattle.mib_tables.specs.Puts.{put_made};
 
-use crate::table::{NoRow, Put, Table};
+use crate::table::{DelFault, Put, Table};
 use mib_model::{
     CafRow, CapRow, CurRow, Key, Kind, LgfRow, McfRow, OcfRow, OcpRow, PcfRow, PicRow, PidRow,
     PlfRow, Row, TableRows, Tables, TpcfRow, TxfRow, TxpRow, VpdRow,
@@ -91,21 +91,21 @@ impl Book {
     {
         Ok(Book {
             alloc,
-            pcf: Table::new(tables.pcf)?,
-            pid: Table::new(tables.pid)?,
-            pic: Table::new(tables.pic)?,
-            tpcf: Table::new(tables.tpcf)?,
-            plf: Table::new(tables.plf)?,
-            vpd: Table::new(tables.vpd)?,
-            cur: Table::new(tables.cur)?,
-            caf: Table::new(tables.caf)?,
-            cap: Table::new(tables.cap)?,
-            txf: Table::new(tables.txf)?,
-            txp: Table::new(tables.txp)?,
-            mcf: Table::new(tables.mcf)?,
-            lgf: Table::new(tables.lgf)?,
-            ocf: Table::new(tables.ocf)?,
-            ocp: Table::new(tables.ocp)?,
+            pcf: Table::new(alloc, tables.pcf)?,
+            pid: Table::new(alloc, tables.pid)?,
+            pic: Table::new(alloc, tables.pic)?,
+            tpcf: Table::new(alloc, tables.tpcf)?,
+            plf: Table::new(alloc, tables.plf)?,
+            vpd: Table::new(alloc, tables.vpd)?,
+            cur: Table::new(alloc, tables.cur)?,
+            caf: Table::new(alloc, tables.caf)?,
+            cap: Table::new(alloc, tables.cap)?,
+            txf: Table::new(alloc, tables.txf)?,
+            txp: Table::new(alloc, tables.txp)?,
+            mcf: Table::new(alloc, tables.mcf)?,
+            lgf: Table::new(alloc, tables.lgf)?,
+            ocf: Table::new(alloc, tables.ocf)?,
+            ocp: Table::new(alloc, tables.ocp)?,
         })
     }
 
@@ -115,21 +115,21 @@ impl Book {
     {
         Book {
             alloc,
-            pcf: Table::empty(alloc),
-            pid: Table::empty(alloc),
-            pic: Table::empty(alloc),
-            tpcf: Table::empty(alloc),
-            plf: Table::empty(alloc),
-            vpd: Table::empty(alloc),
-            cur: Table::empty(alloc),
-            caf: Table::empty(alloc),
-            cap: Table::empty(alloc),
-            txf: Table::empty(alloc),
-            txp: Table::empty(alloc),
-            mcf: Table::empty(alloc),
-            lgf: Table::empty(alloc),
-            ocf: Table::empty(alloc),
-            ocp: Table::empty(alloc),
+            pcf: Table::empty(),
+            pid: Table::empty(),
+            pic: Table::empty(),
+            tpcf: Table::empty(),
+            plf: Table::empty(),
+            vpd: Table::empty(),
+            cur: Table::empty(),
+            caf: Table::empty(),
+            cap: Table::empty(),
+            txf: Table::empty(),
+            txp: Table::empty(),
+            mcf: Table::empty(),
+            lgf: Table::empty(),
+            ocf: Table::empty(),
+            ocp: Table::empty(),
         }
     }
 
@@ -139,21 +139,21 @@ impl Book {
         ensures kept { OnErr result (self.new ≡ self.old) }
     {
         match rows {
-            TableRows::Pcf(rows) => self.pcf.fill(rows),
-            TableRows::Pid(rows) => self.pid.fill(rows),
-            TableRows::Pic(rows) => self.pic.fill(rows),
-            TableRows::Tpcf(rows) => self.tpcf.fill(rows),
-            TableRows::Plf(rows) => self.plf.fill(rows),
-            TableRows::Vpd(rows) => self.vpd.fill(rows),
-            TableRows::Cur(rows) => self.cur.fill(rows),
-            TableRows::Caf(rows) => self.caf.fill(rows),
-            TableRows::Cap(rows) => self.cap.fill(rows),
-            TableRows::Txf(rows) => self.txf.fill(rows),
-            TableRows::Txp(rows) => self.txp.fill(rows),
-            TableRows::Mcf(rows) => self.mcf.fill(rows),
-            TableRows::Lgf(rows) => self.lgf.fill(rows),
-            TableRows::Ocf(rows) => self.ocf.fill(rows),
-            TableRows::Ocp(rows) => self.ocp.fill(rows),
+            TableRows::Pcf(rows) => self.pcf.fill(self.alloc, rows),
+            TableRows::Pid(rows) => self.pid.fill(self.alloc, rows),
+            TableRows::Pic(rows) => self.pic.fill(self.alloc, rows),
+            TableRows::Tpcf(rows) => self.tpcf.fill(self.alloc, rows),
+            TableRows::Plf(rows) => self.plf.fill(self.alloc, rows),
+            TableRows::Vpd(rows) => self.vpd.fill(self.alloc, rows),
+            TableRows::Cur(rows) => self.cur.fill(self.alloc, rows),
+            TableRows::Caf(rows) => self.caf.fill(self.alloc, rows),
+            TableRows::Cap(rows) => self.cap.fill(self.alloc, rows),
+            TableRows::Txf(rows) => self.txf.fill(self.alloc, rows),
+            TableRows::Txp(rows) => self.txp.fill(self.alloc, rows),
+            TableRows::Mcf(rows) => self.mcf.fill(self.alloc, rows),
+            TableRows::Lgf(rows) => self.lgf.fill(self.alloc, rows),
+            TableRows::Ocf(rows) => self.ocf.fill(self.alloc, rows),
+            TableRows::Ocp(rows) => self.ocp.fill(self.alloc, rows),
         }
     }
 
@@ -166,47 +166,48 @@ impl Book {
         ensures kept { OnErr result (self.new ≡ self.old) }
     {
         match row {
-            Row::Pcf(row) => self.pcf.put(row),
-            Row::Pid(row) => self.pid.put(row),
-            Row::Pic(row) => self.pic.put(row),
-            Row::Tpcf(row) => self.tpcf.put(row),
-            Row::Plf(row) => self.plf.put(row),
-            Row::Vpd(row) => self.vpd.put(row),
-            Row::Cur(row) => self.cur.put(row),
-            Row::Caf(row) => self.caf.put(row),
-            Row::Cap(row) => self.cap.put(row),
-            Row::Txf(row) => self.txf.put(row),
-            Row::Txp(row) => self.txp.put(row),
-            Row::Mcf(row) => self.mcf.put(row),
-            Row::Lgf(row) => self.lgf.put(row),
-            Row::Ocf(row) => self.ocf.put(row),
-            Row::Ocp(row) => self.ocp.put(row),
+            Row::Pcf(row) => self.pcf.put(self.alloc, row),
+            Row::Pid(row) => self.pid.put(self.alloc, row),
+            Row::Pic(row) => self.pic.put(self.alloc, row),
+            Row::Tpcf(row) => self.tpcf.put(self.alloc, row),
+            Row::Plf(row) => self.plf.put(self.alloc, row),
+            Row::Vpd(row) => self.vpd.put(self.alloc, row),
+            Row::Cur(row) => self.cur.put(self.alloc, row),
+            Row::Caf(row) => self.caf.put(self.alloc, row),
+            Row::Cap(row) => self.cap.put(self.alloc, row),
+            Row::Txf(row) => self.txf.put(self.alloc, row),
+            Row::Txp(row) => self.txp.put(self.alloc, row),
+            Row::Mcf(row) => self.mcf.put(self.alloc, row),
+            Row::Lgf(row) => self.lgf.put(self.alloc, row),
+            Row::Ocf(row) => self.ocf.put(self.alloc, row),
+            Row::Ocp(row) => self.ocp.put(self.alloc, row),
         }
     }
 
     /// Takes the first row with a key out of the key's table.
     #[tactic(auto, unfolding(mib_model::specs::Drafts::rows_of))]
-    pub fn del(&mut self, key: &Key) -> Result<(), NoRow>
-        ensures held { is_ok result ≡ is_held key.now (rows_of self.old (kind_of_key key.now)) }
+    pub fn del(&mut self, key: &Key) -> Result<(), DelFault>
+        ensures held { OnOk result (is_held key.now (rows_of self.old (kind_of_key key.now)) ≡ true) }
+        ensures missing { result ≡ Err DelFault.NoRow → is_held key.now (rows_of self.old (kind_of_key key.now)) ≡ false }
         ensures rows { let table = kind_of_key key.now in OnOk result (self.new ≡ with_rows self.old table (without_key key.now (rows_of self.old table))) }
         ensures kept { OnErr result (self.new ≡ self.old) }
     {
         match key {
-            Key::Pcf { .. } => self.pcf.del(key),
-            Key::Pid { .. } => self.pid.del(key),
-            Key::Pic { .. } => self.pic.del(key),
-            Key::Tpcf { .. } => self.tpcf.del(key),
-            Key::Plf { .. } => self.plf.del(key),
-            Key::Vpd { .. } => self.vpd.del(key),
-            Key::Cur { .. } => self.cur.del(key),
-            Key::Caf { .. } => self.caf.del(key),
-            Key::Cap { .. } => self.cap.del(key),
-            Key::Txf { .. } => self.txf.del(key),
-            Key::Txp { .. } => self.txp.del(key),
-            Key::Mcf { .. } => self.mcf.del(key),
-            Key::Lgf { .. } => self.lgf.del(key),
-            Key::Ocf { .. } => self.ocf.del(key),
-            Key::Ocp { .. } => self.ocp.del(key),
+            Key::Pcf { .. } => self.pcf.del(self.alloc, key),
+            Key::Pid { .. } => self.pid.del(self.alloc, key),
+            Key::Pic { .. } => self.pic.del(self.alloc, key),
+            Key::Tpcf { .. } => self.tpcf.del(self.alloc, key),
+            Key::Plf { .. } => self.plf.del(self.alloc, key),
+            Key::Vpd { .. } => self.vpd.del(self.alloc, key),
+            Key::Cur { .. } => self.cur.del(self.alloc, key),
+            Key::Caf { .. } => self.caf.del(self.alloc, key),
+            Key::Cap { .. } => self.cap.del(self.alloc, key),
+            Key::Txf { .. } => self.txf.del(self.alloc, key),
+            Key::Txp { .. } => self.txp.del(self.alloc, key),
+            Key::Mcf { .. } => self.mcf.del(self.alloc, key),
+            Key::Lgf { .. } => self.lgf.del(self.alloc, key),
+            Key::Ocf { .. } => self.ocf.del(self.alloc, key),
+            Key::Ocp { .. } => self.ocp.del(self.alloc, key),
         }
     }
 
@@ -217,21 +218,21 @@ impl Book {
         let alloc = self.alloc;
         Ok(Book {
             alloc,
-            pcf: self.pcf.copy(alloc)?,
-            pid: self.pid.copy(alloc)?,
-            pic: self.pic.copy(alloc)?,
-            tpcf: self.tpcf.copy(alloc)?,
-            plf: self.plf.copy(alloc)?,
-            vpd: self.vpd.copy(alloc)?,
-            cur: self.cur.copy(alloc)?,
-            caf: self.caf.copy(alloc)?,
-            cap: self.cap.copy(alloc)?,
-            txf: self.txf.copy(alloc)?,
-            txp: self.txp.copy(alloc)?,
-            mcf: self.mcf.copy(alloc)?,
-            lgf: self.lgf.copy(alloc)?,
-            ocf: self.ocf.copy(alloc)?,
-            ocp: self.ocp.copy(alloc)?,
+            pcf: self.pcf.copy()?,
+            pid: self.pid.copy()?,
+            pic: self.pic.copy()?,
+            tpcf: self.tpcf.copy()?,
+            plf: self.plf.copy()?,
+            vpd: self.vpd.copy()?,
+            cur: self.cur.copy()?,
+            caf: self.caf.copy()?,
+            cap: self.cap.copy()?,
+            txf: self.txf.copy()?,
+            txp: self.txp.copy()?,
+            mcf: self.mcf.copy()?,
+            lgf: self.lgf.copy()?,
+            ocf: self.ocf.copy()?,
+            ocp: self.ocp.copy()?,
         })
     }
 

@@ -5,7 +5,8 @@
 #![tactic(auto)]
 
 mod book;
+mod shared;
 mod table;
 
 pub use book::Book;
-pub use table::{NoRow, Put};
+pub use table::{DelFault, Put};

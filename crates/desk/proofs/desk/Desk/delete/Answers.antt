@@ -7,7 +7,7 @@ returns-in-Err-Mib-clause-handles c = λ own. delete-bad (desk_of c.args.self.no
 
 pub returns-in-Ok-del-clause-handles : goal.returns-in-Ok-del-clause-handles
 returns-in-Ok-del-clause-handles c =
-    λ own. delete-done (desk_of c.args.self.now) c.args.table c.args.key.now c.in-Ok.key c.del.new.self own c.in-Ok.ensures c.in-Ok-del.ensures.held c.in-Ok-del.ensures.rows
+    λ own. delete-done (desk_of c.args.self.now) c.args.table c.args.key.now c.in-Ok.key c.del.new.self own c.in-Ok.ensures (sym c.in-Ok-del.ensures.held) c.in-Ok-del.ensures.rows
 
 pub returns-in-Err-clause-handles : goal.returns-in-Err-clause-handles
 returns-in-Err-clause-handles c =
