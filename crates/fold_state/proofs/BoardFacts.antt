@@ -1,21 +1,20 @@
 -- What is kept beside a name, by its place among the names.
-use Rattle.std.proofs.Common.{◌≡◌, ◌∙◌, ℕ, zero, suc, ◌+◌, ◌<◌, ◌≤◌, inl, inr, Bool, true, false, cond, List, [], ◌∷◌, Option, Some, None, Less, Equal, Ordering, length, get_or, map, find, zip, refl, sym, ap, subst, arith, ltb, Global}
+use Rattle.std.proofs.Common.{◌≡◌, ◌∙◌, ℕ, zero, suc, ◌+◌, ◌<◌, inl, inr, Bool, true, false, cond, List, [], ◌∷◌, Option, Some, None, Less, Equal, Ordering, length, get_or, map, find, zip, refl, sym, ap, subst, arith, ltb, Global}
 use Rattle.std.specs.Arc.{arc_value}
 use Rattle.std.specs.declared.sync.Arc.{Arc}
 use Rattle.std.proofs.Math.ListN.{set, replicate}
 use Rattle.std.proofs.lemmas.Bool.{cases_Bool, cases_lt, false≢true}
 use Rattle.std.proofs.lemmas.Bool.Decides.{nat_tests}
-use Rattle.std.proofs.lemmas.List.{get_or_default, get_or-map, get_or-set_same, get_or-set_other, length-set, length-map}
+use Rattle.std.proofs.lemmas.List.{get_or-map, get_or-set_same, length-set, length-map}
 use Rattle.std.proofs.lemmas.List.Quantifiers.{position-Some}
 use Rattle.std.proofs.lemmas.List.Sums.{position_or_len_is, fails_before_first}
 use Rattle.std.proofs.lemmas.Slice.Eq.{bytes_eq-Decides}
-use Rattle.std.specs.Bool.{Decides}
 use Rattle.std.specs.Cmp.Lexicographic.{slice_cmp, texts_ties}
 use Rattle.std.specs.List.{AllAdjacentBelow, position, position_or_len}
 use Rattle.std.specs.Ordering.{nat_cmp, is_eq}
 use Rattle.std.specs.Str.{bytes_eq}
 use Rattle.mib_model.specs.declared.packet.Value.{Value}
-use Rattle.mib_model.specs.Kept.{Kept, Memory, keeping, nothing_kept, empty_memory, entered, has_number}
+use Rattle.mib_model.specs.Kept.{Kept, keeping, nothing_kept, entered, has_number}
 use Rattle.param_plan.specs.Slices.{ParamSlice}
 use Rattle.param_plan.proofs.NameFacts.{below-far, not-named}
 use Rattle.fold_state.specs.declared.slot.Slot.{Slot}
@@ -103,9 +102,9 @@ kept-set board name i s long at = λ j other. each other j where
 
 -- a raw number kept at the place of a value's name is the latest of that name
 pub latest-set : (board : Slots) (v : Value) (i : ℕ) (s t : Slot) → length board.slots ≡ length board.names → place_of board v.name ≡ Some i → s ≡ get_or board.slots i s
-    → t ≡ record s { latest = Some v.raw } → has_number v.shape.sort ≡ true → memory_of (record { names = board.names; slots = set board.slots i t }) ≡ entered (memory_of board) v
+    → kept_as t ≡ record (kept_as s) { latest = Some v.raw } → has_number v.shape.sort ≡ true → memory_of (record { names = board.names; slots = set board.slots i t }) ≡ entered (memory_of board) v
 latest-set board v i s t long at is wrote number =
-    let made : kept_as t ≡ record (memory_of board v.name) { latest = Some v.raw } = ap kept_as wrote ∙ ap (λ (k : Kept). record k { latest = Some v.raw }) (kept-at board v.name i s long at is) in
+    let made : kept_as t ≡ record (memory_of board v.name) { latest = Some v.raw } = wrote ∙ ap (λ (k : Kept). record k { latest = Some v.raw }) (kept-at board v.name i s long at is) in
     rw number (kept-set board v.name i t long at ∙ ap (keeping (memory_of board) v.name) made)
 
 -- names that rise have their place where a search ends

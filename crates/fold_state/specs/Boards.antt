@@ -1,12 +1,11 @@
 -- What a board keeps, as mib_model defines it. [This profile.]
-use Rattle.std.specs.Prelude.{◌≡◌, ℕ, Bool, List, map, filter, Option, Some, None, option_map}
+use Rattle.std.specs.Prelude.{ℕ, ℤ, Bool, List, map, filter, Option, Some, None, if◌then◌else◌}
 use Rattle.std.specs.Arc.{arc_value}
 use Rattle.std.specs.Cmp.Lexicographic.{pointwise}
 use Rattle.std.specs.List.{find, position, zip}
 use Rattle.std.specs.Str.{bytes_eq}
 use Rattle.std.specs.declared.sync.Arc.{Arc}
 use Rattle.std.proofs.Common.{Global}
-use Rattle.check_plan.specs.Samples.{count_of}
 use Rattle.fold_state.specs.declared.slot.Slot.{Slot}
 use Rattle.mib_model.specs.declared.database.Database.{Database}
 use Rattle.mib_model.specs.Kept.{Kept, Memory, nothing_kept}
@@ -19,9 +18,18 @@ pub record Slots : Type 0 where
   pub names : List (List ℕ)
   pub slots : List Slot
 
+-- a number where there is one
+abbrev pub number_if : Bool → ℤ → Option ℤ
+number_if there number = if there then Some number else None
+
 -- what a slot keeps
 abbrev pub kept_as : Slot → Kept
-kept_as slot = record { latest = slot.latest; spoken = slot.alarm.0; run = slot.alarm.1; previous = option_map count_of slot.previous }
+kept_as slot = record {
+  latest = number_if slot.has_latest slot.latest;
+  spoken = slot.alarm.0;
+  run = slot.alarm.1;
+  previous = number_if slot.has_previous slot.previous.count;
+}
 
 -- whether a name is another's octets
 abbrev pub is_name_of : List ℕ → List ℕ → Bool

@@ -124,13 +124,19 @@ impl Board {
         self.guesses.row(spid, count)
     }
 
-    // A number made of what is kept at the places that guesses say.
+    // A number made of the name at a place and of what is kept there.
+    fn touch(&self, at: usize) -> usize {
+        match (self.names.get(at), self.slots.get(at)) {
+            (Some(name), Some(slot)) => name.bytes().len() ^ usize::from(slot.has_previous),
+            _ => 0,
+        }
+    }
+
+    // A number made of the names and slots at the places that guesses say.
     fn touch_slots(&self, places: &[u32]) -> usize {
         let mut seen = 0;
         for place in places {
-            if let Some(slot) = self.slots.get(*place as usize) {
-                seen ^= usize::from(slot.previous.is_some());
-            }
+            seen ^= self.touch(*place as usize);
         }
         seen
     }
@@ -174,7 +180,7 @@ impl Board {
         ensures memory { (v : Value) → place_of self.old v.name ≡ Some at → has_number v.shape.sort ≡ true → v.raw ≡ raw
             → memory_of self.new ≡ Spec.entered (memory_of self.old) v }
     {
-        self.slots[at].latest = Some(raw);
+        self.slots[at].enter(raw);
     }
 
     /// Keeps something else at a place.
@@ -193,7 +199,7 @@ impl Holds for Board {
 
     fn holds(&self, name: Name, number: i128) -> bool {
         match self.place(&name) {
-            Some(at) => self.slot(at).latest == Some(number),
+            Some(at) => self.slot(at).holds(number),
             None => false,
         }
     }

@@ -1,17 +1,24 @@
 // What is kept of a parameter.
-ghost use Rattle.std.specs.Prelude.{◌≡◌};
+ghost use Rattle.std.specs.Prelude.{◌≡◌, Some, option_map};
+ghost use Rattle.std.specs.Option.{option_eq};
+ghost use Rattle.std.specs.Ordering.{int_eq};
+ghost use Rattle.check_plan.specs.Samples.{count_of, sample_of};
+ghost use Rattle.mib_model.specs.Finish.{previous_after};
 ghost use Rattle.mib_model.specs.Kept.{nothing_kept};
 ghost use Rattle.fold_state.specs.Boards.{kept_as};
 
-use check_plan::Alarm;
+use check_plan::{Alarm, Sample};
 use mib_model::Eng;
 
-/// What is kept of a parameter: its latest raw number, its alarm, and its last checked number.
+/// What is kept of a parameter: its latest raw number and its last checked number, where there are such, and its alarm. It
+/// has few octets, since those of many parameters are asked for in any order.
 #[derive(Clone, Copy)]
 pub struct Slot {
-    pub latest: Option<i128>,
+    pub latest: i128,
+    pub previous: Eng,
+    pub has_latest: bool,
+    pub has_previous: bool,
     pub alarm: Alarm,
-    pub previous: Option<Eng>,
 }
 
 impl Slot {
@@ -20,9 +27,47 @@ impl Slot {
         ensures { kept_as result ≡ nothing_kept }
     {
         Slot {
-            latest: None,
+            latest: 0,
+            previous: Eng { count: 0 },
+            has_latest: false,
+            has_previous: false,
             alarm: Alarm::new(),
-            previous: None,
+        }
+    }
+
+    /// Keeps a latest raw number.
+    pub fn enter(&mut self, raw: i128)
+        ensures { kept_as self.new ≡ (record (kept_as self.old) { latest = Some raw }) }
+    {
+        self.latest = raw;
+        self.has_latest = true;
+    }
+
+    /// Whether the latest raw number is this number.
+    pub fn holds(&self, number: i128) -> bool
+        ensures { result ≡ option_eq int_eq (kept_as self.now).latest (Some number) }
+    {
+        self.has_latest && self.latest == number
+    }
+
+    /// The last checked number.
+    pub fn previous(&self) -> Option<Eng>
+        ensures { option_map count_of result ≡ (kept_as self.now).previous }
+    {
+        if self.has_previous {
+            Some(self.previous)
+        } else {
+            None
+        }
+    }
+
+    /// Keeps a checked number, where a sample is one.
+    pub fn check(&mut self, sample: Sample)
+        ensures { kept_as self.new ≡ (record (kept_as self.old) { previous = previous_after (sample_of sample.entry) (kept_as self.old).previous }) }
+    {
+        if let Sample::Number(number) = sample {
+            self.previous = number;
+            self.has_previous = true;
         }
     }
 }

@@ -1,4 +1,4 @@
-use Rattle.std.proofs.Common.{◌≡◌, ◌∙◌, sym, ap}
+use Rattle.std.proofs.Common.{◌∙◌, sym, ap}
 use Rattle.param_plan.specs.Slices.{ParamSlice}
 use Rattle.fold_state.specs.Boards.{kept_as, memory_of}
 use Rattle.fold_state.proofs.CarryFacts.{carried-same, carry-other, carry-same}

@@ -1,4 +1,4 @@
-use Rattle.std.proofs.Common.{◌≡◌, ◌∙◌, List, ℕ, sym, ap}
+use Rattle.std.proofs.Common.{◌∙◌, List, ℕ, sym, ap}
 use Rattle.fold_state.specs.Boards.{memory_of, place_of}
 use Rattle.fold_state.proofs.BoardFacts.{kept-missing}
 use Rattle.fold_state.proofs.CarryFacts.{carry-nothing}

@@ -1,8 +1,4 @@
 use Rattle.std.proofs.Common.{◌≡◌, ◌∙◌, ◌<◌, List, [], ℕ, length, get_or, ap, sym, subst}
-use Rattle.std.proofs.lemmas.List.{get_or_default}
-use Rattle.std.specs.List.{position}
-use Rattle.std.specs.Ordering.{nat_cmp}
-use Rattle.std.specs.Cmp.Lexicographic.{slice_cmp}
 use Rattle.param_plan.proofs.NameFacts.{named-nowhere}
 use Rattle.fold_state.specs.Boards.{Slots, is_name_of, place_of}
 use Rattle.fold_state.proofs.BoardFacts.{place-nowhere, place-risen, name-tied}

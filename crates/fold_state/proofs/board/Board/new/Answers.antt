@@ -1,8 +1,6 @@
-use Rattle.std.proofs.Common.{◌≡◌, ◌∙◌, List, ℕ, length, map, ap, sym, subst, arith}
-use Rattle.std.specs.Arc.{arc_value}
-use Rattle.param_plan.specs.Slices.{ParamSlice}
+use Rattle.std.proofs.Common.{◌∙◌, List, ℕ, ap, sym, subst, arith}
 use Rattle.fold_state.specs.declared.slot.Slot.{Slot}
-use Rattle.fold_state.specs.Boards.{memory_of, plan_name, plan_names}
+use Rattle.fold_state.specs.Boards.{memory_of, plan_names}
 use Rattle.fold_state.specs.Places.{Rise}
 use Rattle.fold_state.proofs.BoardFacts.{kept-none, rise-map, names-behind}
 use Rattle.fold_state.proofs.board.Board.new.Goals as goal

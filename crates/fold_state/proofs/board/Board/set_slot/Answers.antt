@@ -1,4 +1,4 @@
-use Rattle.std.proofs.Common.{◌∙◌, ap, sym, subst, length}
+use Rattle.std.proofs.Common.{◌∙◌, ap}
 use Rattle.mib_model.specs.Kept.{keeping}
 use Rattle.fold_state.specs.Boards.{Slots, kept_as, memory_of, place_of}
 use Rattle.fold_state.proofs.BoardFacts.{kept-set}

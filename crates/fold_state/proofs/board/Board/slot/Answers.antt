@@ -1,5 +1,5 @@
 use Rattle.std.proofs.Common.{◌∙◌, ap}
-use Rattle.fold_state.specs.Boards.{Slots, kept_as, memory_of, place_of}
+use Rattle.fold_state.specs.Boards.{Slots, memory_of, place_of}
 use Rattle.fold_state.proofs.BoardFacts.{kept-at}
 use Rattle.fold_state.proofs.board.Board.slot.Goals as goal
 
