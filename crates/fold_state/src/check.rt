@@ -36,7 +36,7 @@ impl Board {
         ensures checked { (name : List ℕ) → place_of self.old name ≡ Some at
             → (memory_of self.new, result) ≡ checked_in (memory_of self.old) name checks.now (sample_of sample.entry) }
     {
-        let mut slot = self.slot(at);
+        let mut slot = *self.slot(at);
         let class = checks.class_of(sample, slot.previous(), self);
         let change = slot.alarm.step(class, checks.nbchck());
         slot.check(sample);

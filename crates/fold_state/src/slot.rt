@@ -4,14 +4,13 @@ ghost use Rattle.std.specs.Option.{option_eq};
 ghost use Rattle.std.specs.Ordering.{int_eq};
 ghost use Rattle.check_plan.specs.Samples.{count_of, sample_of};
 ghost use Rattle.mib_model.specs.Finish.{previous_after};
-ghost use Rattle.mib_model.specs.Kept.{nothing_kept};
-ghost use Rattle.fold_state.specs.Boards.{kept_as};
+ghost use Rattle.fold_state.specs.Boards.{kept_as, vacant};
 
 use check_plan::{Alarm, Sample};
-use mib_model::Eng;
+use mib_model::{Eng, Name};
 
-/// What is kept of a parameter: its latest raw number and its last checked number, where there are such, and its alarm. It
-/// has few octets, since those of many parameters are asked for in any order.
+/// What is kept of the parameter of a name: its latest raw number and its last checked number, where there are such, and its
+/// alarm. The name lies beside them, and they have few octets, since those of many parameters are asked for in any order.
 #[derive(Clone, Copy)]
 pub struct Slot {
     pub latest: i128,
@@ -19,12 +18,13 @@ pub struct Slot {
     pub has_latest: bool,
     pub has_previous: bool,
     pub alarm: Alarm,
+    pub name: Name,
 }
 
 impl Slot {
-    /// Nothing kept.
-    pub fn new() -> Slot
-        ensures { kept_as result ≡ nothing_kept }
+    /// A slot of a name that keeps nothing.
+    pub fn new(name: Name) -> Slot
+        ensures { result ≡ vacant name }
     {
         Slot {
             latest: 0,
@@ -32,12 +32,25 @@ impl Slot {
             has_latest: false,
             has_previous: false,
             alarm: Alarm::new(),
+            name,
         }
+    }
+
+    /// Keeps what another slot keeps.
+    pub fn keep(&mut self, other: &Slot)
+        ensures kept { kept_as self.new ≡ kept_as other.now }
+        ensures name { self.new.name ≡ self.old.name }
+    {
+        *self = Slot {
+            name: self.name,
+            ..*other
+        };
     }
 
     /// Keeps a latest raw number.
     pub fn enter(&mut self, raw: i128)
-        ensures { kept_as self.new ≡ (record (kept_as self.old) { latest = Some raw }) }
+        ensures kept { kept_as self.new ≡ (record (kept_as self.old) { latest = Some raw }) }
+        ensures name { self.new.name ≡ self.old.name }
     {
         self.latest = raw;
         self.has_latest = true;

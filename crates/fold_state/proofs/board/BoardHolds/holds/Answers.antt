@@ -15,7 +15,7 @@ pub returns-in-Some : goal.returns-in-Some
 returns-in-Some c =
     let kept = c.slot.ensures c.args.name (sym c.place.ensures ∙ c.in-Some.is) in
     let fits : FitsSigned w128 c.args.number = search rules in
-    c.holds.ensures ∙ (ap (λ (n : ℤ). option_eq int_eq (kept_as c.slot.result).latest (Some n)) (to_z-of_z w128 c.args.number fits) ∙
+    c.holds.ensures ∙ (ap (λ (n : ℤ). option_eq int_eq (kept_as c.slot.result.now).latest (Some n)) (to_z-of_z w128 c.args.number fits) ∙
     ap (λ (k : Kept). option_eq int_eq k.latest (Some c.args.number)) kept)
 
 pub returns-in-None : goal.returns-in-None
