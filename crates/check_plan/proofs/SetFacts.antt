@@ -1,7 +1,9 @@
 -- The class by sorted checks is that by the rows.
-use Rattle.std.proofs.Common.{◌≡◌, ℤ, ◌-ℤ◌, Bool, true, false, ◌&&◌, ◌||◌, not, cond, if◌then◌else◌, List, [], ◌∷◌, map, filter, Option, Some, None, Ok, Err, Result, refl, sym, ap, ◌∙◌}
+use Rattle.std.proofs.Common.{◌≡◌, ℕ, ◌+◌, ◌≤◌, ℤ, ◌-ℤ◌, int_lt, Bool, true, false, ◌&&◌, ◌||◌, not, cond, if◌then◌else◌, List, [], ◌∷◌, ◌++◌, length, length-append, append_assoc, take, drop, arith, map, filter, Option, Some, None, Ok, Err, Result, refl, sym, ap, ◌∙◌}
+use Rattle.std.proofs.Math.Seq.{drop-append_seam, take-append_seam}
 use Rattle.std.specs.List.{list_any}
 use Rattle.check_plan.specs.declared.check_set.CheckSet.{CheckSet}
+use Rattle.check_plan.specs.declared.limit.Limit.{Limit}
 use Rattle.mib_model.specs.declared.check.Class.{Class}
 use Rattle.mib_model.specs.declared.check.Class.TheVariants.{Nominal, Hard, Status, Delta, Soft}
 use Rattle.mib_model.specs.declared.number.Dec.{Dec}
@@ -12,8 +14,8 @@ use Rattle.mib_model.specs.declared.rows.OcpRow.{OcpRow}
 use Rattle.mib_model.specs.Checks.{Sample, Numbered, Worded, is_hard, is_status, is_delta, is_soft, applies, is_below, is_above, is_out, violates_limit, violates_delta, is_count_of, agrees_with, class_of}
 use Rattle.mib_model.specs.Decimals.{dec_of}
 use Rattle.mib_model.specs.Kept.{Memory}
-use Rattle.check_plan.specs.CheckSets.{any_outside, any_violated, any_far, is_unexpected, class_in, IsSetOf}
-use Rattle.check_plan.specs.Limits.{bound_count, limit_of, is_under, is_over, is_outside, applies_to}
+use Rattle.check_plan.specs.CheckSets.{any_outside, any_violated, any_far, is_unexpected, class_in, limits_of, IsSetOf}
+use Rattle.check_plan.specs.Limits.{binds, bound_count, limit_of, is_outside, applies_to}
 use Rattle.check_plan.specs.States.{count_read, has_count, state_of, is_in_state, asked_of}
 
 -- what passes among images of the items of a kind
@@ -43,12 +45,12 @@ module _ {Y : Type 0} (h : OcpRow → Y) (kind app : OcpRow → Bool) (g : Y →
       go false e false i o j others = others
 
 -- a bound binds counts as its row's does
-under-same : (b : Bound) (count : ℤ) → is_under (bound_count b) count ≡ is_below b count
+under-same : (b : Bound) (count : ℤ) → (binds b && int_lt count (bound_count b)) ≡ is_below b count
 under-same bound.Empty count = refl
 under-same (bound.Number d) count = refl
 under-same (bound.Words text) count = refl
 
-over-same : (b : Bound) (count : ℤ) → is_over (bound_count b) count ≡ is_above b count
+over-same : (b : Bound) (count : ℤ) → (binds b && int_lt (bound_count b) count) ≡ is_above b count
 over-same bound.Empty count = refl
 over-same (bound.Number d) count = refl
 over-same (bound.Words text) count = refl
@@ -100,6 +102,23 @@ module _ (memory : Memory) (rows : List OcpRow) where
       let agreed = any-mapped state_of is_status (applies memory) (asked_of memory) (λ row. refl) (is_in_state sample) (λ row. agrees_with sample row.lvalu) (state-same sample) rows in
       λ i. asked i && not (agreed i)
 
+-- three lists behind each other
+module _ {X : Type 0} (xs ys zs all : List X) (one : all ≡ xs ++ ys ++ zs) where
+  front : all ≡ xs ++ (ys ++ zs)
+  front = one ∙ append_assoc xs ys zs
+
+  behind : drop (length xs) all ≡ ys ++ zs
+  behind = ap (drop (length xs)) front ∙ drop-append_seam xs (ys ++ zs)
+
+  pub first-part : (m : ℕ) → m ≡ length xs → take m all ≡ xs
+  first-part m is = (λ i. take (is i) (front i)) ∙ take-append_seam xs (ys ++ zs)
+
+  pub second-part : (m n : ℕ) → m ≡ length xs → n ≡ length ys → take n (drop m all) ≡ ys
+  second-part m n is two = (λ i. take (two i) (drop (is i) all)) ∙ (ap (take (length ys)) behind ∙ take-append_seam ys zs)
+
+  pub third-part : (m n : ℕ) → m ≡ length xs → n ≡ length ys → drop n (drop m all) ≡ zs
+  third-part m n is two = (λ i. drop (two i) (drop (is i) all)) ∙ (ap (drop (length ys)) behind ∙ drop-append_seam ys zs)
+
 -- the first that holds of four
 abbrev first_class : Bool → Bool → Bool → Bool → Class
 first_class hard status delta soft = if hard then Hard else if status then Status else if delta then Delta else if soft then Soft else Nominal
@@ -107,8 +126,22 @@ first_class hard status delta soft = if hard then Hard else if status then Statu
 pub class-same : (set : CheckSet) (rows : List OcpRow) → IsSetOf set rows → (sample : Sample) (previous : Option ℤ) (memory : Memory) → class_in memory set sample previous ≡ class_of rows sample previous memory
 unfolding class_of
 class-same set rows is sample previous memory =
-    let hard = ap (any_violated memory sample) is.hard ∙ violated-same memory rows is_hard sample in
+    let hards = first-part (limits_of is_hard rows) (limits_of is_delta rows) (limits_of is_soft rows) set.limits.items is.limits set.hard is.hard in
+    let deltas = second-part (limits_of is_hard rows) (limits_of is_delta rows) (limits_of is_soft rows) set.limits.items is.limits set.hard set.deltas is.hard is.deltas in
+    let softs = third-part (limits_of is_hard rows) (limits_of is_delta rows) (limits_of is_soft rows) set.limits.items is.limits set.hard set.deltas is.hard is.deltas in
+    let hard = ap (any_violated memory sample) hards ∙ violated-same memory rows is_hard sample in
     let status = ap (is_unexpected memory sample) is.states ∙ unexpected-same memory rows sample in
-    let delta = ap (any_far memory previous sample) is.deltas ∙ far-same memory rows is_delta previous sample in
-    let soft = ap (any_violated memory sample) is.soft ∙ violated-same memory rows is_soft sample in
+    let delta = ap (any_far memory previous sample) deltas ∙ far-same memory rows is_delta previous sample in
+    let soft = ap (any_violated memory sample) softs ∙ violated-same memory rows is_soft sample in
     λ i. first_class (hard i) (status i) (delta i) (soft i)
+
+-- so many hard limits and deltas lie among the limits
+pub counts-within : (set : CheckSet) (rows : List OcpRow) → IsSetOf set rows → set.hard + set.deltas ≤ length set.limits.items
+counts-within set rows is =
+    let hards = limits_of is_hard rows in
+    let deltas = limits_of is_delta rows in
+    let softs = limits_of is_soft rows in
+    let long : length set.limits.items ≡ length (hards ++ deltas ++ softs) = ap (λ (limits : List Limit). length limits) is.limits in
+    let one : length (hards ++ deltas ++ softs) ≡ length (hards ++ deltas) + length softs = simp length-append in
+    let two : length (hards ++ deltas) ≡ length hards + length deltas = simp length-append in
+    omega (arith, is.hard, is.deltas, long, one, two)

@@ -1,5 +1,5 @@
 -- The class of a sample by checks that are sorted by their types. [SCOS-2000 Database Import ICD, ocp.]
-use Rattle.std.specs.Prelude.{◌≡◌, ℤ, ◌-ℤ◌, Bool, false, ◌&&◌, not, if◌then◌else◌, List, map, filter, Option, Some, None}
+use Rattle.std.specs.Prelude.{◌≡◌, ℤ, ◌-ℤ◌, Bool, false, ◌&&◌, not, if◌then◌else◌, List, ◌++◌, length, take, drop, map, filter, Option, Some, None}
 use Rattle.std.specs.List.{list_any}
 use Rattle.check_plan.specs.declared.check_set.CheckSet.{CheckSet}
 use Rattle.check_plan.specs.declared.limit.Limit.{Limit}
@@ -32,18 +32,32 @@ abbrev pub is_unexpected : Memory → Sample → List State → Bool
 is_unexpected memory sample states =
     list_any (asked_of memory) states && not (list_any (λ state. is_in_state sample state && asked_of memory state) states)
 
+-- the hard limits, the deltas and the soft limits, which lie in this order
+abbrev pub hard_in : CheckSet → List Limit
+hard_in set = take set.hard set.limits.items
+
+abbrev pub deltas_in : CheckSet → List Limit
+deltas_in set = take set.deltas (drop set.hard set.limits.items)
+
+abbrev pub soft_in : CheckSet → List Limit
+soft_in set = drop set.deltas (drop set.hard set.limits.items)
+
 -- the class of a sample
 abbrev pub class_in : Memory → CheckSet → Sample → Option ℤ → Class
 class_in memory set sample previous =
-    if any_violated memory sample set.hard.items then Hard
+    if any_violated memory sample (hard_in set) then Hard
     else if is_unexpected memory sample set.states.items then Status
-    else if any_far memory previous sample set.deltas.items then Delta
-    else if any_violated memory sample set.soft.items then Soft
+    else if any_far memory previous sample (deltas_in set) then Delta
+    else if any_violated memory sample (soft_in set) then Soft
     else Nominal
+
+-- the limits of the rows of a type
+abbrev pub limits_of : (OcpRow → Bool) → List OcpRow → List Limit
+limits_of sort ocps = map limit_of (filter sort ocps)
 
 -- the checks of rows, by their types
 pub record IsSetOf (set : CheckSet) (ocps : List OcpRow) : Type 0 where
-  pub hard : set.hard.items ≡ map limit_of (filter is_hard ocps)
+  pub hard : set.hard ≡ length (limits_of is_hard ocps)
+  pub deltas : set.deltas ≡ length (limits_of is_delta ocps)
+  pub limits : set.limits.items ≡ limits_of is_hard ocps ++ limits_of is_delta ocps ++ limits_of is_soft ocps
   pub states : set.states.items ≡ map state_of (filter is_status ocps)
-  pub deltas : set.deltas.items ≡ map limit_of (filter is_delta ocps)
-  pub soft : set.soft.items ≡ map limit_of (filter is_soft ocps)

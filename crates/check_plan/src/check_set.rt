@@ -1,5 +1,5 @@
 // The checks of a parameter by their types.
-ghost use Rattle.std.specs.Prelude.{◌≡◌, option_map, IfOk};
+ghost use Rattle.std.specs.Prelude.{◌≡◌, ◌≤◌, ◌+◌, length, option_map, IfOk};
 ghost use Rattle.check_plan.specs.CheckSets.{any_violated, any_far, is_unexpected, class_in, IsSetOf};
 ghost use Rattle.check_plan.specs.Samples.{count_of, sample_of};
 
@@ -10,13 +10,14 @@ use crate::state::{State, any_agrees, any_applies, states_of};
 use mib_model::{Class, Eng, OcpRow};
 use std::alloc::{AllocError, Global};
 
-/// The limits, states and deltas of a parameter, each in the order of the rows.
+/// The limits and states of a parameter, each type in the order of the rows: so many hard limits, so many deltas, and the
+/// soft limits lie together.
 #[derive(Drop)]
 pub struct CheckSet {
-    hard: Vec<Limit>,
+    hard: usize,
+    deltas: usize,
+    limits: Vec<Limit>,
     states: Vec<State>,
-    deltas: Vec<Limit>,
-    soft: Vec<Limit>,
 }
 
 // Whether a sample is a number outside one of the limits that apply.
@@ -46,51 +47,53 @@ fn is_unexpected<K: Holds>(states: &[State], sample: Sample, kept: &K) -> bool
     any_applies(states, kept) && !any_agrees(states, sample, kept)
 }
 
-// A number made of a first limit.
-fn touch(limits: &[Limit]) -> usize {
-    match limits.first() {
+// A number made of a limit, if there is one.
+fn touch(limit: Option<&Limit>) -> usize {
+    match limit {
         Some(limit) => limit.touch(),
         None => 0,
     }
 }
 
-// A number made of a first state.
-fn touch_state(states: &[State]) -> usize {
-    match states.first() {
-        Some(state) => state.touch(),
-        None => 0,
-    }
-}
-
 impl CheckSet {
-    /// A number made of the first checks.
+    /// A number made of the first limit and the last.
     pub fn touch(&self) -> usize {
-        touch(&self.hard) ^ touch_state(&self.states) ^ touch(&self.soft)
+        touch(self.limits.first()) ^ touch(self.limits.last())
     }
 
     /// Sorts rows of ocp by their types.
     pub fn compile(alloc: Global, ocps: &[OcpRow]) -> Result<CheckSet, AllocError>
         ensures { IfOk result (λ set. IsSetOf set ocps.now) }
     {
+        let mut limits = limits_of(alloc, ocps, b'H')?;
+        let mut deltas = limits_of(alloc, ocps, b'D')?;
+        let mut soft = limits_of(alloc, ocps, b'S')?;
+        let states = states_of(alloc, ocps)?;
+        let counts = (limits.len(), deltas.len());
+        limits.append(&mut deltas)?;
+        limits.append(&mut soft)?;
         Ok(CheckSet {
-            hard: limits_of(alloc, ocps, b'H')?,
-            states: states_of(alloc, ocps)?,
-            deltas: limits_of(alloc, ocps, b'D')?,
-            soft: limits_of(alloc, ocps, b'S')?,
+            hard: counts.0,
+            deltas: counts.1,
+            limits,
+            states,
         })
     }
 
     /// The class of a sample: the first that holds of Hard, Status, Delta and Soft, else Nominal.
     pub fn class_of<K: Holds>(&self, sample: Sample, previous: Option<Eng>, kept: &K) -> Class
+        requires { self.now.hard + self.now.deltas ≤ length self.now.limits.items }
         ensures { result ≡ class_in (K.memory kept.now) self.now (sample_of sample.entry) (option_map count_of previous) }
     {
-        if is_out_of(&self.hard, sample, kept) {
+        let (hard, others) = self.limits.split_at(self.hard);
+        let (deltas, soft) = others.split_at(self.deltas);
+        if is_out_of(hard, sample, kept) {
             Class::Hard
         } else if is_unexpected(&self.states, sample, kept) {
             Class::Status
-        } else if is_far(&self.deltas, sample, previous, kept) {
+        } else if is_far(deltas, sample, previous, kept) {
             Class::Delta
-        } else if is_out_of(&self.soft, sample, kept) {
+        } else if is_out_of(soft, sample, kept) {
             Class::Soft
         } else {
             Class::Nominal

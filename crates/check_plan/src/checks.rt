@@ -10,15 +10,18 @@ use std::alloc::{AllocError, Global};
 use std::marker::Model;
 use std::snapshot::Snapshot;
 
-/// The check of a parameter and its limits, compiled. Contracts see the rows.
+/// The check of a parameter and its limits, compiled. What is asked of it for each sample stands first. Contracts see the rows.
 #[derive(Drop)]
 pub struct Checks {
-    ocf: OcfRow,
+    inter: u8,
+    nbchck: u8,
     set: CheckSet,
+    ocf: OcfRow,
     ocps: Snapshot<Vec<OcpRow>>,
 }
 
 impl Model for Checks {
+    ghost use Rattle.std.specs.Prelude.{◌≡◌};
     ghost use Rattle.check_plan.specs.CheckSets.{IsSetOf};
     ghost use Rattle.check_plan.specs.Rows.{CheckRows};
 
@@ -26,7 +29,7 @@ impl Model for Checks {
 
     ghost view = { λ checks. record { ocf = checks.ocf; ocps = checks.ocps.value.items } };
 
-    ghost invariant = { λ checks. IsSetOf checks.set checks.ocps.value.items };
+    ghost invariant = { λ checks. (checks.inter ≡ checks.ocf.inter) × (checks.nbchck ≡ checks.ocf.nbchck) × IsSetOf checks.set checks.ocps.value.items };
 }
 
 impl Checks {
@@ -36,13 +39,15 @@ impl Checks {
     {
         let rows = Vec::from_slice(alloc, ocps)?;
         Ok(Checks {
-            ocf: *ocf,
+            inter: ocf.inter,
+            nbchck: ocf.nbchck,
             set: CheckSet::compile(alloc, &rows)?,
+            ocf: *ocf,
             ocps: Snapshot::of(&rows),
         })
     }
 
-    /// A number made of the first checks: who asks for it early has them at hand when a sample is classed.
+    /// A number made of limits: who asks for it early has them at hand when a sample is classed.
     pub fn touch(&self) -> usize {
         self.set.touch()
     }
@@ -52,6 +57,20 @@ impl Checks {
         ensures { result.now ≡ self.now.ocf }
     {
         &self.ocf
+    }
+
+    /// Which number of a value is checked: `U` is the raw one (SCOS-2000 Database Import ICD, ocf).
+    pub fn inter(&self) -> u8
+        ensures { result ≡ self.now.ocf.inter }
+    {
+        self.inter
+    }
+
+    /// How many samples out of limits in a row are told.
+    pub fn nbchck(&self) -> u8
+        ensures { result ≡ self.now.ocf.nbchck }
+    {
+        self.nbchck
     }
 
     /// The class of a sample, with the last checked number of the parameter and what is kept of raw numbers (SCOS-2000

@@ -1,30 +1,39 @@
 // Limits and deltas.
-ghost use Rattle.std.specs.Prelude.{◌≡◌, ◌-ℤ◌, ◌==◌, ◌&&◌, ◌||◌, map, filter, IfOk};
+ghost use Rattle.std.specs.Prelude.{◌≡◌, ◌-ℤ◌, ◌==◌, ◌&&◌, int_lt, map, filter, IfOk};
 ghost use Rattle.std.specs.List.{list_any};
-ghost use Rattle.mib_model.specs.Kept.{is_met as met};
-ghost use Rattle.check_plan.specs.Limits.{bound_count, limit_of, is_under, is_over, is_outside, applies_to};
+ghost use Rattle.check_plan.specs.Limits.{binds, bound_count, limit_of, is_outside, applies_to};
 
 use crate::condition::{Holds, is_met};
 use dec_num::eng_of;
-use mib_model::{Bound, Eng, Name, OcpRow};
+use mib_model::{Bound, Name, OcpRow};
 use std::alloc::{AllocError, Global};
 
-/// A limit of a count, or of the step from the count before. A bound that isn't there doesn't bind.
+/// A limit of a count, or of the step from the count before. A bound that isn't there doesn't bind. The condition, which is
+/// asked only outside the bounds, lies behind them.
 #[derive(Clone, Copy)]
 pub struct Limit {
-    low: Option<Eng>,
-    high: Option<Eng>,
+    low: i128,
+    high: i128,
+    has_low: bool,
+    has_high: bool,
     rlchk: Option<Name>,
     valpar: i128,
 }
 
-// The count of a bound that binds counts.
-fn bound_count(bound: &Bound) -> Option<Eng>
+// Whether a bound binds counts.
+fn binds(bound: &Bound) -> bool
+    ensures { result ≡ binds bound.now }
+{
+    matches!(bound, Bound::Number(_))
+}
+
+// The count of a bound, 0 where it doesn't bind counts.
+fn bound_count(bound: &Bound) -> i128
     ensures { result ≡ bound_count bound.now }
 {
     match bound {
-        Bound::Number(d) => Some(eng_of(*d)),
-        _ => None,
+        Bound::Number(d) => eng_of(*d).count,
+        _ => 0,
     }
 }
 
@@ -34,6 +43,8 @@ fn limit_of(row: &OcpRow) -> Limit
     Limit {
         low: bound_count(&row.lvalu),
         high: bound_count(&row.hvalu),
+        has_low: binds(&row.lvalu),
+        has_high: binds(&row.hvalu),
         rlchk: row.rlchk,
         valpar: row.valpar,
     }
@@ -49,46 +60,22 @@ pub fn limits_of(alloc: Global, ocps: &[OcpRow], sort: u8) -> Result<Vec<Limit>,
         .collect(alloc)
 }
 
-fn is_under(bound: Option<Eng>, count: i128) -> bool
-    ensures { result ≡ is_under bound count }
+// Whether the step from one count to another is below a count, also where it passes 128 bits.
+fn is_step_below(low: i128, from: i128, to: i128) -> bool
+    ensures { result ≡ int_lt (to -ℤ from) low }
 {
-    match bound {
-        Some(low) => count < low.count,
-        None => false,
-    }
-}
-
-fn is_over(bound: Option<Eng>, count: i128) -> bool
-    ensures { result ≡ is_over bound count }
-{
-    match bound {
-        Some(high) => high.count < count,
-        None => false,
-    }
-}
-
-// Whether the step from one count to another is below a bound, also where it passes 128 bits.
-fn is_step_under(bound: Option<Eng>, from: i128, to: i128) -> bool
-    ensures { result ≡ is_under bound (to -ℤ from) }
-{
-    let Some(low) = bound else {
-        return false;
-    };
     match to.checked_sub(from) {
-        Some(step) => step < low.count,
+        Some(step) => step < low,
         None => to < from,
     }
 }
 
-// Whether the step from one count to another is above a bound, also where it passes 128 bits.
-fn is_step_over(bound: Option<Eng>, from: i128, to: i128) -> bool
-    ensures { result ≡ is_over bound (to -ℤ from) }
+// Whether the step from one count to another is above a count, also where it passes 128 bits.
+fn is_step_above(high: i128, from: i128, to: i128) -> bool
+    ensures { result ≡ int_lt high (to -ℤ from) }
 {
-    let Some(high) = bound else {
-        return false;
-    };
     match to.checked_sub(from) {
-        Some(step) => high.count < step,
+        Some(step) => high < step,
         None => from < to,
     }
 }
@@ -96,19 +83,20 @@ fn is_step_over(bound: Option<Eng>, from: i128, to: i128) -> bool
 impl Limit {
     /// A number made of its bounds.
     pub fn touch(&self) -> usize {
-        usize::from(self.low.is_some() ^ self.high.is_some())
+        usize::from(self.low < 0) ^ usize::from(self.has_high)
     }
 
     fn is_outside(&self, count: i128) -> bool
         ensures { result ≡ is_outside self.now count }
     {
-        is_under(self.low, count) || is_over(self.high, count)
+        (self.has_low && count < self.low) || (self.has_high && self.high < count)
     }
 
     fn is_step_outside(&self, from: i128, to: i128) -> bool
         ensures { result ≡ is_outside self.now (to -ℤ from) }
     {
-        is_step_under(self.low, from, to) || is_step_over(self.high, from, to)
+        (self.has_low && is_step_below(self.low, from, to))
+            || (self.has_high && is_step_above(self.high, from, to))
     }
 
     fn applies<K: Holds>(&self, kept: &K) -> bool

@@ -56,11 +56,6 @@ pub fn states_of(alloc: Global, ocps: &[OcpRow]) -> Result<Vec<State>, AllocErro
 }
 
 impl State {
-    /// A number made of what is expected.
-    pub fn touch(&self) -> usize {
-        usize::from(self.text.is_some() ^ self.count.is_some())
-    }
-
     fn agrees(&self, sample: Sample) -> bool
         ensures { result ≡ is_in_state (sample_of sample.entry) self.now }
     {

@@ -1,25 +1,24 @@
 -- What is kept beside a name, by its place among the names.
-use Rattle.std.proofs.Common.{◌≡◌, ◌∙◌, ℕ, zero, suc, ◌+◌, ◌<◌, ◌≤◌, inl, inr, Bool, true, false, cond, List, [], ◌∷◌, Option, Some, None, Less, Equal, Ordering, length, get_or, map, find, zip, refl, sym, ap, subst, arith, ltb, Global}
+use Rattle.std.proofs.Common.{◌≡◌, ◌∙◌, ℕ, zero, suc, ◌+◌, ◌<◌, inl, inr, Bool, true, false, cond, List, [], ◌∷◌, Option, Some, None, Less, Equal, Ordering, length, get_or, map, find, zip, refl, sym, ap, subst, arith, ltb, Global}
 use Rattle.std.specs.Arc.{arc_value}
 use Rattle.std.specs.declared.sync.Arc.{Arc}
-use Rattle.std.proofs.Math.ListN.{set, replicate}
+use Rattle.std.proofs.Math.ListN.{set}
 use Rattle.std.proofs.lemmas.Bool.{cases_Bool, cases_lt, false≢true}
 use Rattle.std.proofs.lemmas.Bool.Decides.{nat_tests}
-use Rattle.std.proofs.lemmas.List.{get_or_default, get_or-map, get_or-set_same, get_or-set_other, length-set, length-map}
+use Rattle.std.proofs.lemmas.List.{get_or-map, get_or-set_same, length-set, length-map}
 use Rattle.std.proofs.lemmas.List.Quantifiers.{position-Some}
 use Rattle.std.proofs.lemmas.List.Sums.{position_or_len_is, fails_before_first}
 use Rattle.std.proofs.lemmas.Slice.Eq.{bytes_eq-Decides}
-use Rattle.std.specs.Bool.{Decides}
 use Rattle.std.specs.Cmp.Lexicographic.{slice_cmp, texts_ties}
 use Rattle.std.specs.List.{AllAdjacentBelow, position, position_or_len}
 use Rattle.std.specs.Ordering.{nat_cmp, is_eq}
 use Rattle.std.specs.Str.{bytes_eq}
 use Rattle.mib_model.specs.declared.packet.Value.{Value}
-use Rattle.mib_model.specs.Kept.{Kept, Memory, keeping, nothing_kept, empty_memory, entered, has_number}
+use Rattle.mib_model.specs.Kept.{Kept, keeping, nothing_kept, entered, has_number}
 use Rattle.param_plan.specs.Slices.{ParamSlice}
 use Rattle.param_plan.proofs.NameFacts.{below-far, not-named}
 use Rattle.fold_state.specs.declared.slot.Slot.{Slot}
-use Rattle.fold_state.specs.Boards.{Slots, kept_as, is_name_of, kept_beside, memory_of, place_of, plan_name, plan_names}
+use Rattle.fold_state.specs.Boards.{Slots, board_of, kept_as, is_name_of, kept_beside, memory_of, place_of, plan_name, plan_names, slot_name, vacant_for}
 use Rattle.fold_state.specs.Places.{Rise}
 
 module _ {X : Type 0} (p : X → Bool) where
@@ -103,9 +102,9 @@ kept-set board name i s long at = λ j other. each other j where
 
 -- a raw number kept at the place of a value's name is the latest of that name
 pub latest-set : (board : Slots) (v : Value) (i : ℕ) (s t : Slot) → length board.slots ≡ length board.names → place_of board v.name ≡ Some i → s ≡ get_or board.slots i s
-    → t ≡ record s { latest = Some v.raw } → has_number v.shape.sort ≡ true → memory_of (record { names = board.names; slots = set board.slots i t }) ≡ entered (memory_of board) v
+    → kept_as t ≡ record (kept_as s) { latest = Some v.raw } → has_number v.shape.sort ≡ true → memory_of (record { names = board.names; slots = set board.slots i t }) ≡ entered (memory_of board) v
 latest-set board v i s t long at is wrote number =
-    let made : kept_as t ≡ record (memory_of board v.name) { latest = Some v.raw } = ap kept_as wrote ∙ ap (λ (k : Kept). record k { latest = Some v.raw }) (kept-at board v.name i s long at is) in
+    let made : kept_as t ≡ record (memory_of board v.name) { latest = Some v.raw } = wrote ∙ ap (λ (k : Kept). record k { latest = Some v.raw }) (kept-at board v.name i s long at is) in
     rw number (kept-set board v.name i t long at ∙ ap (keeping (memory_of board) v.name) made)
 
 -- names that rise have their place where a search ends
@@ -127,13 +126,46 @@ rise-map (s ∷ slices) up = λ k d below.
     (subst (λ (x : List ℕ). slice_cmp nat_cmp x (name (get_or all (k + 1) s)) ≡ Less) (sym here) (up k s (omega (arith, below, long))))
 
 -- nothing is kept where each slot keeps nothing
-pub kept-none : (names : List (List ℕ)) (n : ℕ) (slot : Slot) (name : List ℕ) → kept_as slot ≡ nothing_kept → memory_of (record { names = names; slots = replicate n slot }) name ≡ nothing_kept
-kept-none [] n slot name none = refl
-kept-none (m ∷ names) zero slot name none = refl
-kept-none (m ∷ names) (suc n) slot name none = elim (cases_Bool (is_name_of name m)) [
-  | inl equal ↦ rw equal none
-  | inr apart ↦ rw apart (kept-none names n slot name none)
+pub kept-none : (plans : List (Arc ParamSlice Global)) (name : List ℕ) → memory_of (board_of (map vacant_for plans)) name ≡ nothing_kept
+kept-none [] name = refl
+kept-none (plan ∷ plans) name = elim (cases_Bool (is_name_of name (plan_name plan))) [
+  | inl equal ↦ rw equal refl
+  | inr apart ↦ rw apart (kept-none plans name)
 ]
+
+-- slots for plans have their names
+pub names-vacant : (plans : List (Arc ParamSlice Global)) → map slot_name (map vacant_for plans) ≡ plan_names (map arc_value plans)
+names-vacant [] = refl
+names-vacant (plan ∷ plans) = ap (λ (names : List (List ℕ)). plan_name plan ∷ names) (names-vacant plans)
+
+-- there are as many slots as names
+pub slots-long : (slots : List Slot) → length slots ≡ length (map slot_name slots)
+slots-long slots = sym (simp length-map)
+
+-- a place of a board is one of its slots
+pub slot-within : (slots : List Slot) (board : Slots) (i : ℕ) → board_of slots ≡ board → i < length board.names → i < length slots
+slot-within slots board i is below =
+    let long = slots-long slots in
+    let same : length (map slot_name slots) ≡ length board.names = ap (λ (b : Slots). length b.names) is in
+    omega (arith, long, same, below)
+
+-- a slot at a place has the name there
+pub name-at : (slots : List Slot) (i : ℕ) (s : Slot) → i < length slots → s ≡ get_or slots i s → get_or (map slot_name slots) i [] ≡ s.name
+name-at slots i s below is = get_or-map slot_name slots i s [] below ∙ ap slot_name (sym is)
+
+-- a slot of the same name in place of one leaves the names
+pub names-set : (slots : List Slot) (i : ℕ) (s t : Slot) → i < length slots → s ≡ get_or slots i s → t.name ≡ s.name → map slot_name (set slots i t) ≡ map slot_name slots
+names-set [] i s t below is same = absurd (omega (arith, below))
+names-set (x ∷ slots) zero s t below is same = ap (λ (name : List ℕ). name ∷ map slot_name slots) (same ∙ ap slot_name is)
+names-set (x ∷ slots) (suc i) s t below is same = ap (λ (names : List (List ℕ)). x.name ∷ names) (names-set slots i s t (omega (arith, below)) is same)
+
+abbrev with_names : List (List ℕ) → List Slot → Slots
+with_names names slots = record { names = names; slots = slots }
+
+-- the board with a slot of the same name in place of one
+pub board-set : (slots : List Slot) (i : ℕ) (s t : Slot) → i < length slots → s ≡ get_or slots i s → t.name ≡ s.name
+    → board_of (set slots i t) ≡ record { names = map slot_name slots; slots = set slots i t }
+board-set slots i s t below is same = ap (λ (names : List (List ℕ)). with_names names (set slots i t)) (names-set slots i s t below is same)
 
 -- a place that isn't there is that of no name
 pub nowhere : (p : List ℕ → Bool) (names : List (List ℕ)) → position p names ≡ None → (k : ℕ) → k < length names → p (get_or names k []) ≡ false
@@ -157,8 +189,3 @@ equal-is r e = ap is_eq e
 -- names that are neither less nor greater are equal
 pub name-tied : (x y : List ℕ) → slice_cmp nat_cmp x y ≡ Equal → x ≡ y
 name-tied x y tied = same-name x y (texts_ties x y ∙ equal-is _ tied)
-
--- the names of plans behind handles
-pub names-behind : (plans : List (Arc ParamSlice Global)) → map plan_name plans ≡ plan_names (map arc_value plans)
-names-behind [] = refl
-names-behind (plan ∷ plans) = ap (λ (names : List (List ℕ)). plan_name plan ∷ names) (names-behind plans)

@@ -1,23 +1,20 @@
 -- A finished value by the slice of its parameter.
-use Rattle.std.proofs.Common.{◌≡◌, ◌∙◌, ℕ, zero, suc, ◌<◌, Bool, true, false, cond, List, [], ◌∷◌, ◌++◌, Option, Some, None, option_map, option_and_then, length, get_or, map, find, refl, sym, ap, subst, arith, inl, inr, append_assoc, append-nil, Global, IsSome, All}
+use Rattle.std.proofs.Common.{◌≡◌, ◌∙◌, ℕ, zero, suc, ◌<◌, Bool, true, false, cond, List, [], ◌∷◌, ◌++◌, Option, Some, None, option_map, option_and_then, length, get_or, map, find, refl, sym, ap, subst, arith, append_assoc, append-nil, Global, IsSome, All}
 use Rattle.std.proofs.lemmas.List.Concat.{flat_map-append}
 use Rattle.std.specs.Arc.{arc_value}
 use Rattle.std.specs.declared.sync.Arc.{Arc}
-use Rattle.std.proofs.lemmas.Bool.{cases_Bool}
 use Rattle.std.proofs.lemmas.List.{get_or-map, length-map}
 use Rattle.std.proofs.lemmas.List.Quantifiers.{position-Some}
 use Rattle.std.proofs.lemmas.Slice.Eq.{bytes_eq-Decides}
 use Rattle.std.specs.List.{flat_map, position}
 use Rattle.std.specs.Str.{bytes_eq}
-use Rattle.mib_model.specs.declared.check.Change.{Change}
 use Rattle.mib_model.specs.declared.database.Database.{Database}
 use Rattle.mib_model.specs.declared.packet.Value.{Value}
-use Rattle.mib_model.specs.declared.rows.OcfRow.{OcfRow}
 use Rattle.mib_model.specs.declared.rows.PcfRow.{PcfRow}
 use Rattle.mib_model.specs.Calibrated.{Calibrated}
 use Rattle.mib_model.specs.Carry.{check_of}
 use Rattle.mib_model.specs.Checks.{checks_of}
-use Rattle.mib_model.specs.Curves.{curve_of, calibration}
+use Rattle.mib_model.specs.Curves.{calibration}
 use Rattle.mib_model.specs.Finish.{Checked, Finished, is_valid, given_for, tail_for, checked_by, told, finished_by, finished, all_finished, in_front}
 use Rattle.mib_model.specs.Kept.{Memory, has_number}
 use Rattle.mib_model.specs.Parameters.{parameter}

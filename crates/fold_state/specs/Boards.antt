@@ -1,12 +1,11 @@
 -- What a board keeps, as mib_model defines it. [This profile.]
-use Rattle.std.specs.Prelude.{◌≡◌, ℕ, Bool, List, map, filter, Option, Some, None, option_map}
+use Rattle.std.specs.Prelude.{ℕ, ℤ, Bool, List, map, filter, Option, Some, None, if◌then◌else◌, pos, false}
 use Rattle.std.specs.Arc.{arc_value}
 use Rattle.std.specs.Cmp.Lexicographic.{pointwise}
 use Rattle.std.specs.List.{find, position, zip}
 use Rattle.std.specs.Str.{bytes_eq}
 use Rattle.std.specs.declared.sync.Arc.{Arc}
 use Rattle.std.proofs.Common.{Global}
-use Rattle.check_plan.specs.Samples.{count_of}
 use Rattle.fold_state.specs.declared.slot.Slot.{Slot}
 use Rattle.mib_model.specs.declared.database.Database.{Database}
 use Rattle.mib_model.specs.Kept.{Kept, Memory, nothing_kept}
@@ -19,9 +18,37 @@ pub record Slots : Type 0 where
   pub names : List (List ℕ)
   pub slots : List Slot
 
+-- a number where there is one
+abbrev pub number_if : Bool → ℤ → Option ℤ
+number_if there number = if there then Some number else None
+
 -- what a slot keeps
 abbrev pub kept_as : Slot → Kept
-kept_as slot = record { latest = slot.latest; spoken = slot.alarm.0; run = slot.alarm.1; previous = option_map count_of slot.previous }
+kept_as slot = record {
+  latest = number_if slot.has_latest slot.latest;
+  spoken = slot.alarm.0;
+  run = slot.alarm.1;
+  previous = number_if slot.has_previous slot.previous.count;
+}
+
+-- the name of a slot
+abbrev pub slot_name : Slot → List ℕ
+slot_name slot = slot.name
+
+-- a slot of a name that keeps nothing
+abbrev pub vacant : List ℕ → Slot
+vacant name = record {
+  latest = pos 0;
+  previous = record { count = pos 0 };
+  has_latest = false;
+  has_previous = false;
+  alarm = (None, 0);
+  name = name;
+}
+
+-- slots with their names
+abbrev pub board_of : List Slot → Slots
+board_of slots = record { names = map slot_name slots; slots = slots }
 
 -- whether a name is another's octets
 abbrev pub is_name_of : List ℕ → List ℕ → Bool
@@ -43,6 +70,10 @@ place_of board name = position (is_name_of name) board.names
 -- the name of a plan behind a handle
 abbrev pub plan_name : Arc ParamSlice Global → List ℕ
 plan_name plan = (arc_value plan).pcf.name
+
+-- the slot of a plan behind a handle that keeps nothing
+abbrev pub vacant_for : Arc ParamSlice Global → Slot
+vacant_for plan = vacant (plan_name plan)
 
 -- the names of plans
 abbrev pub plan_names : List ParamSlice → List (List ℕ)

@@ -13,7 +13,7 @@ fn touch_plans(plans: &[Arc<Param>], places: &[u32]) -> usize {
     seen
 }
 
-// Their curves and checks.
+// Their curves and limits.
 fn touch_parts(plans: &[Arc<Param>], places: &[u32]) -> usize {
     let mut seen = 0;
     for place in places {
@@ -24,18 +24,7 @@ fn touch_parts(plans: &[Arc<Param>], places: &[u32]) -> usize {
     seen
 }
 
-// The points and ranges of their curves.
-fn touch_curves(plans: &[Arc<Param>], places: &[u32]) -> usize {
-    let mut seen = 0;
-    for place in places {
-        if let Some(plan) = plans.get(*place as usize) {
-            seen ^= plan.touch_curve();
-        }
-    }
-    seen
-}
-
 /// Reads ahead what finishing will ask of the plans at these places. The number that it gives says nothing.
 pub fn read_ahead(plans: &[Arc<Param>], places: &[u32]) -> usize {
-    touch_plans(plans, places) ^ touch_parts(plans, places) ^ touch_curves(plans, places)
+    touch_plans(plans, places) ^ touch_parts(plans, places)
 }

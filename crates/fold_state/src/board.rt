@@ -2,7 +2,7 @@ ghost use Rattle.std.specs.Prelude.{◌≡◌, ◌<◌, [], List, ℕ, Some, get
 ghost use Rattle.mib_model.specs.Kept as Spec;
 ghost use Rattle.mib_model.specs.Kept.{has_number};
 ghost use Rattle.mib_model.specs.declared.packet.Value.{Value};
-ghost use Rattle.fold_state.specs.Boards.{kept_as, memory_of, place_of, plan_name, plan_names};
+ghost use Rattle.fold_state.specs.Boards.{kept_as, memory_of, place_of, plan_names, vacant_for};
 
 use crate::ahead::read_ahead;
 use crate::guesses::Guesses;
@@ -17,7 +17,6 @@ use std::sync::Arc;
 /// What is kept of each parameter of an edition: a slot for each plan, in the order of the plans. Contracts see the names
 /// and the slots.
 pub struct Board {
-    names: Vec<Name>,
     slots: Vec<Slot>,
     guesses: Guesses,
     // Made of what was read ahead; it says nothing.
@@ -28,7 +27,6 @@ pub struct Board {
 impl Drop for Board {
     fn drop(self) {
         let Board {
-            names: _names,
             slots: _slots,
             guesses: _guesses,
             ahead: _,
@@ -37,26 +35,26 @@ impl Drop for Board {
 }
 
 impl Model for Board {
-    ghost use Rattle.std.specs.Prelude.{◌≡◌, length};
-    ghost use Rattle.fold_state.specs.Boards.{Slots};
+    ghost use Rattle.std.specs.Prelude.{map};
+    ghost use Rattle.fold_state.specs.Boards.{Slots, board_of, slot_name};
     ghost use Rattle.fold_state.specs.Places.{Rise};
 
     ghost Value = { Slots };
 
-    ghost view = { λ board. record { names = board.names.items; slots = board.slots.items } };
+    ghost view = { λ board. board_of board.slots.items };
 
-    ghost invariant = { λ board. Rise board.names.items × (length board.slots.items ≡ length board.names.items) };
+    ghost invariant = { λ board. Rise (map slot_name board.slots.items) };
 }
 
-// The names of plans.
-fn names_of(alloc: Global, plans: &[Arc<Param>]) -> Result<Vec<Name>, AllocError>
-    ensures { IfOk result (λ names. names.items ≡ map plan_name plans.now) }
+// Slots for plans, which keep nothing.
+fn slots_of(alloc: Global, plans: &[Arc<Param>]) -> Result<Vec<Slot>, AllocError>
+    ensures { IfOk result (λ slots. slots.items ≡ map vacant_for plans.now) }
 {
-    let mut names = Vec::with_capacity(alloc, plans.len())?;
+    let mut slots = Vec::with_capacity(alloc, plans.len())?;
     for plan in plans {
-        names.push(plan.name())?;
+        slots.push(Slot::new(plan.name()))?;
     }
-    Ok(names)
+    Ok(slots)
 }
 
 impl Board {
@@ -65,11 +63,9 @@ impl Board {
         ensures names { IfOk result (λ board. board.names ≡ plan_names params.now) }
         ensures memory { IfOk result (λ board. memory_of board ≡ Spec.empty_memory) }
     {
-        let names = names_of(alloc, params.plans())?;
-        let slots = vec![in alloc; Slot::new(); names.len()]?;
-        let guesses = Guesses::new(alloc, &names)?;
+        let slots = slots_of(alloc, params.plans())?;
+        let guesses = Guesses::new(alloc, &slots)?;
         Ok(Board {
-            names,
             slots,
             guesses,
             ahead: 0,
@@ -82,7 +78,6 @@ impl Board {
         ensures memory { memory_of result ≡ Spec.empty_memory }
     {
         Board {
-            names: Vec::new(alloc),
             slots: Vec::new(alloc),
             guesses: Guesses::empty(alloc),
             ahead: 0,
@@ -93,14 +88,15 @@ impl Board {
     fn is_at(&self, at: usize, name: &Name) -> bool
         ensures { IsTrue result → at < length self.now.names × (get_or self.now.names at [] ≡ name.now) }
     {
-        at < self.names.len() && self.names[at] == *name
+        at < self.slots.len() && self.slots[at].name == *name
     }
 
     // The place of a name, by halving.
     fn halved(&self, name: Name) -> Option<usize>
         ensures { result ≡ place_of self.now name }
     {
-        match self.names.binary_search(&name) {
+        let found = self.slots.binary_search_by_key(&name, |slot| slot.name);
+        match found {
             Ok(at) => Some(at),
             Err(_) => None,
         }
@@ -124,13 +120,19 @@ impl Board {
         self.guesses.row(spid, count)
     }
 
-    // A number made of what is kept at the places that guesses say.
+    // A number made of the name at a place and of what is kept there.
+    fn touch(&self, at: usize) -> usize {
+        match self.slots.get(at) {
+            Some(slot) => slot.name.bytes().len() ^ usize::from(slot.latest < 0),
+            None => 0,
+        }
+    }
+
+    // A number made of the names and slots at the places that guesses say.
     fn touch_slots(&self, places: &[u32]) -> usize {
         let mut seen = 0;
         for place in places {
-            if let Some(slot) = self.slots.get(*place as usize) {
-                seen ^= usize::from(slot.previous.is_some());
-            }
+            seen ^= self.touch(*place as usize);
         }
         seen
     }
@@ -160,11 +162,11 @@ impl Board {
     }
 
     /// What is kept at a place.
-    pub(crate) fn slot(&self, at: usize) -> Slot
+    pub(crate) fn slot(&self, at: usize) -> &Slot
         requires { at < length self.now.names }
-        ensures { (name : List ℕ) → place_of self.now name ≡ Some at → kept_as result ≡ memory_of self.now name }
+        ensures { (name : List ℕ) → place_of self.now name ≡ Some at → kept_as result.now ≡ memory_of self.now name }
     {
-        self.slots[at]
+        &self.slots[at]
     }
 
     /// Keeps the raw number of a value of the name at a place.
@@ -174,7 +176,7 @@ impl Board {
         ensures memory { (v : Value) → place_of self.old v.name ≡ Some at → has_number v.shape.sort ≡ true → v.raw ≡ raw
             → memory_of self.new ≡ Spec.entered (memory_of self.old) v }
     {
-        self.slots[at].latest = Some(raw);
+        self.slots[at].enter(raw);
     }
 
     /// Keeps something else at a place.
@@ -184,7 +186,7 @@ impl Board {
         ensures memory { (name : List ℕ) → place_of self.old name ≡ Some at
             → memory_of self.new ≡ Spec.keeping (memory_of self.old) name (kept_as slot) }
     {
-        self.slots[at] = slot;
+        self.slots[at].keep(&slot);
     }
 }
 
@@ -193,7 +195,7 @@ impl Holds for Board {
 
     fn holds(&self, name: Name, number: i128) -> bool {
         match self.place(&name) {
-            Some(at) => self.slot(at).latest == Some(number),
+            Some(at) => self.slot(at).holds(number),
             None => false,
         }
     }

@@ -82,12 +82,12 @@ fn kept_at(old: &Board, at: usize, from: &Params, plan: &Param) -> Slot
 {
     let plans = from.plans();
     if at >= plans.len() {
-        return Slot::new();
+        return Slot::new(plan.name());
     }
     if !stays(&plans[at], plan) {
-        return Slot::new();
+        return Slot::new(plan.name());
     }
-    held(old.slot(at), &plan.rows().ocf)
+    held(*old.slot(at), &plan.rows().ocf)
 }
 
 // What is kept of a parameter under the new edition.
@@ -97,7 +97,7 @@ fn kept_for(old: &Board, from: &Params, plan: &Param) -> Slot
 {
     match old.place(&plan.name()) {
         Some(at) => kept_at(old, at, from, plan),
-        None => Slot::new(),
+        None => Slot::new(plan.name()),
     }
 }
 

@@ -12,7 +12,7 @@ ghost use Rattle.mib_model.specs.Kept.{has_number};
 ghost use Rattle.param_plan.specs.Slices.{curve_in};
 
 use crate::board::Board;
-use crate::value::{is_raw, previous_after, sample_for};
+use crate::value::{is_raw, sample_for};
 use check_plan::{Checks, Sample};
 use mib_model::{Cal, Change, Value};
 use param_plan::Param;
@@ -36,10 +36,10 @@ impl Board {
         ensures checked { (name : List ℕ) → place_of self.old name ≡ Some at
             → (memory_of self.new, result) ≡ checked_in (memory_of self.old) name checks.now (sample_of sample.entry) }
     {
-        let mut slot = self.slot(at);
-        let class = checks.class_of(sample, slot.previous, self);
-        let change = slot.alarm.step(class, checks.row().nbchck);
-        slot.previous = previous_after(sample, slot.previous);
+        let mut slot = *self.slot(at);
+        let class = checks.class_of(sample, slot.previous(), self);
+        let change = slot.alarm.step(class, checks.nbchck());
+        slot.check(sample);
         self.set_slot(at, slot);
         change
     }
@@ -63,7 +63,7 @@ impl Board {
         let Some(checks) = plan.checks() else {
             return None;
         };
-        let Some(sample) = sample_for(checks.row(), value.raw, given) else {
+        let Some(sample) = sample_for(checks, value.raw, given) else {
             return None;
         };
         self.check_sample(at, checks, sample)

@@ -80,7 +80,7 @@ impl Board {
         }
         let given = calibrated(plan, value, self);
         let change = self.check(at, plan, value, given);
-        (tail_for(plan.rows().pcf.decim, given), change)
+        (tail_for(plan.decimals(), given), change)
     }
 
     // Finishes a value by the plan of its name, which is at this place.

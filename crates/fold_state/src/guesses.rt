@@ -1,4 +1,5 @@
 // Where the names of values are looked for first.
+use crate::slot::Slot;
 use mib_model::Name;
 use std::alloc::{AllocError, Global};
 
@@ -32,17 +33,17 @@ fn mixed(name: &Name) -> u32 {
 }
 
 impl Guesses {
-    /// Guesses for names at these places. An error is want of memory.
-    pub fn new(alloc: Global, names: &[Name]) -> Result<Guesses, AllocError> {
+    /// Guesses for the names of slots at these places. An error is want of memory.
+    pub fn new(alloc: Global, slots: &[Slot]) -> Result<Guesses, AllocError> {
         let nothing = Kind { spid: 0, first: 0 };
         let mut guesses = Guesses {
-            kinds: vec![in alloc; nothing; names.len()]?,
-            places: vec![in alloc; 0; names.len().saturating_mul(8)]?,
+            kinds: vec![in alloc; nothing; slots.len()]?,
+            places: vec![in alloc; 0; slots.len().saturating_mul(8)]?,
             free: 0,
             named: vec![in alloc; 0; NAMED]?,
         };
-        for at in 0..names.len() {
-            guesses.note_name(&names[at], at);
+        for at in 0..slots.len() {
+            guesses.note_name(&slots[at].name, at);
         }
         Ok(guesses)
     }

@@ -1,28 +1,86 @@
 // What is kept of a parameter.
-ghost use Rattle.std.specs.Prelude.{◌≡◌};
-ghost use Rattle.mib_model.specs.Kept.{nothing_kept};
-ghost use Rattle.fold_state.specs.Boards.{kept_as};
+ghost use Rattle.std.specs.Prelude.{◌≡◌, Some, option_map};
+ghost use Rattle.std.specs.Option.{option_eq};
+ghost use Rattle.std.specs.Ordering.{int_eq};
+ghost use Rattle.check_plan.specs.Samples.{count_of, sample_of};
+ghost use Rattle.mib_model.specs.Finish.{previous_after};
+ghost use Rattle.fold_state.specs.Boards.{kept_as, vacant};
 
-use check_plan::Alarm;
-use mib_model::Eng;
+use check_plan::{Alarm, Sample};
+use mib_model::{Eng, Name};
 
-/// What is kept of a parameter: its latest raw number, its alarm, and its last checked number.
+/// What is kept of the parameter of a name: its latest raw number and its last checked number, where there are such, and its
+/// alarm. The name lies beside them, and they have few octets, since those of many parameters are asked for in any order.
 #[derive(Clone, Copy)]
 pub struct Slot {
-    pub latest: Option<i128>,
+    pub latest: i128,
+    pub previous: Eng,
+    pub has_latest: bool,
+    pub has_previous: bool,
     pub alarm: Alarm,
-    pub previous: Option<Eng>,
+    pub name: Name,
 }
 
 impl Slot {
-    /// Nothing kept.
-    pub fn new() -> Slot
-        ensures { kept_as result ≡ nothing_kept }
+    /// A slot of a name that keeps nothing.
+    pub fn new(name: Name) -> Slot
+        ensures { result ≡ vacant name }
     {
         Slot {
-            latest: None,
+            latest: 0,
+            previous: Eng { count: 0 },
+            has_latest: false,
+            has_previous: false,
             alarm: Alarm::new(),
-            previous: None,
+            name,
+        }
+    }
+
+    /// Keeps what another slot keeps.
+    pub fn keep(&mut self, other: &Slot)
+        ensures kept { kept_as self.new ≡ kept_as other.now }
+        ensures name { self.new.name ≡ self.old.name }
+    {
+        *self = Slot {
+            name: self.name,
+            ..*other
+        };
+    }
+
+    /// Keeps a latest raw number.
+    pub fn enter(&mut self, raw: i128)
+        ensures kept { kept_as self.new ≡ (record (kept_as self.old) { latest = Some raw }) }
+        ensures name { self.new.name ≡ self.old.name }
+    {
+        self.latest = raw;
+        self.has_latest = true;
+    }
+
+    /// Whether the latest raw number is this number.
+    pub fn holds(&self, number: i128) -> bool
+        ensures { result ≡ option_eq int_eq (kept_as self.now).latest (Some number) }
+    {
+        self.has_latest && self.latest == number
+    }
+
+    /// The last checked number.
+    pub fn previous(&self) -> Option<Eng>
+        ensures { option_map count_of result ≡ (kept_as self.now).previous }
+    {
+        if self.has_previous {
+            Some(self.previous)
+        } else {
+            None
+        }
+    }
+
+    /// Keeps a checked number, where a sample is one.
+    pub fn check(&mut self, sample: Sample)
+        ensures { kept_as self.new ≡ (record (kept_as self.old) { previous = previous_after (sample_of sample.entry) (kept_as self.old).previous }) }
+    {
+        if let Sample::Number(number) = sample {
+            self.previous = number;
+            self.has_previous = true;
         }
     }
 }

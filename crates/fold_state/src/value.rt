@@ -1,14 +1,14 @@
 // The numbers of values, and what is checked of them.
 ghost use Rattle.std.specs.Prelude.{◌≡◌, ◌≤ℤ◌, ◌&&◌, int_le, option_map};
-ghost use Rattle.check_plan.specs.Samples.{count_of, sample_of};
+ghost use Rattle.check_plan.specs.Samples.{sample_of};
 ghost use Rattle.mib_model.specs.CalibrationViews.{calibrated_as};
 ghost use Rattle.mib_model.specs.Counts as Counts;
 ghost use Rattle.mib_model.specs.Finish as Spec;
 ghost use Rattle.mib_model.specs.Kept.{has_number};
 ghost use Rattle.mib_model.specs.WholeNumbers.{least_raw, greatest_raw};
 
-use check_plan::Sample;
-use mib_model::{Cal, Eng, OcfRow, RAW_LEAST, RAW_MOST, Sort, Value};
+use check_plan::{Checks, Sample};
+use mib_model::{Cal, Eng, RAW_LEAST, RAW_MOST, Sort, Value};
 
 /// Whether values of a sort have raw numbers.
 pub fn has_number(sort: Sort) -> bool
@@ -50,24 +50,14 @@ fn converted(raw: i128, given: Option<Cal<'_>>) -> Option<Sample<'_>>
 }
 
 /// What is checked of a raw number: with INTER `U` it, else what its calibration leaves (SCOS-2000 Database Import ICD, ocf).
-pub fn sample_for<'a>(check: &OcfRow, raw: i128, given: Option<Cal<'a>>) -> Option<Sample<'a>>
+pub fn sample_for<'a>(checks: &Checks, raw: i128, given: Option<Cal<'a>>) -> Option<Sample<'a>>
     requires low { least_raw ≤ℤ raw }
     requires high { raw ≤ℤ greatest_raw }
-    ensures { option_map sample_of result ≡ Spec.sample_for check.now raw (option_map calibrated_as given.entry) }
+    ensures { option_map sample_of result ≡ Spec.sample_for checks.now.ocf raw (option_map calibrated_as given.entry) }
 {
-    if check.inter == b'U' {
+    if checks.inter() == b'U' {
         Some(Sample::Number(raw_count(raw)))
     } else {
         converted(raw, given)
-    }
-}
-
-/// The last checked number, after a sample.
-pub fn previous_after(sample: Sample, previous: Option<Eng>) -> Option<Eng>
-    ensures { option_map count_of result ≡ Spec.previous_after (sample_of sample.entry) (option_map count_of previous) }
-{
-    match sample {
-        Sample::Number(number) => Some(number),
-        Sample::Text(_) => previous,
     }
 }

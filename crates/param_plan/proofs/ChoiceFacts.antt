@@ -1,11 +1,11 @@
--- The curve of the first choice whose condition is met is that of the slice.
+-- The curve of CURTX, else that of the first selection whose condition holds, is that of the slice.
 use Rattle.std.proofs.Common.{◌≡◌, ◌∙◌, ℕ, ◌+◌, ◌<◌, ◌≤◌, min, ℤ, Bool, true, false, cond, List, [], ◌∷◌, ◌++◌, Option, Some, None, option_map, option_and_then, find, zip, map, take, length, get_or, refl, sym, ap, arith}
 use Rattle.std.proofs.lemmas.List.{take_more, take_all, get_or-map, map-append, length-map}
 use Rattle.std.proofs.lemmas.Slice.Zip.{get_or-zip, length-zip}
 use Rattle.mib_model.specs.declared.plan.CurveRows.{CurveRows}
 use Rattle.mib_model.specs.declared.rows.CurRow.{CurRow}
 use Rattle.mib_model.specs.Kept.{Memory, holds}
-use Rattle.param_plan.specs.Choices.{CurveChoice, choice_of, is_chosen, only_choice, choices_in}
+use Rattle.param_plan.specs.Choices.{CurveChoice, choice_of, is_chosen, choices_in, only_curve}
 use Rattle.param_plan.specs.Slices.{curve_by}
 
 beside-same : (memory : Memory) (pairs : List (CurRow × Option CurveRows))
@@ -17,15 +17,16 @@ beside-same memory (pair ∷ pairs) = go (holds memory pair.0.rlchk pair.0.valpa
   go true others = refl
   go false others = others
 
-only-same : (memory : Memory) (curves : List (Option CurveRows)) (name : List ℕ) (curs : List CurRow)
-    → option_and_then (λ choice. choice.curve) (find (is_chosen memory) (only_choice curves)) ≡ curve_by memory (Some name) curs curves
-only-same memory [] name curs = refl
-only-same memory (curve ∷ curves) name curs = refl
+-- the only curve is that of the slice
+pub only-same : (memory : Memory) (curtx : Option (List ℕ)) (curs : List CurRow) (curves : List (Option CurveRows)) (rows : CurveRows)
+    → only_curve curtx curves ≡ Some rows → curve_by memory curtx curs curves ≡ Some rows
+only-same memory None curs curves rows only = absurd (cc only)
+only-same memory (Some name) curs curves rows only = only
 
-pub chosen-same : (memory : Memory) (curtx : Option (List ℕ)) (curs : List CurRow) (curves : List (Option CurveRows))
+pub chosen-same : (memory : Memory) (curtx : Option (List ℕ)) (curs : List CurRow) (curves : List (Option CurveRows)) → only_curve curtx curves ≡ None
     → option_and_then (λ choice. choice.curve) (find (is_chosen memory) (choices_in curtx curs curves)) ≡ curve_by memory curtx curs curves
-chosen-same memory (Some name) curs curves = only-same memory curves name curs
-chosen-same memory None curs curves = beside-same memory (zip curs curves)
+chosen-same memory (Some name) curs curves only = sym only
+chosen-same memory None curs curves only = beside-same memory (zip curs curves)
 
 -- of curves that are seen so
 module _ {C : Type 0} (seen : C → CurveRows) where
@@ -41,12 +42,12 @@ module _ {C : Type 0} (seen : C → CurveRows) where
 
   pub selected-more : (curs : List CurRow) (curves : List (Option C)) (n : ℕ) (cur : CurRow) (curve : Option C) (number : ℤ) (rows : Option CurveRows) (old : List CurveChoice)
       → n < length curs → n < length curves → cur ≡ get_or curs n cur → curve ≡ get_or curves n curve → number ≡ cur.valpar → rows ≡ option_map seen curve → old ≡ first_choices curs curves n
-      → old ++ record { rlchk = Some cur.rlchk; valpar = number; curve = rows } ∷ [] ≡ first_choices curs curves (n + 1)
+      → old ++ record { rlchk = cur.rlchk; valpar = number; curve = rows } ∷ [] ≡ first_choices curs curves (n + 1)
   selected-more curs curves n cur curve number rows old a b here beside same made so_far =
       let pairs = zip curs (map (option_map seen) curves) in
       let mapped : n < length (map (option_map seen) curves) = (let two : length (map (option_map seen) curves) ≡ length curves = simp length-map in omega (arith, b, two)) in
       let within : n < length pairs = (let one = length-zip curs (map (option_map seen) curves) in omega (arith, a, mapped, one)) in
       let item : get_or pairs n (cur, option_map seen curve) ≡ (cur, option_map seen curve) = get_or-zip curs (map (option_map seen) curves) n (cur, option_map seen curve) a mapped ∙ (λ i. (sym here i, (get_or-map (option_map seen) curves n curve (option_map seen curve) b ∙ ap (option_map seen) (sym beside)) i)) in
-      let last : choice_of (get_or pairs n (cur, option_map seen curve)) ≡ record { rlchk = Some cur.rlchk; valpar = number; curve = rows } = ap choice_of item ∙ (λ i. record { rlchk = Some cur.rlchk; valpar = sym same i; curve = sym made i }) in
+      let last : choice_of (get_or pairs n (cur, option_map seen curve)) ≡ record { rlchk = cur.rlchk; valpar = number; curve = rows } = ap choice_of item ∙ (λ i. record { rlchk = cur.rlchk; valpar = sym same i; curve = sym made i }) in
       let whole = ap (map choice_of) (take_more pairs n (cur, option_map seen curve) within) ∙ map-append choice_of (take n pairs) (get_or pairs n (cur, option_map seen curve) ∷ []) in
-      sym (whole ∙ (ap (λ c. first_choices curs curves n ++ c ∷ []) last ∙ ap (λ front. front ++ record { rlchk = Some cur.rlchk; valpar = number; curve = rows } ∷ []) (sym so_far)))
+      sym (whole ∙ (ap (λ c. first_choices curs curves n ++ c ∷ []) last ∙ ap (λ front. front ++ record { rlchk = cur.rlchk; valpar = number; curve = rows } ∷ []) (sym so_far)))

@@ -1,5 +1,5 @@
 -- In a sound database the points of a curve stand at different x.
-use Rattle.std.proofs.Common.{◌≡◌, ◌≢◌, ◌∙◌, ℕ, ℤ, Bool, true, false, not, cond, ◌&&◌, List, [], ◌∷◌, ◌++◌, Option, Some, None, All, map, filter, filter_map, find, drop, nat_eq, option_map, refl, sym, ap}
+use Rattle.std.proofs.Common.{◌≡◌, ◌≢◌, ◌∙◌, ℕ, ℤ, Bool, true, false, not, cond, ◌&&◌, List, [], ◌∷◌, ◌++◌, Option, Some, None, filter, filter_map, find, drop, nat_eq, option_map, refl, sym, ap}
 use Rattle.std.specs.Cmp.Lexicographic.{bytes_decides}
 use Rattle.std.specs.Cmp.{signed_Decides}
 use Rattle.std.specs.List.{AllByRecursion, flat_map, list_any}

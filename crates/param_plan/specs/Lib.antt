@@ -1,4 +1,5 @@
 pub mod Slices
 pub mod Choices
+pub mod Parts
 pub mod Names
 pub mod Laws

@@ -1,21 +1,21 @@
-// The curves that a parameter may take, each with its condition.
+// The curves that a parameter may take: that of CURTX, or those of selections, each with its condition.
 ghost use Rattle.std.specs.Prelude.{◌≡◌, option_and_then, option_map, map, IfOk};
 ghost use Rattle.std.specs.Arc.{arc_value};
 ghost use Rattle.std.specs.List.{find, zip};
 ghost use Rattle.std.specs.Option.{option_copied};
-ghost use Rattle.param_plan.specs.Choices.{choice_of, is_chosen, only_choice, choices_in};
+ghost use Rattle.param_plan.specs.Choices.{choice_of, choices_in, is_chosen, only_curve};
 
-use check_plan::{Holds, is_met};
+use check_plan::Holds;
 use curve_plan::Curve;
 use mib_model::{CurRow, Name};
 use std::alloc::{AllocError, Global};
 use std::marker::Model;
 use std::sync::Arc;
 
-/// A curve, if there is one, with the condition that it is taken by. Contracts see the curve's rows.
+/// The curve of a selection, if there is one, with the condition that it is taken by. Contracts see the curve's rows.
 #[derive(Drop)]
 pub struct Choice {
-    rlchk: Option<Name>,
+    rlchk: Name,
     valpar: i128,
     curve: Option<Arc<Curve>>,
 }
@@ -30,21 +30,6 @@ impl Model for Choice {
     ghost view = { λ choice. record { rlchk = choice.rlchk; valpar = choice.valpar; curve = option_map arc_value choice.curve } };
 }
 
-impl Choice {
-    /// A number made of its condition and of whether there is a curve.
-    pub fn touch(&self) -> usize {
-        usize::from(self.rlchk.is_some() ^ self.curve.is_some())
-    }
-
-    /// A number made of the curve's points or ranges.
-    pub fn touch_curve(&self) -> usize {
-        match &self.curve {
-            Some(curve) => curve.touch(),
-            None => 0,
-        }
-    }
-}
-
 // A further handle of a curve, if there is one.
 fn shared(curve: &Option<Arc<Curve>>) -> Result<Option<Arc<Curve>>, AllocError>
     ensures { IfOk result (λ other. option_map arc_value other ≡ option_map arc_value curve.now) }
@@ -55,19 +40,17 @@ fn shared(curve: &Option<Arc<Curve>>) -> Result<Option<Arc<Curve>>, AllocError>
     }
 }
 
-// The first curve, without a condition.
-fn only(alloc: Global, curves: &[Option<Arc<Curve>>]) -> Result<Vec<Choice>, AllocError>
-    ensures { IfOk result (λ choices. choices.items ≡ only_choice (map (option_map arc_value) curves.now)) }
+/// A further handle of the curve of CURTX, where that is given and there is a curve.
+pub fn curve_of(
+    curtx: Option<Name>,
+    curves: &[Option<Arc<Curve>>],
+) -> Result<Option<Arc<Curve>>, AllocError>
+    ensures { IfOk result (λ curve. option_map arc_value curve ≡ only_curve curtx (map (option_map arc_value) curves.now)) }
 {
-    let mut choices = Vec::new(alloc);
-    if let Some(curve) = curves.first() {
-        choices.push(Choice {
-            rlchk: None,
-            valpar: 0,
-            curve: shared(curve)?,
-        })?;
+    match (curtx, curves.first()) {
+        (Some(_), Some(curve)) => shared(curve),
+        _ => Ok(None),
     }
-    Ok(choices)
 }
 
 // A curve for each selection.
@@ -81,7 +64,7 @@ fn selected(
     let mut choices = Vec::new(alloc);
     for (cur, curve) in curs.iter().zip(curves) {
         choices.push(Choice {
-            rlchk: Some(cur.rlchk),
+            rlchk: cur.rlchk,
             valpar: cur.valpar,
             curve: shared(curve)?,
         })?;
@@ -89,7 +72,7 @@ fn selected(
     Ok(choices)
 }
 
-/// The curves that a parameter may take: that of CURTX alone, else one for each selection.
+/// A curve for each selection, where CURTX is not given.
 pub fn choices_of(
     alloc: Global,
     curtx: Option<Name>,
@@ -99,7 +82,7 @@ pub fn choices_of(
     ensures { IfOk result (λ choices. choices.items ≡ choices_in curtx curs.now (map (option_map arc_value) curves.now)) }
 {
     match curtx {
-        Some(_) => only(alloc, curves),
+        Some(_) => Ok(Vec::new(alloc)),
         None => selected(alloc, curs, curves),
     }
 }
@@ -110,7 +93,7 @@ fn first_met<'a, K: Holds>(choices: &'a [Choice], kept: &K) -> Option<&'a Choice
 {
     choices
         .iter()
-        .find(|choice| is_met(choice.rlchk, choice.valpar, kept))
+        .find(|choice| kept.holds(choice.rlchk, choice.valpar))
 }
 
 /// The curve of the first choice whose condition is met.

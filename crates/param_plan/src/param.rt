@@ -4,47 +4,52 @@ ghost use Rattle.mib_model.specs.CalibrationViews.{calibrated_as};
 ghost use Rattle.mib_model.specs.Curves.{calibration};
 ghost use Rattle.mib_model.specs.Finish.{is_valid};
 ghost use Rattle.mib_model.specs.WholeNumbers.{least_raw, greatest_raw};
-ghost use Rattle.param_plan.specs.Choices.{choices_in};
 ghost use Rattle.param_plan.specs.Slices.{slice_of, curve_in, checks_in};
 
-use crate::choice::{Choice, choices_of, chosen};
+use crate::choice::{Choice, choices_of, chosen, curve_of};
 use crate::rows::ParamRows;
 use check_plan::{Checks, Holds, is_met};
 use curve_plan::Curve;
 use mib_model::{Cal, Name, OcfRow, OcpRow, Steps};
 use std::alloc::{AllocError, Global};
 use std::marker::Model;
+use std::sync::Arc;
 use std::sync::ledger::Ledger;
 
-/// The rows of a parameter, compiled. Contracts see the rows.
+/// The rows of a parameter, compiled. What is asked of it for each value stands first, so that it lies together. Contracts
+/// see the rows.
 pub struct Param {
-    rows: ParamRows,
-    choices: Vec<Choice>,
+    conditional: bool,
+    decim: u8,
+    curve: Option<Arc<Curve>>,
     checks: Option<Checks>,
+    choices: Vec<Choice>,
+    rows: ParamRows,
 }
 
 /// By hand, so that whoever lets one go proves one call.
 impl Drop for Param {
     fn drop(self) {
         let Param {
-            rows: _rows,
-            choices: _choices,
+            conditional: _,
+            decim: _,
+            curve: _curve,
             checks: _checks,
+            choices: _choices,
+            rows: _rows,
         } = self;
     }
 }
 
 impl Model for Param {
-    ghost use Rattle.std.specs.Prelude.{◌≡◌};
-    ghost use Rattle.param_plan.specs.Slices.{ParamSlice, slice_of, checks_in};
-    ghost use Rattle.param_plan.specs.Choices.{choices_in};
+    ghost use Rattle.param_plan.specs.Slices.{ParamSlice, slice_of};
+    ghost use Rattle.param_plan.specs.Parts.{ArePartsOf};
 
     ghost Value = { ParamSlice };
 
     ghost view = { λ param. slice_of param.rows };
 
-    ghost invariant = { λ param. (param.choices.items ≡ choices_in param.rows.pcf.curtx param.rows.curs.items (slice_of param.rows).curves)
-        × (param.checks ≡ checks_in (slice_of param.rows)) };
+    ghost invariant = { λ param. ArePartsOf (slice_of param.rows) param.conditional param.decim param.curve param.choices.items param.checks };
 }
 
 // The checks of a parameter that has a row of ocf.
@@ -61,17 +66,22 @@ fn checks_of(
     }
 }
 
-// The curves and the checks of a parameter.
-fn parts_of(alloc: Global, rows: &ParamRows) -> Result<(Vec<Choice>, Option<Checks>), AllocError>
-    ensures choices { IfOk result (λ parts. parts.0.items ≡ choices_in rows.now.pcf.curtx rows.now.curs.items (slice_of rows.now).curves) }
-    ensures checks { IfOk result (λ parts. parts.1 ≡ checks_in (slice_of rows.now)) }
-{
-    let choices = choices_of(alloc, rows.pcf.curtx, &rows.curs, &rows.curves)?;
-    let checks = checks_of(alloc, &rows.ocf, &rows.ocps)?;
-    Ok((choices, checks))
-}
-
 impl Param {
+    // The plan of rows.
+    fn of_rows(alloc: Global, rows: ParamRows) -> Result<Param, AllocError>
+        ensures { IfOk result (λ param. param ≡ slice_of rows) }
+    {
+        let pcf = rows.pcf;
+        Ok(Param {
+            conditional: pcf.valid.is_some(),
+            decim: pcf.decim,
+            curve: curve_of(pcf.curtx, &rows.curves)?,
+            checks: checks_of(alloc, &rows.ocf, &rows.ocps)?,
+            choices: choices_of(alloc, pcf.curtx, &rows.curs, &rows.curves)?,
+            rows,
+        })
+    }
+
     /// Compiles the rows of a parameter, whose curves are compiled. It takes one step. An error is want of memory, and takes
     /// no step.
     pub fn compile<L: Ledger>(
@@ -83,42 +93,28 @@ impl Param {
         ensures step { OnOk result (steps.new ≡ steps.old + 1) }
         ensures refused { OnErr result (steps.new ≡ steps.old) }
     {
-        let (choices, checks) = parts_of(alloc, &rows)?;
+        let param = Param::of_rows(alloc, rows)?;
         steps.tick();
-        Ok(Param {
-            rows,
-            choices,
-            checks,
-        })
+        Ok(param)
     }
 
-    /// A number made of the plan's own octets: who asks for it early, and then for `touch_parts` and `touch_curve`, has the plan
-    /// at hand when a value is finished.
+    /// A number made of the plan's own octets: who asks for it early, and then for `touch_parts`, has the plan at hand when a
+    /// value is finished.
     pub fn touch(&self) -> usize {
-        let pcf = &self.rows.pcf;
-        let parts = self.choices.len() ^ usize::from(self.checks.is_some());
-        parts ^ usize::from(pcf.valid.is_some()) ^ usize::from(pcf.decim)
+        usize::from(self.decim) ^ usize::from(self.checks.is_some())
     }
 
-    /// A number made of the first curve's condition and of the first checks.
+    /// A number made of the first limits and of the curve of CURTX.
     pub fn touch_parts(&self) -> usize {
-        let choice = match self.choices.first() {
-            Some(choice) => choice.touch(),
-            None => 0,
-        };
         let checks = match &self.checks {
             Some(checks) => checks.touch(),
             None => 0,
         };
-        choice ^ checks
-    }
-
-    /// A number made of the first curve's points or ranges.
-    pub fn touch_curve(&self) -> usize {
-        match self.choices.first() {
-            Some(choice) => choice.touch_curve(),
+        let curve = match &self.curve {
+            Some(curve) => curve.touch(),
             None => 0,
-        }
+        };
+        checks ^ curve
     }
 
     /// The rows compiled.
@@ -126,6 +122,13 @@ impl Param {
         ensures { slice_of result.now ≡ self.now }
     {
         &self.rows
+    }
+
+    /// How many decimals are shown.
+    pub fn decimals(&self) -> u8
+        ensures { result ≡ self.now.pcf.decim }
+    {
+        self.decim
     }
 
     /// The parameter's name.
@@ -147,6 +150,9 @@ impl Param {
     pub fn valid<K: Holds>(&self, kept: &K) -> bool
         ensures { result ≡ is_valid (K.memory kept.now) self.now.pcf }
     {
+        if !self.conditional {
+            return true;
+        }
         is_met(self.rows.pcf.valid, self.rows.pcf.valpar, kept)
     }
 
@@ -154,7 +160,10 @@ impl Param {
     fn curve<K: Holds>(&self, kept: &K) -> Option<&Curve>
         ensures { option_copied result ≡ curve_in self.now (K.memory kept.now) }
     {
-        chosen(&self.choices, kept)
+        match &self.curve {
+            Some(curve) => Some(curve),
+            None => chosen(&self.choices, kept),
+        }
     }
 
     /// What the parameter's curve makes of a raw number from -2^63 to 2^64 - 1, where there is a curve: that of CURTX, else

@@ -1,4 +1,4 @@
-use Rattle.std.proofs.Common.{◌≡◌, ◌∙◌, sym, ap}
+use Rattle.std.proofs.Common.{◌∙◌, sym, ap}
 use Rattle.param_plan.specs.Slices.{ParamSlice}
 use Rattle.fold_state.specs.Boards.{kept_as, memory_of}
 use Rattle.fold_state.proofs.CarryFacts.{carried-same, carry-other, carry-same}
@@ -12,7 +12,7 @@ returns-then-not-stays c = λ before after plans made was at.
     let is = plan-behind c.plans-plans.result.now c.args.at c.index-plans-at.result s c.args.from.now c.if-at-plans.false c.index-plans-at.is c.deref.ensures c.plans-plans.ensures.plans in
     let found = plan-found c.args.from.now c.args.old.now name c.args.at s made at is in
     let carried = sym (carried-same before after name s c.args.plan.now (slice-found before c.args.from.now name s plans found) was) ∙ (sym c.stays.ensures ∙ c.if-not-stays.true) in
-    c.new-then-not-stays.ensures ∙ sym (carry-other (memory_of c.args.old.now) before after name carried)
+    ap kept_as c.new-then-not-stays.ensures ∙ sym (carry-other (memory_of c.args.old.now) before after name carried)
 
 pub returns : goal.returns
 returns c = λ before after plans made was at.
@@ -21,4 +21,4 @@ returns c = λ before after plans made was at.
     let is = plan-behind c.plans-plans.result.now c.args.at c.index-plans-at.result s c.args.from.now c.if-at-plans.false c.index-plans-at.is c.deref.ensures c.plans-plans.ensures.plans in
     let found = plan-found c.args.from.now c.args.old.now name c.args.at s made at is in
     let carried = sym (carried-same before after name s c.args.plan.now (slice-found before c.args.from.now name s plans found) was) ∙ (sym c.stays.ensures ∙ c.if-not-stays.false) in
-    c.held.ensures ∙ carry-same (memory_of c.args.old.now) before after name (kept_as c.slot.result) c.rows.result.now.ocf carried (c.slot.ensures name at) (ap (λ (t : ParamSlice). t.ocf) c.rows.ensures ∙ was.ocf)
+    c.held.ensures ∙ carry-same (memory_of c.args.old.now) before after name (kept_as c.slot.result.now) c.rows.result.now.ocf carried (c.slot.ensures name at) (ap (λ (t : ParamSlice). t.ocf) c.rows.ensures ∙ was.ocf)

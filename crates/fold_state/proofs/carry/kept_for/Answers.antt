@@ -1,5 +1,5 @@
-use Rattle.std.proofs.Common.{◌≡◌, ◌∙◌, List, ℕ, sym, ap}
-use Rattle.fold_state.specs.Boards.{memory_of, place_of}
+use Rattle.std.proofs.Common.{◌∙◌, List, ℕ, sym, ap}
+use Rattle.fold_state.specs.Boards.{kept_as, memory_of, place_of}
 use Rattle.fold_state.proofs.BoardFacts.{kept-missing}
 use Rattle.fold_state.proofs.CarryFacts.{carry-nothing}
 use Rattle.fold_state.proofs.carry.kept_for.Goals as goal
@@ -8,4 +8,4 @@ pub returns-in-None : goal.returns-in-None
 returns-in-None c = λ before after plans made was.
     let name = c.args.plan.now.pcf.name in
     let none = ap (λ (n : List ℕ). place_of c.args.old.now n) (sym c.name.ensures) ∙ (sym c.place.ensures ∙ c.in-None.is) in
-    c.new.ensures ∙ sym (carry-nothing (memory_of c.args.old.now) before after name (kept-missing c.args.old.now name none))
+    ap kept_as c.new.ensures ∙ sym (carry-nothing (memory_of c.args.old.now) before after name (kept-missing c.args.old.now name none))

@@ -1,4 +1,4 @@
-use Rattle.std.proofs.Common.{◌≡◌, ◌∙◌, rules}
+use Rattle.std.proofs.Common.{◌∙◌, rules}
 use Rattle.mib_model.specs.Sameness.{same_cells}
 use Rattle.fold_state.proofs.CarryFacts.{limits-same}
 use Rattle.fold_state.proofs.carry.same_limits.Goals as goal

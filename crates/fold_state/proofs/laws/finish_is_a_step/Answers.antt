@@ -1,4 +1,4 @@
-use Rattle.std.proofs.Common.{◌≡◌, ◌∙◌, List, refl, sym, ap}
+use Rattle.std.proofs.Common.{sym, ap}
 use Rattle.mib_model.specs.Walk.{Extracted}
 use Rattle.mib_model.specs.Interpreter.{memory_for, record_for, course_after}
 use Rattle.mib_model.specs.Texts.{record_body}

@@ -1,4 +1,4 @@
-use Rattle.std.proofs.Common.{◌≡◌, ◌∙◌, List, ℕ, ◌++◌, ap, append_assoc}
+use Rattle.std.proofs.Common.{◌∙◌, ◌++◌, ap, append_assoc}
 use Rattle.mib_model.specs.Finish.{all_finished}
 use Rattle.mib_model.specs.Kept.{Memory, all_entered}
 use Rattle.mib_model.specs.Texts.{told_text}

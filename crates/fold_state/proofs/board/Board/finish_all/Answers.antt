@@ -1,4 +1,4 @@
-use Rattle.std.proofs.Common.{◌≡◌, ◌∙◌, ◌+◌, ◌++◌, ◌∷◌, [], refl, sym, subst, take, List, get_or, ap, arith}
+use Rattle.std.proofs.Common.{◌≡◌, ◌∙◌, ◌+◌, ◌++◌, ◌∷◌, [], refl, sym, subst, take, List, ap, arith}
 use Rattle.std.proofs.lemmas.List.{take_more}
 use Rattle.mib_model.specs.declared.packet.Value.{Value}
 use Rattle.fold_state.specs.Boards.{memory_of}

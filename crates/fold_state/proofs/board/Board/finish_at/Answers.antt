@@ -1,7 +1,6 @@
-use Rattle.std.proofs.Common.{◌≡◌, ◌∙◌, sym, ap, option_map}
+use Rattle.std.proofs.Common.{◌∙◌, ℕ, sym, ap, option_map}
 use Rattle.mib_model.specs.CalibrationViews.{calibrated_as}
 use Rattle.mib_model.specs.Finish.{tail_for}
-use Rattle.param_plan.specs.Slices.{ParamSlice}
 use Rattle.fold_state.specs.Boards.{memory_of}
 use Rattle.fold_state.proofs.FinishFacts.{finish-invalid, finish-valid, given-same}
 use Rattle.fold_state.proofs.board.Board.finish_at.Goals as goal
@@ -17,5 +16,5 @@ returns-clause-finished c = λ db is at raw.
     let s = c.args.plan.now in
     finish-valid db m v s (option_map calibrated_as c.calibrated-given.result) _ (memory_of c.check-change.new.self, c.check-change.result) is (sym c.valid.ensures ∙ c.if-not-valid.false)
     (c.calibrated-given.ensures raw ∙ given-same db m v s is)
-    (c.tail_for.ensures ∙ ap (λ (t : ParamSlice). tail_for t.pcf.decim (option_map calibrated_as c.calibrated-given.result)) c.rows.ensures)
+    (c.tail_for.ensures ∙ ap (λ (n : ℕ). tail_for n (option_map calibrated_as c.calibrated-given.result)) c.decimals.ensures)
     (c.check-change.ensures.checked db is at raw)

@@ -1,4 +1,4 @@
-use Rattle.std.proofs.Common.{◌≡◌, ◌∙◌, ◌<◌, length, sym, ap, arith}
+use Rattle.std.proofs.Common.{◌∙◌, sym}
 use Rattle.fold_state.proofs.FinishFacts.{plan-found, plan-behind, slice-found}
 use Rattle.fold_state.proofs.board.Board.finish_by.Goals as goal
 

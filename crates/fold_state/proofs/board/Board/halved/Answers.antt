@@ -1,22 +1,40 @@
-use Rattle.std.proofs.Common.{◌≡◌, ◌∙◌, ◌<◌, List, [], ℕ, length, get_or, ap, sym, subst}
-use Rattle.std.proofs.lemmas.List.{get_or_default}
-use Rattle.std.specs.List.{position}
-use Rattle.std.specs.Ordering.{nat_cmp}
+use Rattle.std.proofs.Common.{◌≡◌, ◌∙◌, ◌<◌, Equal, Less, List, [], ℕ, length, get_or, map, ap, sym, subst, arith, rules}
+use Rattle.std.proofs.lemmas.List.{get_or-map}
+use Rattle.std.proofs.lemmas.List.Sorted.{answers_always}
 use Rattle.std.specs.Cmp.Lexicographic.{slice_cmp}
+use Rattle.std.specs.Ordering.{nat_cmp}
+use Rattle.std.specs.Str.{bytes_eq}
 use Rattle.param_plan.proofs.NameFacts.{named-nowhere}
-use Rattle.fold_state.specs.Boards.{Slots, is_name_of, place_of}
-use Rattle.fold_state.proofs.BoardFacts.{place-nowhere, place-risen, name-tied}
+use Rattle.param_plan.proofs.PlanFacts.{adjacent-map}
+use Rattle.fold_state.specs.declared.slot.Slot.{Slot}
+use Rattle.fold_state.specs.Boards.{Slots, is_name_of, place_of, slot_name, vacant}
+use Rattle.fold_state.proofs.BoardFacts.{name-tied, place-nowhere, place-risen, slots-long}
 use Rattle.fold_state.proofs.board.Board.halved.Goals as goal
 
 pub returns-in-Ok : goal.returns-in-Ok
 returns-in-Ok c =
-    let names = c.self.inside.names.items in
-    let below : c.in-Ok.at < length names = subst (λ (xs : List (List ℕ)). c.in-Ok.at < length xs) c.deref.ensures.value c.in-Ok.ensures.bound in
-    let here : get_or names c.in-Ok.at [] ≡ c.args.name = name-tied (get_or names c.in-Ok.at []) c.args.name (rw c.deref.ensures.value at (c.in-Ok.ensures.position [])) in
-    sym (place-risen names c.args.name c.in-Ok.at c.self.invariant.0 below here) ∙ ap (λ (b : Slots). place_of b c.args.name) c.self.view_is
+    let name = c.args.name in
+    let slots = c.self.inside.slots.items in
+    let at = c.in-Ok.at in
+    let d = vacant [] in
+    let below : at < length slots = subst (λ (xs : List Slot). at < length xs) c.deref.ensures.value c.in-Ok.ensures.bound in
+    let by_key = c.in-Ok.ensures.position slot_name (answers_always _ _ _ (λ f a r g called. search rules)) in
+    let same : slice_cmp nat_cmp (slot_name (get_or slots at d)) name ≡ Equal =
+    subst (λ (xs : List Slot). slice_cmp nat_cmp (slot_name (get_or xs at d)) name ≡ Equal) c.deref.ensures.value (by_key d) in
+    let here : get_or (map slot_name slots) at [] ≡ name = get_or-map slot_name slots at d [] below ∙ name-tied (slot_name (get_or slots at d)) name same in
+    let long = slots-long slots in
+    let within : at < length (map slot_name slots) = omega (arith, below, long) in
+    sym (place-risen (map slot_name slots) name at c.self.invariant within here) ∙ ap (λ (b : Slots). place_of b name) c.self.view_is
 
 pub returns-in-Err : goal.returns-in-Err
 returns-in-Err c =
-    let names = c.self.inside.names.items in
-    let none = named-nowhere (λ (x : List ℕ). x) c.args.name names c.self.invariant.0 c.in-Err.field-0 (rw c.deref.ensures.value at c.in-Err.ensures.position) in
-    sym (place-nowhere (is_name_of c.args.name) names [] (λ k below. none k [] below)) ∙ ap (λ (b : Slots). place_of b c.args.name) c.self.view_is
+    let name = c.args.name in
+    let slots = c.self.inside.slots.items in
+    let d = vacant [] in
+    let by_key = c.in-Err.ensures.position slot_name (answers_always _ _ _ (λ f a r g called. search rules)) in
+    let rise = adjacent-map slot_name (λ (x y : List ℕ). slice_cmp nat_cmp x y ≡ Less) slots c.self.invariant in
+    let none = named-nowhere slot_name name slots rise c.in-Err.field-0 (rw c.deref.ensures.value at by_key) in
+    let long = slots-long slots in
+    sym (place-nowhere (is_name_of name) (map slot_name slots) [] (λ k below.
+    let within : k < length slots = omega (arith, below, long) in
+    ap (λ (x : List ℕ). bytes_eq x name) (get_or-map slot_name slots k d [] within) ∙ none k d within)) ∙ ap (λ (b : Slots). place_of b name) c.self.view_is

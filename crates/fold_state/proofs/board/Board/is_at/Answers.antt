@@ -1,0 +1,14 @@
+use Rattle.std.proofs.Common.{◌≡◌, ◌∙◌, ◌<◌, [], length, get_or, map, sym, subst, arith}
+use Rattle.fold_state.specs.Boards.{Slots, slot_name}
+use Rattle.fold_state.proofs.BoardFacts.{name-at, same-name, slots-long}
+use Rattle.fold_state.proofs.board.Board.is_at.Goals as goal
+
+pub returns-then-at-len : goal.returns-then-at-len
+returns-then-at-len c = λ equal.
+    let slots = c.self.inside.slots.items in
+    let at = c.args.at in
+    let below : at < length slots = omega (arith, c.if-at-len.true, c.len.ensures) in
+    let long = slots-long slots in
+    let within : at < length (map slot_name slots) = omega (arith, below, long) in
+    let here : get_or (map slot_name slots) at [] ≡ c.args.name.now = name-at slots at c.index.result.now below c.index.ensures ∙ same-name c.index.result.now.name c.args.name.now (sym c.eq.ensures ∙ equal) in
+    subst (λ (b : Slots). (at < length b.names) × (get_or b.names at [] ≡ c.args.name.now)) c.self.view_is (within, here)
