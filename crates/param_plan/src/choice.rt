@@ -3,7 +3,7 @@ ghost use Rattle.std.specs.Prelude.{◌≡◌, option_and_then, option_map, map,
 ghost use Rattle.std.specs.Arc.{arc_value};
 ghost use Rattle.std.specs.List.{find, zip};
 ghost use Rattle.std.specs.Option.{option_copied};
-ghost use Rattle.param_plan.specs.Choices.{choice_of, choices_in, is_chosen, only_curve};
+ghost use Rattle.param_plan.specs.Choices.{is_met, only_curve, selection_of, selections_in};
 
 use check_plan::Holds;
 use curve_plan::Curve;
@@ -12,44 +12,60 @@ use std::alloc::{AllocError, Global};
 use std::marker::Model;
 use std::sync::Arc;
 
-/// The curve of a selection, if there is one, with the condition that it is taken by. Contracts see the curve's rows.
+/// A curve that may be taken, if there is one. Contracts see its rows.
 #[derive(Drop)]
 pub struct Choice {
-    rlchk: Name,
-    valpar: i128,
     curve: Option<Arc<Curve>>,
 }
 
 impl Model for Choice {
-    ghost use Rattle.std.specs.Prelude.{option_map};
+    ghost use Rattle.std.specs.Prelude.{Option, option_map};
     ghost use Rattle.std.specs.Arc.{arc_value};
-    ghost use Rattle.param_plan.specs.Choices.{CurveChoice};
+    ghost use Rattle.mib_model.specs.declared.plan.CurveRows.{CurveRows};
 
-    ghost Value = { CurveChoice };
+    ghost Value = { Option CurveRows };
 
-    ghost view = { λ choice. record { rlchk = choice.rlchk; valpar = choice.valpar; curve = option_map arc_value choice.curve } };
+    ghost view = { λ choice. option_map arc_value choice.curve };
 }
 
-// A further handle of a curve, if there is one.
-fn shared(curve: &Option<Arc<Curve>>) -> Result<Option<Arc<Curve>>, AllocError>
-    ensures { IfOk result (λ other. option_map arc_value other ≡ option_map arc_value curve.now) }
-{
-    match curve {
-        Some(curve) => Ok(Some(Arc::try_clone(curve)?)),
-        None => Ok(None),
+impl Choice {
+    // A further handle of a curve, if there is one.
+    fn of(curve: &Option<Arc<Curve>>) -> Result<Choice, AllocError>
+        ensures { IfOk result (λ choice. choice ≡ option_map arc_value curve.now) }
+    {
+        let curve = match curve {
+            Some(curve) => Some(Arc::try_clone(curve)?),
+            None => None,
+        };
+        Ok(Choice { curve })
+    }
+
+    /// The curve.
+    pub fn curve(&self) -> Option<&Curve>
+        ensures { option_copied result ≡ self.now }
+    {
+        match &self.curve {
+            Some(curve) => Some(curve),
+            None => None,
+        }
     }
 }
 
-/// A further handle of the curve of CURTX, where that is given and there is a curve.
-pub fn curve_of(
-    curtx: Option<Name>,
-    curves: &[Option<Arc<Curve>>],
-) -> Result<Option<Arc<Curve>>, AllocError>
-    ensures { IfOk result (λ curve. option_map arc_value curve ≡ only_curve curtx (map (option_map arc_value) curves.now)) }
+/// A selection: its condition, and the curve that is taken where that holds. Contracts see the curve's rows.
+#[derive(Drop)]
+pub struct Selection {
+    rlchk: Name,
+    valpar: i128,
+    choice: Choice,
+}
+
+/// The curve of CURTX, where that is given and there is one.
+pub fn only_of(curtx: Option<Name>, curves: &[Option<Arc<Curve>>]) -> Result<Choice, AllocError>
+    ensures { IfOk result (λ choice. choice ≡ only_curve curtx (map (option_map arc_value) curves.now)) }
 {
     match (curtx, curves.first()) {
-        (Some(_), Some(curve)) => shared(curve),
-        _ => Ok(None),
+        (Some(_), Some(curve)) => Choice::of(curve),
+        _ => Ok(Choice { curve: None }),
     }
 }
 
@@ -58,28 +74,28 @@ fn selected(
     alloc: Global,
     curs: &[CurRow],
     curves: &[Option<Arc<Curve>>],
-) -> Result<Vec<Choice>, AllocError>
-    ensures { IfOk result (λ choices. choices.items ≡ map choice_of (zip curs.now (map (option_map arc_value) curves.now))) }
+) -> Result<Vec<Selection>, AllocError>
+    ensures { IfOk result (λ selections. selections.items ≡ map selection_of (zip curs.now (map (option_map arc_value) curves.now))) }
 {
-    let mut choices = Vec::new(alloc);
+    let mut selections = Vec::new(alloc);
     for (cur, curve) in curs.iter().zip(curves) {
-        choices.push(Choice {
+        selections.push(Selection {
             rlchk: cur.rlchk,
             valpar: cur.valpar,
-            curve: shared(curve)?,
+            choice: Choice::of(curve)?,
         })?;
     }
-    Ok(choices)
+    Ok(selections)
 }
 
 /// A curve for each selection, where CURTX is not given.
-pub fn choices_of(
+pub fn selections_of(
     alloc: Global,
     curtx: Option<Name>,
     curs: &[CurRow],
     curves: &[Option<Arc<Curve>>],
-) -> Result<Vec<Choice>, AllocError>
-    ensures { IfOk result (λ choices. choices.items ≡ choices_in curtx curs.now (map (option_map arc_value) curves.now)) }
+) -> Result<Vec<Selection>, AllocError>
+    ensures { IfOk result (λ selections. selections.items ≡ selections_in curtx curs.now (map (option_map arc_value) curves.now)) }
 {
     match curtx {
         Some(_) => Ok(Vec::new(alloc)),
@@ -87,21 +103,18 @@ pub fn choices_of(
     }
 }
 
-// The first choice whose condition is met.
-fn first_met<'a, K: Holds>(choices: &'a [Choice], kept: &K) -> Option<&'a Choice>
-    ensures { option_copied result ≡ find (is_chosen (K.memory kept.now)) choices.now }
+// The first selection whose condition holds.
+fn first_met<'a, K: Holds>(selections: &'a [Selection], kept: &K) -> Option<&'a Selection>
+    ensures { option_copied result ≡ find (is_met (K.memory kept.now)) selections.now }
 {
-    choices
+    selections
         .iter()
-        .find(|choice| kept.holds(choice.rlchk, choice.valpar))
+        .find(|selection| kept.holds(selection.rlchk, selection.valpar))
 }
 
-/// The curve of the first choice whose condition is met.
-pub fn chosen<'a, K: Holds>(choices: &'a [Choice], kept: &K) -> Option<&'a Curve>
-    ensures { option_copied result ≡ option_and_then (λ choice. choice.curve) (find (is_chosen (K.memory kept.now)) choices.now) }
+/// The curve of the first selection whose condition holds.
+pub fn selected_by<'a, K: Holds>(selections: &'a [Selection], kept: &K) -> Option<&'a Curve>
+    ensures { option_copied result ≡ option_and_then (λ selection. selection.choice) (find (is_met (K.memory kept.now)) selections.now) }
 {
-    match &first_met(choices, kept)?.curve {
-        Some(curve) => Some(curve),
-        None => None,
-    }
+    first_met(selections, kept)?.choice.curve()
 }

@@ -6,37 +6,36 @@ ghost use Rattle.mib_model.specs.Finish.{is_valid};
 ghost use Rattle.mib_model.specs.WholeNumbers.{least_raw, greatest_raw};
 ghost use Rattle.param_plan.specs.Slices.{slice_of, curve_in, checks_in};
 
-use crate::choice::{Choice, choices_of, chosen, curve_of};
+use crate::choice::{Choice, Selection, only_of, selected_by, selections_of};
 use crate::rows::ParamRows;
 use check_plan::{Checks, Holds, is_met};
 use curve_plan::Curve;
 use mib_model::{Cal, Name, OcfRow, OcpRow, Steps};
 use std::alloc::{AllocError, Global};
 use std::marker::Model;
-use std::sync::Arc;
 use std::sync::ledger::Ledger;
 
-/// The rows of a parameter, compiled. What is asked of it for each value stands first, so that it lies together. Contracts
-/// see the rows.
+/// The rows of a parameter, compiled. What is asked of it for each value lies together behind the rows. Contracts see the
+/// rows.
 pub struct Param {
+    rows: ParamRows,
     conditional: bool,
     decim: u8,
-    curve: Option<Arc<Curve>>,
+    only: Choice,
     checks: Option<Checks>,
-    choices: Vec<Choice>,
-    rows: ParamRows,
+    selections: Vec<Selection>,
 }
 
 /// By hand, so that whoever lets one go proves one call.
 impl Drop for Param {
     fn drop(self) {
         let Param {
+            rows: _rows,
             conditional: _,
             decim: _,
-            curve: _curve,
+            only: _only,
             checks: _checks,
-            choices: _choices,
-            rows: _rows,
+            selections: _selections,
         } = self;
     }
 }
@@ -49,7 +48,7 @@ impl Model for Param {
 
     ghost view = { λ param. slice_of param.rows };
 
-    ghost invariant = { λ param. ArePartsOf (slice_of param.rows) param.conditional param.decim param.curve param.choices.items param.checks };
+    ghost invariant = { λ param. ArePartsOf (slice_of param.rows) param.conditional param.decim param.only param.selections.items param.checks };
 }
 
 // The checks of a parameter that has a row of ocf.
@@ -75,9 +74,9 @@ impl Param {
         Ok(Param {
             conditional: pcf.valid.is_some(),
             decim: pcf.decim,
-            curve: curve_of(pcf.curtx, &rows.curves)?,
+            only: only_of(pcf.curtx, &rows.curves)?,
             checks: checks_of(alloc, &rows.ocf, &rows.ocps)?,
-            choices: choices_of(alloc, pcf.curtx, &rows.curs, &rows.curves)?,
+            selections: selections_of(alloc, pcf.curtx, &rows.curs, &rows.curves)?,
             rows,
         })
     }
@@ -110,7 +109,7 @@ impl Param {
             Some(checks) => checks.touch(),
             None => 0,
         };
-        let curve = match &self.curve {
+        let curve = match self.only.curve() {
             Some(curve) => curve.touch(),
             None => 0,
         };
@@ -160,9 +159,9 @@ impl Param {
     fn curve<K: Holds>(&self, kept: &K) -> Option<&Curve>
         ensures { option_copied result ≡ curve_in self.now (K.memory kept.now) }
     {
-        match &self.curve {
+        match self.only.curve() {
             Some(curve) => Some(curve),
-            None => chosen(&self.choices, kept),
+            None => selected_by(&self.selections, kept),
         }
     }
 
