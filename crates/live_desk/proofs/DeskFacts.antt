@@ -1,5 +1,5 @@
 -- A desk's whole script: the lines up to the first `go`, and then the others.
-use Rattle.std.proofs.Common.{◌≡◌, ℕ, zero, suc, ◌+◌, ◌==◌, Bool, true, false, cond, List, [], ◌∷◌, ◌++◌, length, drop, Option, Some, None, refl, sym, ap, ◌∙◌, subst, append_assoc, append-nil, length-append, arith}
+use Rattle.std.proofs.Common.{◌≡◌, ℕ, ◌==◌, Bool, true, false, List, [], ◌++◌, length, drop, Some, None, refl, sym, ap, ◌∙◌, subst, append_assoc, append-nil, length-append, arith}
 use Rattle.std.specs.Prelude.{IfSome}
 use Rattle.std.specs.Io.KnownBytes.{Appends, Consumes}
 use Rattle.std.proofs.KnownBytes.{Appends-trans, Consumes-trans}
@@ -14,9 +14,10 @@ use Rattle.live_intake.specs.Intake.{Gives}
 use Rattle.live_desk.specs.declared.desk_end.DeskEnd.{DeskEnd}
 use Rattle.live_desk.specs.Lines.{is_reply_fault}
 use Rattle.live_desk.specs.Scripts.{DeskedBy, EndsEarly, Pauses, limit_text, tail_by}
+use Rattle.live_desk.specs.Standing.{Standing}
 use Rattle.live_desk.proofs.LineFacts.{Known, desk-none, given-append, moves-append, text-append}
 use Rattle.mib_model.specs.declared.database.Database.{Database}
-use Rattle.mib_model.specs.Desk.{DeskReply, DeskState, desk_start}
+use Rattle.mib_model.specs.Desk.{desk_start}
 use Rattle.mib_model.specs.DeskRuns.{Calls, IsDesk, prelude}
 use Rattle.mib_model.specs.RegisterHistories.{RegisterHistory}
 use Rattle.mib_model.specs.Replies.{desk_text}
@@ -36,44 +37,52 @@ in-front front seen o1 cs later listed own = (moves_of 1 later.0, ap (moves_of 1
 
 -- ---- what the script was
 
-script-both : (mid : Reading) (left place : Known) (given : List ℕ) (first more others : List (List ℕ)) → Consumes left place given → IfSome left (λ l. IfSome place (λ b. still reading_start l ≡ first ++ still mid b)) → IfSome place (λ l. still mid l ≡ more ++ others)
-    → IfSome left (λ octets. script octets ≡ (first ++ more) ++ others)
-script-both mid None place given first more others taken ahead rest = tt
-script-both mid (Some l) None given first more others taken ahead rest = absurd taken
-script-both mid (Some l) (Some p) given first more others taken ahead rest = sym (still-start l) ∙ ahead ∙ ap (λ ls. first ++ ls) rest ∙ sym (append_assoc first more others)
+module _ (was : Reading) (unread : was ≡ reading_start) where
+  of-start : (octets : List ℕ) → script octets ≡ still was octets
+  of-start octets = sym (still-start octets) ∙ ap (λ r. still r octets) (sym unread)
 
-script-one : (left : Known) (handled others : List (List ℕ)) → IfSome left (λ l. still reading_start l ≡ handled ++ others) → IfSome left (λ octets. script octets ≡ handled ++ others)
-script-one None handled others parted = tt
-script-one (Some l) handled others parted = sym (still-start l) ∙ parted
+  limit-of-start : (octets : List ℕ) → meets_limit was octets ≡ reaches_limit octets
+  limit-of-start octets = ap (λ r. meets_limit r octets) unread ∙ limit-start octets
 
-tail-both : (e : DeskEnd) (mid : Reading) (left place : Known) (given tail : List ℕ) → Consumes left place given → IfSome left (λ l. IfSome place (λ b. meets_limit reading_start l ≡ meets_limit mid b)) → IfSome place (λ l. tail ≡ tail_by e (meets_limit mid l))
-    → IfSome left (λ octets. tail ≡ limit_text e octets)
-tail-both e mid None place given tail taken limit is = tt
-tail-both e mid (Some l) None given tail taken limit is = absurd taken
-tail-both e mid (Some l) (Some p) given tail taken limit is = is ∙ ap (tail_by e) (sym limit ∙ limit-start l)
+  script-both : (mid : Reading) (left place : Known) (given : List ℕ) (first more others : List (List ℕ)) → Consumes left place given → IfSome left (λ l. IfSome place (λ b. still was l ≡ first ++ still mid b)) → IfSome place (λ l. still mid l ≡ more ++ others)
+      → IfSome left (λ octets. script octets ≡ (first ++ more) ++ others)
+  script-both mid None place given first more others taken ahead rest = tt
+  script-both mid (Some l) None given first more others taken ahead rest = absurd taken
+  script-both mid (Some l) (Some p) given first more others taken ahead rest = of-start l ∙ ahead ∙ ap (λ ls. first ++ ls) rest ∙ sym (append_assoc first more others)
 
-tail-one : (e : DeskEnd) (left : Known) (tail : List ℕ) → IfSome left (λ l. tail ≡ tail_by e (meets_limit reading_start l)) → IfSome left (λ octets. tail ≡ limit_text e octets)
-tail-one e None tail is = tt
-tail-one e (Some l) tail is = is ∙ ap (tail_by e) (limit-start l)
+  script-one : (left : Known) (handled others : List (List ℕ)) → IfSome left (λ l. still was l ≡ handled ++ others) → IfSome left (λ octets. script octets ≡ handled ++ others)
+  script-one None handled others parted = tt
+  script-one (Some l) handled others parted = of-start l ∙ parted
+
+  tail-both : (e : DeskEnd) (mid : Reading) (left place : Known) (given tail : List ℕ) → Consumes left place given → IfSome left (λ l. IfSome place (λ b. meets_limit was l ≡ meets_limit mid b)) → IfSome place (λ l. tail ≡ tail_by e (meets_limit mid l))
+      → IfSome left (λ octets. tail ≡ limit_text e octets)
+  tail-both e mid None place given tail taken limit is = tt
+  tail-both e mid (Some l) None given tail taken limit is = absurd taken
+  tail-both e mid (Some l) (Some p) given tail taken limit is = is ∙ ap (tail_by e) (sym limit ∙ limit-of-start l)
+
+  tail-one : (e : DeskEnd) (left : Known) (tail : List ℕ) → IfSome left (λ l. tail ≡ tail_by e (meets_limit was l)) → IfSome left (λ octets. tail ≡ limit_text e octets)
+  tail-one e None tail is = tt
+  tail-one e (Some l) tail is = is ∙ ap (tail_by e) (limit-of-start l)
 
 -- ---- the two parts
 
 module _ (e : DeskEnd) (first : Database) (all front seen : RegisterHistory) (starts : StartsWith all front) (no_stamp : moves_of 0 front ≡ []) (later : StartsWith front seen) where
   -- the first lines, and then others
-  pub desked-both : (mid : Reading) (left place behind : Known) (s0 s1 s2 : DeskState) (o0 o1 o2 : RegisterHistory) (w0 w1 w2 : Known) → moves_of 1 seen ≡ o1 → o0 ≡ [] → s0 ≡ desk_start first
-      → Pauses true reading_start mid left place s0 s1 o0 o1 w0 w1 → EndsEarly false e mid place behind s1 s2 o1 o2 w1 w2 → DeskedBy e first o2 all left behind w0 w2
-  desked-both mid left place behind s0 s1 s2 o0 o1 o2 w0 w1 w2 listed unused begins p x =
+  pub desked-both : (before middle after : Standing) → moves_of 1 seen ≡ middle.held.own → before.read ≡ reading_start → before.held.own ≡ [] → before.held.state ≡ desk_start first → Pauses true before middle → EndsEarly false e middle after → DeskedBy e first all before after
+  desked-both before middle after listed unread unused begins p x =
       let w = p.works in let r = x.ends in
-      let early : o1 ≡ moves_by w.calls = w.own ∙ ap (λ l. l ++ moves_by w.calls) unused in
+      let s1 = middle.held.state in let s2 = after.held.state in
+      let w0 = before.held.written in let w1 = middle.held.written in let w2 = after.held.written in
+      let early : middle.held.own ≡ moves_by w.calls = w.own ∙ ap (λ l. l ++ moves_by w.calls) unused in
       let front_is : prelude false (w.handled ++ r.handled) ≡ w.handled = p.is_prelude r.handled in (
         w.calls ++ r.calls,
         r.own ∙ ap (λ l. l ++ moves_by r.calls) early ∙ sym (moves-append w.calls r.calls),
         record {
           given = w.given ++ r.given;
-          taken = Consumes-trans left place behind w.given r.given w.consumed r.consumed;
+          taken = Consumes-trans before.left middle.left after.left w.given r.given w.consumed r.consumed;
           handled = w.handled ++ r.handled;
           others = r.others;
-          of_script = script-both mid left place w.given w.handled r.handled r.others w.consumed w.ahead r.parted;
+          of_script = script-both before.read unread middle.read before.left middle.left w.given w.handled r.handled r.others w.consumed w.ahead r.parted;
           all = r.all;
           whole = omega (arith, given-append w.given r.given, w.whole, r.whole, length-append w.handled r.handled);
           early = w.calls;
@@ -86,22 +95,22 @@ module _ (e : DeskEnd) (first : Database) (all front seen : RegisterHistory) (st
           later = subst (λ ls. IsDesk false s1 ls r.calls r.replies s2) (sym (ap (λ (ls : List (List ℕ)). drop (length ls) (w.handled ++ r.handled)) front_is ∙ drop-append_seam w.handled r.handled)) r.is_desk;
           entered = refl;
           tail = r.tail;
-          is_tail = tail-both e mid left place w.given r.tail w.consumed w.limit r.is_tail;
+          is_tail = tail-both before.read unread e middle.read before.left middle.left w.given r.tail w.consumed w.limit r.is_tail;
           told = subst (Gives (is_reply_fault e) w0 w2) (sym (append_assoc (desk_text None w.replies) (desk_text None r.replies) r.tail) ∙ ap (λ t. t ++ r.tail) (sym (text-append w.replies r.replies)))
               (gives-behind (is_reply_fault e) (desk_text None w.replies) (desk_text None r.replies ++ r.tail) w0 w1 w2 (subst (Appends w0 w1) w.told p.printed) r.told);
           front = front;
           starts = starts;
           no_stamp = no_stamp;
-          before = in-front front seen o1 w.calls later listed early;
+          before = in-front front seen middle.held.own w.calls later listed early;
         },
       )
 
   -- the script ended before a `go`
-  pub desked-early : (left behind : Known) (s0 s1 : DeskState) (o0 o1 : RegisterHistory) (w0 w1 : Known) → moves_of 1 seen ≡ o1 → o0 ≡ [] → s0 ≡ desk_start first
-      → EndsEarly true e reading_start left behind s0 s1 o0 o1 w0 w1 → DeskedBy e first o1 all left behind w0 w1
-  desked-early left behind s0 s1 o0 o1 w0 w1 listed unused begins x =
+  pub desked-early : (before after : Standing) → moves_of 1 seen ≡ after.held.own → before.read ≡ reading_start → before.held.own ≡ [] → before.held.state ≡ desk_start first → EndsEarly true e before after → DeskedBy e first all before after
+  desked-early before after listed unread unused begins x =
       let r = x.ends in
-      let early : o1 ≡ moves_by r.calls = r.own ∙ ap (λ l. l ++ moves_by r.calls) unused in
+      let s1 = after.held.state in
+      let early : after.held.own ≡ moves_by r.calls = r.own ∙ ap (λ l. l ++ moves_by r.calls) unused in
       let front_is : prelude false r.handled ≡ r.handled = x.is_prelude refl in (
         r.calls,
         early,
@@ -110,7 +119,7 @@ module _ (e : DeskEnd) (first : Database) (all front seen : RegisterHistory) (st
           taken = r.consumed;
           handled = r.handled;
           others = r.others;
-          of_script = script-one left r.handled r.others r.parted;
+          of_script = script-one before.read unread before.left r.handled r.others r.parted;
           all = r.all;
           whole = r.whole;
           early = r.calls;
@@ -123,11 +132,11 @@ module _ (e : DeskEnd) (first : Database) (all front seen : RegisterHistory) (st
           later = subst (λ ls. IsDesk false s1 ls [] [] s1) (sym (ap (λ (ls : List (List ℕ)). drop (length ls) r.handled) front_is ∙ drop-length r.handled)) (desk-none s1);
           entered = sym (append-nil r.calls);
           tail = r.tail;
-          is_tail = tail-one e left r.tail r.is_tail;
-          told = subst (λ rs. Gives (is_reply_fault e) w0 w1 (desk_text None rs ++ r.tail)) (sym (append-nil r.replies)) r.told;
+          is_tail = tail-one before.read unread e before.left r.tail r.is_tail;
+          told = subst (λ rs. Gives (is_reply_fault e) before.held.written after.held.written (desk_text None rs ++ r.tail)) (sym (append-nil r.replies)) r.told;
           front = front;
           starts = starts;
           no_stamp = no_stamp;
-          before = in-front front seen o1 r.calls later listed early;
+          before = in-front front seen after.held.own r.calls later listed early;
         },
       )

@@ -1,7 +1,7 @@
 -- Lists of lines, of entries and of replies, in parts.
-use Rattle.std.proofs.Common.{◌≡◌, ℕ, zero, suc, ◌+◌, ◌-◌, ◌≤◌, Bool, true, false, cond, List, [], ◌∷◌, ◌++◌, map, length, take, Option, Some, None, refl, sym, ap, ◌∙◌, subst, append_assoc, append-nil, length-append, arith, inl, inr}
+use Rattle.std.proofs.Common.{◌≡◌, ℕ, ◌+◌, ◌-◌, ◌≤◌, false, cond, List, [], ◌∷◌, ◌++◌, length, Option, Some, None, refl, sym, ap, ◌∙◌, append-nil, arith, inl, inr}
 use Rattle.std.specs.Prelude.{option_map}
-use Rattle.std.specs.List.{All, count_by, cons_option, filter_map, slice_split}
+use Rattle.std.specs.List.{count_by, cons_option, slice_split}
 use Rattle.std.specs.Option.{option_to_list}
 use Rattle.std.proofs.lemmas.Grind.{flat_map-append}
 use Rattle.std.proofs.lemmas.List.{length-take-le, map-append}
@@ -18,7 +18,7 @@ use Rattle.mib_model.specs.declared.register.Answer.{Answer}
 use Rattle.mib_model.specs.declared.register.Entry.{Entry}
 use Rattle.mib_model.specs.declared.reply.Reply.{Reply}
 use Rattle.mib_model.specs.Desk.{DeskReply, DeskState, Plain}
-use Rattle.mib_model.specs.DeskRuns.{Calls, IsDesk, IsLine, LineRun}
+use Rattle.mib_model.specs.DeskRuns.{Calls, IsDesk, IsLine}
 use Rattle.mib_model.specs.Lines.{is_feed}
 use Rattle.mib_model.specs.Replies.{desk_line, desk_text}
 

@@ -1,29 +1,28 @@
 -- A script, line by line.
-use Rattle.std.proofs.Common.{◌≡◌, ◌≤◌, ◌⊎◌, ℕ, ◌+◌, Bool, true, false, cond, List, [], ◌∷◌, ◌++◌, length, Option, Some, None, refl, sym, ap, ◌∙◌, subst, append_assoc, append-nil, length-append, arith, inl, inr}
+use Rattle.std.proofs.Common.{◌≡◌, ◌≤◌, ◌+◌, ℕ, Bool, true, false, cond, List, [], ◌∷◌, ◌++◌, length, Option, Some, None, refl, sym, ap, ◌∙◌, subst, append_assoc, append-nil, length-append, arith, inl, inr}
 use Rattle.std.specs.Prelude.{IfSome, option_map}
-use Rattle.std.specs.List.{All}
 use Rattle.std.specs.Option.{option_to_list}
 use Rattle.std.specs.Io.KnownBytes.{Appends, Consumes}
 use Rattle.std.proofs.KnownBytes.{Appends-trans, Appends-nil, Consumes-trans, Consumes-nil}
-use Rattle.std.proofs.lemmas.List.Elements.{All-nil, All-push}
+use Rattle.std.proofs.lemmas.List.Elements.{All-nil}
 use Rattle.tm_io.specs.Octets.{AppendsPrefix}
 use Rattle.decode_session.proofs.FinishFacts.{part-longer, part-behind}
-use Rattle.desk.specs.Handling.{HandlesLine, moves_by}
+use Rattle.desk.specs.Handling.{moves_by}
 use Rattle.desk_lines.specs.Ahead.{Reading, still, meets_limit}
-use Rattle.desk_lines.specs.Gives.{TakesLine, TakesPart, NoneComes}
+use Rattle.desk_lines.specs.Gives.{TakesPart, NoneComes}
 use Rattle.live_intake.specs.Intake.{Gives}
 use Rattle.live_desk.specs.declared.desk_end.DeskEnd.{DeskEnd}
 use Rattle.live_desk.specs.declared.desk_end.DeskEnd.TheVariants as end
 use Rattle.live_desk.specs.declared.line.Came.TheVariants as came
 use Rattle.live_desk.specs.Lines.{Comes, Fails, Handles, Stops, is_reply_fault, limit_line}
 use Rattle.live_desk.specs.Scripts.{Ends, EndsEarly, IsHandled, Pauses, Working, Works, lines_given, tail_by}
+use Rattle.live_desk.specs.Standing.{Standing}
 use Rattle.live_desk.proofs.LineFacts.{Known, desk-append, desk-none, desk-one, given-append, given-line, given-none, moves-append, text-append, text-none}
 use Rattle.mib_model.specs.declared.reply.Reply.{Reply}
-use Rattle.mib_model.specs.Desk.{DeskReply, DeskState, Plain}
+use Rattle.mib_model.specs.Desk.{Plain}
 use Rattle.mib_model.specs.DeskLines.{request_of}
-use Rattle.mib_model.specs.DeskRuns.{Calls, IsDesk, is_go, prelude}
+use Rattle.mib_model.specs.DeskRuns.{IsDesk, is_go, prelude}
 use Rattle.mib_model.specs.Lines.{is_feed}
-use Rattle.mib_model.specs.RegisterHistories.{RegisterHistory}
 use Rattle.mib_model.specs.Replies.{desk_text}
 
 -- ---- lines that are still to come
@@ -53,19 +52,19 @@ limit-more was mid now (Some l) (Some p) (Some b) given taken first next = first
 
 -- ---- lines that were handled
 
-works-start : (r : Reading) (left : Known) (s : DeskState) (own : RegisterHistory) → (w : Works r r left left s s own own []) × (w.handled ≡ [])
-works-start r left s own = (
+works-start : (s : Standing) → (w : Works [] s s) × (w.handled ≡ [])
+works-start s = (
   record {
     handled = [];
     calls = [];
     replies = [];
-    own = sym (append-nil own);
-    is_desk = desk-none s;
+    own = sym (append-nil s.held.own);
+    is_desk = desk-none s.held.state;
     given = [];
-    consumed = Consumes-nil left;
+    consumed = Consumes-nil s.left;
     whole = let none = given-none [] (All-nil (λ octet. is_feed octet ≡ false)) in omega (arith, none);
-    ahead = ahead-none r left;
-    limit = limit-none r left;
+    ahead = ahead-none s.read s.left;
+    limit = limit-none s.read s.left;
     told = sym text-none;
   },
   refl,
@@ -75,22 +74,23 @@ works-start r left s own = (
 abbrev reply_of : Option Reply → List ℕ
 reply_of given = desk_text None (option_to_list (option_map Plain given))
 
-module _ (failed go : Bool) (was mid now : Reading) (left place behind : Known) (old state new : DeskState) (before own after : RegisterHistory) (w1 w2 : Known) (text : List ℕ)
-    (w : Works was mid left place old state before own text) (h : Handles failed go mid now place behind state new own after w1 w2) where
-  works-more : (m : Works was now left behind old new before after (text ++ reply_of h.replied.given)) × (m.handled ≡ w.handled ++ h.line ∷ [])
+module _ (failed go : Bool) (before middle after : Standing) (text : List ℕ) (w : Works text before middle) (h : Handles failed go middle after) where
+  works-more : (m : Works (text ++ reply_of h.replied.given) before after) × (m.handled ≡ w.handled ++ h.line ∷ [])
   works-more =
-      let replies = option_to_list (option_map Plain h.replied.given) in (
+      let more = h.replied.handles.calls in let replies = option_to_list (option_map Plain h.replied.given) in
+      let s0 = before.held.state in let s1 = middle.held.state in let s2 = after.held.state in
+      let own = before.held.own in (
         record {
           handled = w.handled ++ h.line ∷ [];
-          calls = w.calls ++ h.replied.handles.calls;
+          calls = w.calls ++ more;
           replies = w.replies ++ replies;
-          own = h.replied.handles.own ∙ ap (λ l. l ++ moves_by h.replied.handles.calls) w.own ∙ append_assoc before (moves_by w.calls) (moves_by h.replied.handles.calls) ∙ ap (λ l. before ++ l) (sym (moves-append w.calls h.replied.handles.calls));
-          is_desk = desk-append old state new w.handled (h.line ∷ []) w.calls h.replied.handles.calls w.replies replies w.is_desk (desk-one h.line state new h.replied.handles.calls h.replied.given h.replied.handles.is_line);
+          own = h.replied.handles.own ∙ ap (λ l. l ++ moves_by more) w.own ∙ append_assoc own (moves_by w.calls) (moves_by more) ∙ ap (λ l. own ++ l) (sym (moves-append w.calls more));
+          is_desk = desk-append s0 s1 s2 w.handled (h.line ∷ []) w.calls more w.replies replies w.is_desk (desk-one h.line s1 s2 more h.replied.given h.replied.handles.is_line);
           given = w.given ++ h.takes.taken;
-          consumed = Consumes-trans left place behind w.given h.takes.taken w.consumed h.takes.consumed;
-          whole = omega (arith, given-append w.given h.takes.taken, w.whole, given-line h.line h.takes.taken behind h.takes.no_feed h.takes.is_taken, length-append w.handled (h.line ∷ []));
-          ahead = ahead-more was mid now left place behind w.given w.handled h.line w.consumed w.ahead h.takes.first;
-          limit = limit-more was mid now left place behind w.given w.consumed w.limit h.takes.limit;
+          consumed = Consumes-trans before.left middle.left after.left w.given h.takes.taken w.consumed h.takes.consumed;
+          whole = omega (arith, given-append w.given h.takes.taken, w.whole, given-line h.line h.takes.taken after.left h.takes.no_feed h.takes.is_taken, length-append w.handled (h.line ∷ []));
+          ahead = ahead-more before.read middle.read after.read before.left middle.left after.left w.given w.handled h.line w.consumed w.ahead h.takes.first;
+          limit = limit-more before.read middle.read after.read before.left middle.left after.left w.given w.consumed w.limit h.takes.limit;
           told = ap (λ t. t ++ reply_of h.replied.given) w.told ∙ sym (text-append w.replies replies);
         },
         refl,
@@ -136,26 +136,38 @@ tail-known : (e : DeskEnd) (was : Reading) (left : Known) (limit : Bool) → IfS
 tail-known e was None limit met = tt
 tail-known e was (Some l) limit met = ap (tail_by e) (sym met)
 
-module _ (was mid now : Reading) (left place behind : Known) (old state new : DeskState) (before own after : RegisterHistory) (w0 w1 w2 : Known) (text : List ℕ) (w : Works was mid left place old state before own text) (printed : Appends w0 w1 text) where
+module _ (before middle after : Standing) (text : List ℕ) (w : Works text before middle) (printed : Appends before.held.written middle.held.written text) where
+  -- what was written at each of the three
+  abbrev w0 : Known
+  w0 = before.held.written
+
+  abbrev w1 : Known
+  w1 = middle.held.written
+
+  abbrev w2 : Known
+  w2 = after.held.written
+
   -- it ended with these lines handled
   abbrev Ended-as : DeskEnd → List (List ℕ) → Type 0
-  Ended-as e handled = (r : Ends e was left behind old new before after w0 w2) × (r.handled ≡ handled)
+  Ended-as e handled = (r : Ends e before after) × (r.handled ≡ handled)
 
-  own-same : after ≡ own → after ≡ before ++ moves_by w.calls
+  own-same : after.held.own ≡ middle.held.own → after.held.own ≡ before.held.own ++ moves_by w.calls
   own-same same = same ∙ w.own
+
+  desk-same : after.held.state ≡ middle.held.state → IsDesk false before.held.state w.handled w.calls w.replies after.held.state
+  desk-same same = subst (IsDesk false before.held.state w.handled w.calls w.replies) (sym same) w.is_desk
 
   wrote : Appends w0 w1 (desk_text None w.replies)
   wrote = subst (Appends w0 w1) w.told printed
 
-  taken-part : (p : TakesPart mid now place behind) → Consumes left behind (w.given ++ p.part)
-  taken-part p = Consumes-trans left place behind w.given p.part w.consumed p.consumed
+  taken-part : (p : TakesPart middle.read after.read middle.left after.left) → Consumes before.left after.left (w.given ++ p.part)
+  taken-part p = Consumes-trans before.left middle.left after.left w.given p.part w.consumed p.consumed
 
-  whole-part : (p : TakesPart mid now place behind) → lines_given (w.given ++ p.part) ≤ length w.handled
+  whole-part : (p : TakesPart middle.read after.read middle.left after.left) → lines_given (w.given ++ p.part) ≤ length w.handled
   whole-part p = omega (arith, given-append w.given p.part, given-none p.part p.no_feed, w.whole)
 
   -- none is to come
-  stops : (e : DeskEnd) (failed limit : Bool) (tail : List ℕ) → IsHandled e [] → (s : Stops failed limit mid now place behind state new own after w1 w2 tail) → Gives (is_reply_fault e) w0 w2 (desk_text None w.replies ++ tail_by e limit)
-      → Ended-as e w.handled
+  stops : (e : DeskEnd) (failed limit : Bool) (tail : List ℕ) → IsHandled e [] → (s : Stops failed limit tail middle after) → Gives (is_reply_fault e) w0 w2 (desk_text None w.replies ++ tail_by e limit) → Ended-as e w.handled
   stops e failed limit tail all s told = (
     record {
       handled = w.handled;
@@ -163,62 +175,61 @@ module _ (was mid now : Reading) (left place behind : Known) (old state new : De
       calls = w.calls;
       replies = w.replies;
       own = own-same s.own;
-      is_desk = subst (IsDesk false old w.handled w.calls w.replies) (sym s.same) w.is_desk;
+      is_desk = desk-same s.same;
       given = w.given ++ s.takes.part;
       consumed = taken-part s.takes;
       whole = whole-part s.takes;
-      parted = parted-none was mid left place w.given w.handled limit w.consumed w.ahead s.none;
+      parted = parted-none before.read middle.read before.left middle.left w.given w.handled limit w.consumed w.ahead s.none;
       all = all;
       tail = tail_by e limit;
-      is_tail = tail-known e was left limit (limit-known was mid left place w.given limit w.consumed w.limit s.none);
+      is_tail = tail-known e before.read before.left limit (limit-known before.read middle.read before.left middle.left w.given limit w.consumed w.limit s.none);
       told = told;
     },
     refl,
   )
 
-  ends-done : Stops false false mid now place behind state new own after w1 w2 [] → Ended-as end.Done w.handled
+  ends-done : Stops false false [] middle after → Ended-as end.Done w.handled
   ends-done s = stops end.Done false false [] refl s (Appends-trans w0 w1 w2 (desk_text None w.replies) [] wrote s.told)
 
-  ends-limit : Stops false true mid now place behind state new own after w1 w2 limit_line → Ended-as end.Limit w.handled
+  ends-limit : Stops false true limit_line middle after → Ended-as end.Limit w.handled
   ends-limit s = stops end.Limit false true limit_line refl s (Appends-trans w0 w1 w2 (desk_text None w.replies) limit_line wrote s.told)
 
-  ends-unlimited : Stops true true mid now place behind state new own after w1 w2 limit_line → Ended-as end.ReplyFault w.handled
+  ends-unlimited : Stops true true limit_line middle after → Ended-as end.ReplyFault w.handled
   ends-unlimited s = stops end.ReplyFault true true limit_line tt s (part-behind (desk_text None w.replies) limit_line w0 w1 w2 wrote s.told)
 
   -- the desk failed
-  ends-fault : Fails mid now place behind state new own after w1 w2 → Ended-as end.DeskFault w.handled
+  ends-fault : Fails middle after → Ended-as end.DeskFault w.handled
   ends-fault f = (
     record {
       handled = w.handled;
-      others = others_of mid place;
+      others = others_of middle.read middle.left;
       calls = w.calls;
       replies = w.replies;
       own = own-same f.own;
-      is_desk = subst (IsDesk false old w.handled w.calls w.replies) (sym f.same) w.is_desk;
+      is_desk = desk-same f.same;
       given = w.given ++ f.takes.part;
       consumed = taken-part f.takes;
       whole = whole-part f.takes;
-      parted = parted-ahead was mid left place w.given w.handled w.consumed w.ahead;
+      parted = parted-ahead before.read middle.read before.left middle.left w.given w.handled w.consumed w.ahead;
       all = tt;
       tail = [];
-      is_tail = no-tail left;
+      is_tail = no-tail before.left;
       told = subst (Appends w0 w2) (sym (append-nil (desk_text None w.replies))) (subst (λ t. Appends w0 t (desk_text None w.replies)) (sym f.told) wrote);
     },
     refl,
   )
     where
-      no-tail : (l : Known) → IfSome l (λ octets. [] ≡ tail_by end.DeskFault (meets_limit was octets))
+      no-tail : (l : Known) → IfSome l (λ octets. [] ≡ tail_by end.DeskFault (meets_limit before.read octets))
       no-tail None = tt
       no-tail (Some octets) = refl
 
   -- the reply to a line was written in part
-  ends-unreplied : (go : Bool) (h : Handles true go mid now place behind state new own after w1 w2) → Ended-as end.ReplyFault (w.handled ++ h.line ∷ [])
+  ends-unreplied : (go : Bool) (h : Handles true go middle after) → Ended-as end.ReplyFault (w.handled ++ h.line ∷ [])
   ends-unreplied go h =
-      let both = works-more true go was mid now left place behind old state new before own after w1 w2 text w h in
-      let m = both.0 in (
+      let both = works-more true go before middle after text w h in let m = both.0 in let tail = tail_for end.ReplyFault before.read before.left in (
         record {
           handled = m.handled;
-          others = others_of now behind;
+          others = others_of after.read after.left;
           calls = m.calls;
           replies = m.replies;
           own = m.own;
@@ -226,11 +237,11 @@ module _ (was mid now : Reading) (left place behind : Known) (old state new : De
           given = m.given;
           consumed = m.consumed;
           whole = m.whole;
-          parted = parted-ahead was now left behind m.given m.handled m.consumed m.ahead;
+          parted = parted-ahead before.read after.read before.left after.left m.given m.handled m.consumed m.ahead;
           all = tt;
-          tail = tail_for end.ReplyFault was left;
-          is_tail = tail-is end.ReplyFault was left;
-          told = part-longer (desk_text None m.replies) (tail_for end.ReplyFault was left) w0 w2 (subst (AppendsPrefix w0 w2) m.told (part-behind text (reply_of h.replied.given) w0 w1 w2 printed h.replied.told));
+          tail = tail;
+          is_tail = tail-is end.ReplyFault before.read before.left;
+          told = part-longer (desk_text None m.replies) tail w0 w2 (subst (AppendsPrefix w0 w2) m.told (part-behind text (reply_of h.replied.given) w0 w1 w2 printed h.replied.told));
         },
         both.1,
       )
@@ -265,50 +276,57 @@ all-go handled on = ap (prelude false) (sym (append-nil handled)) ∙ on [] ∙ 
 
 -- ---- a desk that works
 
-pub working-start : (until_go : Bool) (r : Reading) (left : Known) (s : DeskState) (own : RegisterHistory) (written : Known) → Working until_go r r left left s s own own written written
-working-start until_go r left s own written =
-    let start = works-start r left s own in
-    record { text = []; works = start.0; no_go = λ until more. ap (λ ls. prelude false (ls ++ more)) start.1 ∙ ap (λ ls. ls ++ prelude false more) (sym start.1); printed = Appends-nil written }
+pub line-counted : (failed go : Bool) (before after : Standing) → Handles failed go before after → after.read.lines ≡ before.read.lines + 1
+line-counted failed go before after h = ap (λ r. r.lines) h.takes.counted
 
-module _ (until_go : Bool) (was mid now : Reading) (left place behind : Known) (old state new : DeskState) (before own after : RegisterHistory) (w0 w1 w2 : Known) (w : Working until_go was mid left place old state before own w0 w1) where
+pub working-start : (until_go : Bool) (s : Standing) → Working until_go s s
+working-start until_go s =
+    let start = works-start s in
+    record { text = []; works = start.0; no_go = λ until more. ap (λ ls. prelude false (ls ++ more)) start.1 ∙ ap (λ ls. ls ++ prelude false more) (sym start.1); printed = Appends-nil s.held.written }
+
+module _ (until_go : Bool) (before middle after : Standing) (w : Working until_go before middle) where
+  -- the replies so far, and that to a line more
+  prints-more : (go : Bool) (h : Handles false go middle after) → Appends before.held.written after.held.written (w.text ++ reply_of h.replied.given)
+  prints-more go h = Appends-trans before.held.written middle.held.written after.held.written w.text (reply_of h.replied.given) w.printed h.replied.told
+
   -- a line more
-  pub working-more : (go : Bool) → (until_go ≡ true → go ≡ false) → Handles false go mid now place behind state new own after w1 w2 → Working until_go was now left behind old new before after w0 w2
+  pub working-more : (go : Bool) → (until_go ≡ true → go ≡ false) → Handles false go middle after → Working until_go before after
   working-more go none h =
-      let m = works-more false go was mid now left place behind old state new before own after w1 w2 w.text w.works h in
+      let m = works-more false go before middle after w.text w.works h in
       record {
         text = w.text ++ reply_of h.replied.given;
         works = m.0;
         no_go = λ until. subst GoesOn (sym m.1) (goes-on w.works.handled h.line go h.replied.is_go (w.no_go until) (none until));
-        printed = Appends-trans w0 w1 w2 w.text (reply_of h.replied.given) w.printed h.replied.told;
+        printed = prints-more go h;
       }
 
   -- a `go`
-  pub working-pauses : (go : Bool) → until_go ≡ true → go ≡ true → Handles false go mid now place behind state new own after w1 w2 → Pauses until_go was now left behind old new before after w0 w2
+  pub working-pauses : (go : Bool) → until_go ≡ true → go ≡ true → Handles false go middle after → Pauses until_go before after
   working-pauses go until some h =
-      let m = works-more false go was mid now left place behind old state new before own after w1 w2 w.text w.works h in
+      let m = works-more false go before middle after w.text w.works h in
       record {
         waited = until;
         text = w.text ++ reply_of h.replied.given;
         works = m.0;
         is_prelude = subst GoesOut (sym m.1) (goes-out w.works.handled h.line go h.replied.is_go (w.no_go until) some);
-        printed = Appends-trans w0 w1 w2 w.text (reply_of h.replied.given) w.printed h.replied.told;
+        printed = prints-more go h;
       }
 
-  early-same : (e : DeskEnd) → (r : Ends e was left behind old new before after w0 w2) × (r.handled ≡ w.works.handled) → EndsEarly until_go e was left behind old new before after w0 w2
+  early-same : (e : DeskEnd) → (r : Ends e before after) × (r.handled ≡ w.works.handled) → EndsEarly until_go e before after
   early-same e r = record { ends = r.0; is_prelude = λ until. subst (λ ls. prelude false ls ≡ ls) (sym r.1) (all-go w.works.handled (w.no_go until)) }
 
-  early-line : (go : Bool) (h : Handles true go mid now place behind state new own after w1 w2) → EndsEarly until_go end.ReplyFault was left behind old new before after w0 w2
+  early-line : (go : Bool) (h : Handles true go middle after) → EndsEarly until_go end.ReplyFault before after
   early-line go h =
-      let r = ends-unreplied was mid now left place behind old state new before own after w0 w1 w2 w.text w.works w.printed go h in
+      let r = ends-unreplied before middle after w.text w.works w.printed go h in
       record { ends = r.0; is_prelude = λ until. subst (λ ls. prelude false ls ≡ ls) (sym r.1) (goes-by w.works.handled h.line go h.replied.is_go (w.no_go until) go refl) }
 
-  early-fault : Comes (came.Ended end.ReplyFault) mid now place behind state new own after w1 w2 → EndsEarly until_go end.ReplyFault was left behind old new before after w0 w2
+  early-fault : Comes (came.Ended end.ReplyFault) middle after → EndsEarly until_go end.ReplyFault before after
   early-fault (inl (go, h)) = early-line go h
-  early-fault (inr s) = early-same end.ReplyFault (ends-unlimited was mid now left place behind old state new before own after w0 w1 w2 w.text w.works w.printed s)
+  early-fault (inr s) = early-same end.ReplyFault (ends-unlimited before middle after w.text w.works w.printed s)
 
   -- the end
-  pub working-ends : (e : DeskEnd) → Comes (came.Ended e) mid now place behind state new own after w1 w2 → EndsEarly until_go e was left behind old new before after w0 w2
-  working-ends end.Done comes = early-same end.Done (ends-done was mid now left place behind old state new before own after w0 w1 w2 w.text w.works w.printed comes)
-  working-ends end.Limit comes = early-same end.Limit (ends-limit was mid now left place behind old state new before own after w0 w1 w2 w.text w.works w.printed comes)
-  working-ends end.DeskFault comes = early-same end.DeskFault (ends-fault was mid now left place behind old state new before own after w0 w1 w2 w.text w.works w.printed comes)
+  pub working-ends : (e : DeskEnd) → Comes (came.Ended e) middle after → EndsEarly until_go e before after
+  working-ends end.Done comes = early-same end.Done (ends-done before middle after w.text w.works w.printed comes)
+  working-ends end.Limit comes = early-same end.Limit (ends-limit before middle after w.text w.works w.printed comes)
+  working-ends end.DeskFault comes = early-same end.DeskFault (ends-fault before middle after w.text w.works w.printed comes)
   working-ends end.ReplyFault comes = early-fault comes

@@ -2,12 +2,13 @@
 use Rattle.std.specs.Prelude.{◌≡◌, ℕ, ◌≤◌, Bool, true, false, List, [], ◌++◌, length, drop, Option, Some, None, IfSome, ⊤, if◌then◌else◌}
 use Rattle.std.specs.Io.KnownBytes.{Appends, Consumes}
 use Rattle.desk.specs.Handling.{moves_by}
-use Rattle.desk_lines.specs.Ahead.{Reading, still, meets_limit}
+use Rattle.desk_lines.specs.Ahead.{still, meets_limit}
 use Rattle.histories.specs.History.{StartsWith, moves_of}
 use Rattle.live_intake.specs.Intake.{Counts, Gives}
 use Rattle.live_desk.specs.declared.desk_end.DeskEnd.{DeskEnd}
 use Rattle.live_desk.specs.declared.desk_end.DeskEnd.TheVariants as end
 use Rattle.live_desk.specs.Lines.{is_desk_fault, is_reply_fault, limit_line}
+use Rattle.live_desk.specs.Standing.{Standing}
 use Rattle.mib_model.specs.declared.database.Database.{Database}
 use Rattle.mib_model.specs.Desk.{DeskReply, DeskState, desk_start}
 use Rattle.mib_model.specs.DeskRuns.{Calls, IsDesk, prelude}
@@ -22,17 +23,17 @@ lines_given octets = length (whole_pieces octets)
 -- ---- lines of a script
 
 -- lines were handled one after the other, and others are still to come; this is the text of the replies
-pub record Works (was now : Reading) (left behind : Option (List ℕ)) (old new : DeskState) (before after : RegisterHistory) (text : List ℕ) : Type 0 where
+pub record Works (text : List ℕ) (before after : Standing) : Type 0 where
   pub handled : List (List ℕ)
   pub calls : Calls
   pub replies : List DeskReply
-  pub own : after ≡ before ++ moves_by calls
-  pub is_desk : IsDesk false old handled calls replies new
+  pub own : after.held.own ≡ before.held.own ++ moves_by calls
+  pub is_desk : IsDesk false before.held.state handled calls replies after.held.state
   pub given : List ℕ
-  pub consumed : Consumes left behind given
+  pub consumed : Consumes before.left after.left given
   pub whole : lines_given given ≤ length handled
-  pub ahead : IfSome left (λ l. IfSome behind (λ b. still was l ≡ handled ++ still now b))
-  pub limit : IfSome left (λ l. IfSome behind (λ b. meets_limit was l ≡ meets_limit now b))
+  pub ahead : IfSome before.left (λ l. IfSome after.left (λ b. still before.read l ≡ handled ++ still after.read b))
+  pub limit : IfSome before.left (λ l. IfSome after.left (λ b. meets_limit before.read l ≡ meets_limit after.read b))
   pub told : text ≡ desk_text None replies
 
 -- a script that ended without a fault was handled whole
@@ -47,46 +48,46 @@ abbrev pub tail_by : DeskEnd → Bool → List ℕ
 tail_by e limit = if is_desk_fault e then [] else if limit then limit_line else []
 
 -- a script ended: its lines that were handled, and those that were not
-pub record Ends (e : DeskEnd) (was : Reading) (left behind : Option (List ℕ)) (old new : DeskState) (before after : RegisterHistory) (written_old written_new : Option (List ℕ)) : Type 0 where
+pub record Ends (e : DeskEnd) (before after : Standing) : Type 0 where
   pub handled : List (List ℕ)
   pub others : List (List ℕ)
   pub calls : Calls
   pub replies : List DeskReply
-  pub own : after ≡ before ++ moves_by calls
-  pub is_desk : IsDesk false old handled calls replies new
+  pub own : after.held.own ≡ before.held.own ++ moves_by calls
+  pub is_desk : IsDesk false before.held.state handled calls replies after.held.state
   pub given : List ℕ
-  pub consumed : Consumes left behind given
+  pub consumed : Consumes before.left after.left given
   pub whole : lines_given given ≤ length handled
-  pub parted : IfSome left (λ l. still was l ≡ handled ++ others)
+  pub parted : IfSome before.left (λ l. still before.read l ≡ handled ++ others)
   pub all : IsHandled e others
   pub tail : List ℕ
-  pub is_tail : IfSome left (λ l. tail ≡ tail_by e (meets_limit was l))
-  pub told : Gives (is_reply_fault e) written_old written_new (desk_text None replies ++ tail)
+  pub is_tail : IfSome before.left (λ l. tail ≡ tail_by e (meets_limit before.read l))
+  pub told : Gives (is_reply_fault e) before.held.written after.held.written (desk_text None replies ++ tail)
 
 -- so lines were handled, none of them a `go` where that is waited for: the lines up to the first `go` go on with the others
-pub record Working (until_go : Bool) (was now : Reading) (left behind : Option (List ℕ)) (old new : DeskState) (before after : RegisterHistory) (written_old written_new : Option (List ℕ)) : Type 0 where
+pub record Working (until_go : Bool) (before after : Standing) : Type 0 where
   pub text : List ℕ
-  pub works : Works was now left behind old new before after text
+  pub works : Works text before after
   pub no_go : until_go ≡ true → (more : List (List ℕ)) → prelude false (works.handled ++ more) ≡ works.handled ++ prelude false more
-  pub printed : Appends written_old written_new text
+  pub printed : Appends before.held.written after.held.written text
 
 -- lines were handled up to and with a `go`, where that was to be waited for, and all their replies written
-pub record Pauses (until_go : Bool) (was now : Reading) (left behind : Option (List ℕ)) (old new : DeskState) (before after : RegisterHistory) (written_old written_new : Option (List ℕ)) : Type 0 where
+pub record Pauses (until_go : Bool) (before after : Standing) : Type 0 where
   pub waited : until_go ≡ true
   pub text : List ℕ
-  pub works : Works was now left behind old new before after text
+  pub works : Works text before after
   pub is_prelude : (more : List (List ℕ)) → prelude false (works.handled ++ more) ≡ works.handled
-  pub printed : Appends written_old written_new text
+  pub printed : Appends before.held.written after.held.written text
 
 -- or the script ended, before a `go` where that was to be waited for
-pub record EndsEarly (until_go : Bool) (e : DeskEnd) (was : Reading) (left behind : Option (List ℕ)) (old new : DeskState) (before after : RegisterHistory) (written_old written_new : Option (List ℕ)) : Type 0 where
-  pub ends : Ends e was left behind old new before after written_old written_new
+pub record EndsEarly (until_go : Bool) (e : DeskEnd) (before after : Standing) : Type 0 where
+  pub ends : Ends e before after
   pub is_prelude : until_go ≡ true → prelude false ends.handled ≡ ends.handled
 
 -- what a desk did
-abbrev pub Worked : Bool → Option DeskEnd → Reading → Reading → Option (List ℕ) → Option (List ℕ) → DeskState → DeskState → RegisterHistory → RegisterHistory → Option (List ℕ) → Option (List ℕ) → Type 0
-Worked until_go None was now left behind old new before after w0 w1 = Pauses until_go was now left behind old new before after w0 w1
-Worked until_go (Some e) was now left behind old new before after w0 w1 = EndsEarly until_go e was left behind old new before after w0 w1
+abbrev pub Worked : Bool → Option DeskEnd → Standing → Standing → Type 0
+Worked until_go None before after = Pauses until_go before after
+Worked until_go (Some e) before after = EndsEarly until_go e before after
 
 -- the count of the desk rose where it failed, and else stays as it was
 abbrev pub HasDeskCause : Option DeskEnd → ℕ → ℕ → Type 0
@@ -105,7 +106,7 @@ abbrev pub limit_text : DeskEnd → List ℕ → List ℕ
 limit_text e octets = tail_by e (reaches_limit octets)
 
 -- what a desk did with its script: the lines up to the first `go`, and then the others. The moves of the first stand before the first stamp
-pub record Desked (e : DeskEnd) (first : Database) (entries : Calls) (seen : RegisterHistory) (left behind written_old written_new : Option (List ℕ)) : Type 0 where
+pub record Desked (e : DeskEnd) (first : Database) (entries : Calls) (seen : RegisterHistory) (left behind old new : Option (List ℕ)) : Type 0 where
   pub given : List ℕ
   pub taken : Consumes left behind given
   pub handled : List (List ℕ)
@@ -124,12 +125,13 @@ pub record Desked (e : DeskEnd) (first : Database) (entries : Calls) (seen : Reg
   pub entered : entries ≡ early ++ late
   pub tail : List ℕ
   pub is_tail : IfSome left (λ octets. tail ≡ limit_text e octets)
-  pub told : Gives (is_reply_fault e) written_old written_new (desk_text None (early_replies ++ late_replies) ++ tail)
+  pub told : Gives (is_reply_fault e) old new (desk_text None (early_replies ++ late_replies) ++ tail)
   pub front : RegisterHistory
   pub starts : StartsWith seen front
   pub no_stamp : moves_of 0 front ≡ []
   pub before : StartsWith (moves_of 1 front) (moves_by early)
 
--- the same of the moves of the desk's seat
-abbrev pub DeskedBy : DeskEnd → Database → RegisterHistory → RegisterHistory → Option (List ℕ) → Option (List ℕ) → Option (List ℕ) → Option (List ℕ) → Type 0
-DeskedBy e first own seen left behind w0 w1 = (entries : Calls) × (own ≡ moves_by entries) × Desked e first entries seen left behind w0 w1
+-- the same of a desk that stood so before and stands so behind its script, by the moves of its seat
+abbrev pub DeskedBy : DeskEnd → Database → RegisterHistory → Standing → Standing → Type 0
+DeskedBy e first seen before after =
+    (entries : Calls) × (after.held.own ≡ moves_by entries) × Desked e first entries seen before.left after.left before.held.written after.held.written

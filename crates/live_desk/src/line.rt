@@ -2,13 +2,14 @@
 ghost use Rattle.std.specs.Prelude.{◌≡◌, ◌<◌, ◌≤◌, ◌+◌, ◌^◌, None, false, length, option_map, OnOk, OnErr};
 ghost use Rattle.std.specs.Option.{option_to_list};
 ghost use Rattle.std.specs.Io.KnownBytes.{Appends};
-ghost use Rattle.desk.specs.State.{desk_of, editions_of};
-ghost use Rattle.desk_lines.specs.Reader.{reading_of, source_of};
+ghost use Rattle.desk.specs.State.{editions_of};
+ghost use Rattle.desk_lines.specs.Reader.{source_of};
 ghost use Rattle.desk_lines.specs.declared.reader.TheConstants.{LINE_ROOM};
 ghost use Rattle.edition_register.specs.Seats.{IsSeat, first_of, shown_in};
 ghost use Rattle.histories.specs.History.{StartsWith};
 ghost use Rattle.live_intake.specs.Intake.{Counts};
 ghost use Rattle.live_desk.specs.Lines.{Answers, Comes, EndsAtLimit, HasReplyCause, HasScriptCause, is_reply_fault};
+ghost use Rattle.live_desk.specs.Standing.{held_by, standing_of};
 ghost use Rattle.mib_model.specs.Desk.{Plain};
 ghost use Rattle.mib_model.specs.DeskLines.{request_of};
 ghost use Rattle.mib_model.specs.DeskRuns as Spec;
@@ -87,8 +88,7 @@ fn handle<L: Ledger, R: Wait, P: Sink>(
     requires editions { editions_of desk.old ≡ shown_in (first_of register.now) (own_moves seat.old) }
     ensures seat { IsSeat 1 register.now seat.new }
     ensures editions { editions_of desk.new ≡ shown_in (first_of register.now) (own_moves seat.new) }
-    ensures answers { Answers result line.now (desk_of desk.old) (desk_of desk.new) (own_moves seat.old) (own_moves seat.new) (P.written replies.old)
-        (P.written replies.new) }
+    ensures answers { Answers result line.now (held_by P.written desk.old seat.old replies.old) (held_by P.written desk.new seat.new replies.new) }
     ensures few { length (own_moves seat.new) ≤ length (own_moves seat.old) + 1 }
     ensures seen { StartsWith (seen_by seat.new) (seen_by seat.old) }
     ensures replies { HasReplyCause result (P.faults replies.old) (P.faults replies.new) }
@@ -130,8 +130,8 @@ pub(crate) fn next_line<L: Ledger, R: Wait, D: Source, P: Sink>(
     requires buffer { length buffer.old ≡ LINE_ROOM }
     ensures seat { IsSeat 1 register.now seat.new }
     ensures editions { editions_of desk.new ≡ shown_in (first_of register.now) (own_moves seat.new) }
-    ensures comes { Comes result (reading_of reader.old) (reading_of reader.new) (D.left (source_of reader.old)) (D.left (source_of reader.new))
-        (desk_of desk.old) (desk_of desk.new) (own_moves seat.old) (own_moves seat.new) (P.written replies.old) (P.written replies.new) }
+    ensures comes { Comes result (standing_of D.left P.written reader.old desk.old seat.old replies.old)
+        (standing_of D.left P.written reader.new desk.new seat.new replies.new) }
     ensures few { length (own_moves seat.new) ≤ length (own_moves seat.old) + 1 }
     ensures seen { StartsWith (seen_by seat.new) (seen_by seat.old) }
     ensures script { HasScriptCause result (D.faults (source_of reader.old)) (D.faults (source_of reader.new)) }

@@ -1,11 +1,12 @@
 // The lines of a desk, one after the other.
 ghost use Rattle.std.specs.Prelude.{◌≡◌, ◌≤◌, true, false, length, IsTrue};
-ghost use Rattle.desk.specs.State.{desk_of, editions_of};
+ghost use Rattle.desk.specs.State.{editions_of};
 ghost use Rattle.desk_lines.specs.Reader.{reading_of, source_of};
 ghost use Rattle.desk_lines.specs.declared.reader.TheConstants.{LINE_ROOM};
 ghost use Rattle.edition_register.specs.Seats.{IsSeat, first_of, shown_in};
 ghost use Rattle.histories.specs.History.{StartsWith};
 ghost use Rattle.live_desk.specs.Scripts.{HasDeskCause, HasRepliesCause, Worked};
+ghost use Rattle.live_desk.specs.Standing.{standing_of};
 ghost use Rattle.turn_cell.specs.Seats.{own_moves, seen_by};
 
 use crate::desk_end::DeskEnd;
@@ -49,9 +50,8 @@ pub fn work<L: Ledger, R: Wait, D: Source, P: Sink>(
     requires buffer { length buffer.old ≡ LINE_ROOM }
     ensures seat { IsSeat 1 register.now seat.new }
     ensures editions { editions_of desk.new ≡ shown_in (first_of register.now) (own_moves seat.new) }
-    ensures worked { Worked until_go result (reading_of reader.old) (reading_of reader.new) (D.left (source_of reader.old))
-        (D.left (source_of reader.new)) (desk_of desk.old) (desk_of desk.new) (own_moves seat.old) (own_moves seat.new) (P.written replies.old)
-        (P.written replies.new) }
+    ensures worked { Worked until_go result (standing_of D.left P.written reader.old desk.old seat.old replies.old)
+        (standing_of D.left P.written reader.new desk.new seat.new replies.new) }
     ensures room { length (own_moves seat.new) ≤ (reading_of reader.new).lines }
     ensures seen { StartsWith (seen_by seat.new) (seen_by seat.old) }
     ensures desk { HasDeskCause result (D.faults (source_of reader.old)) (D.faults (source_of reader.new)) }

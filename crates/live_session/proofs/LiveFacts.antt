@@ -7,6 +7,7 @@ use Rattle.desk.specs.Handling.{moves_by}
 use Rattle.histories.specs.History.{IsOfSeatsBelow, Permits, StartsWith, calls_of, moves_of}
 use Rattle.live_desk.specs.declared.desk_end.DeskEnd.{DeskEnd}
 use Rattle.live_desk.specs.Scripts.{Desked, DeskedBy, HasDeskCause, HasRepliesCause}
+use Rattle.live_desk.specs.Standing.{Standing}
 use Rattle.live_desk.proofs.DeskFacts.{starts-more}
 use Rattle.live_intake.specs.Intake.{Gives, Intakes, is_out_failed, tail_of}
 use Rattle.live_session.specs.Codes.{code_by}
@@ -73,11 +74,11 @@ module _ (ended : Result RunEnd RunFault) (first : Database) (history own : Regi
   }
 
   -- a live run
-  pub lives-of : (c : Code) (e : DeskEnd) (desk_own seen : RegisterHistory) (before now desk_before desk_now out_before out_now reply_before reply_now : ℕ) (l0 l1 d0 d1 w0 w1 r0 r1 : Known) → c ≡ code_by ended e → IsOfSeatsBelow 2 history → moves_of 1 history ≡ desk_own
-      → StartsWith history seen → HasOutCause ended out_before out_now → Intakes ended first own before now l0 l1 w0 w1 → DeskedBy e first desk_own seen d0 d1 r0 r1 → HasDeskCause (Some e) desk_before desk_now → HasRepliesCause (Some e) reply_before reply_now
-      → Lives c first history (object l0 l1 before now) (object d0 d1 desk_before desk_now) (object w0 w1 out_before out_now) (object r0 r1 reply_before reply_now)
+  pub lives-of : (c : Code) (e : DeskEnd) (seen : RegisterHistory) (stood stands : Standing) (before now desk_before desk_now out_before out_now reply_before reply_now : ℕ) (l0 l1 w0 w1 : Known) → c ≡ code_by ended e → IsOfSeatsBelow 2 history → moves_of 1 history ≡ stands.held.own
+      → StartsWith history seen → HasOutCause ended out_before out_now → Intakes ended first own before now l0 l1 w0 w1 → DeskedBy e first seen stood stands → HasDeskCause (Some e) desk_before desk_now → HasRepliesCause (Some e) reply_before reply_now
+      → Lives c first history (object l0 l1 before now) (object stood.left stands.left desk_before desk_now) (object w0 w1 out_before out_now) (object stood.held.written stands.held.written reply_before reply_now)
   unfolding prints-of
-  lives-of c e desk_own seen before now desk_before desk_now out_before out_now reply_before reply_now l0 l1 d0 d1 w0 w1 r0 r1 is_code below desk_is on cause i desked desk_cause reply_cause =
+  lives-of c e seen stood stands before now desk_before desk_now out_before out_now reply_before reply_now l0 l1 w0 w1 is_code below desk_is on cause i desked desk_cause reply_cause =
       let entries = desked.0 in let d = desked.2 in
       let calls : calls_of 1 history ≡ entries = ap (λ (ms : RegisterHistory). map (λ m. (m.entry, m.reply)) ms) (desk_is ∙ desked.1) ∙ calls-back entries in
       record {
@@ -89,7 +90,7 @@ module _ (ended : Result RunEnd RunFault) (first : Database) (history own : Regi
         };
         prints = prints-of before now out_before out_now l0 l1 w0 w1 cause i;
         desk_end = e;
-        desked = subst (λ cs. Desked e first cs history d0 d1 r0 r1) (sym calls) (desked-on e first entries seen history d0 d1 r0 r1 on d);
+        desked = subst (λ cs. Desked e first cs history stood.left stands.left stood.held.written stands.held.written) (sym calls) (desked-on e first entries seen history stood.left stands.left stood.held.written stands.held.written on d);
         desk_count = desk_cause;
         replies_count = reply_cause;
         is_code = is_code ∙ code-is ended e i.feed_failed i.packets i.rest l0 l1 i.is_failed i.ends i.limit;

@@ -7,6 +7,7 @@ ghost use Rattle.desk_lines.specs.Reader.{reading_of, source_of};
 ghost use Rattle.edition_register.specs.Seats.{IsSeat, first_of, shown_in};
 ghost use Rattle.histories.specs.History.{StartsWith};
 ghost use Rattle.live_desk.specs.Scripts.{DeskedBy, HasDeskCause, HasRepliesCause, Worked};
+ghost use Rattle.live_desk.specs.Standing.{standing_of};
 ghost use Rattle.live_intake.specs.Intake.{Intakes};
 ghost use Rattle.live_session.specs.Sides.{IsFresh};
 ghost use Rattle.mib_model.specs.Desk.{desk_start};
@@ -49,14 +50,14 @@ fn run_both<R: Threads + Wait + Sync, F: Source, D: Source + Send, O: Sink, P: S
     ensures intake { IsSeat 0 register.now intake.new.seat }
     ensures seen { StartsWith (seen_by intake.new.seat) (seen_by intake.old.seat) }
     ensures intakes { let first = first_of register.now in
-        Intakes result.0 first (own_moves intake.new.seat) (F.faults feed.old) (F.faults feed.new) (F.left feed.old) (F.left feed.new) (O.written out.old) (O.written out.new) }
+        Intakes result.0 first (own_moves intake.new.seat) (F.faults feed.old) (F.faults feed.new) (F.left feed.old) (F.left feed.new)
+        (O.written out.old) (O.written out.new) }
     ensures out { HasOutCause result.0 (O.faults out.old) (O.faults out.new) }
     ensures handed { result.0 ≢ Err (RunFault.Print Stop.Out) → O.handed out.old ≡ O.written out.old → O.handed out.new ≡ O.written out.new }
     ensures feed_missed { F.missed feed.new ≡ F.missed feed.old }
     ensures seat { IsSeat 1 register.now seat.new }
-    ensures worked { Worked false result.1 (reading_of reader.old) (reading_of reader.new) (D.left (source_of reader.old))
-        (D.left (source_of reader.new)) (desk_of desk.old) (desk_of desk.new) (own_moves seat.old) (own_moves seat.new) (P.written replies.old)
-        (P.written replies.new) }
+    ensures worked { Worked false result.1 (standing_of D.left P.written reader.old desk.old seat.old replies.old)
+        (standing_of D.left P.written reader.new desk.new seat.new replies.new) }
     ensures desk_cause { HasDeskCause result.1 (D.faults (source_of reader.old)) (D.faults (source_of reader.new)) }
     ensures replies { HasRepliesCause result.1 (P.faults replies.old) (P.faults replies.new) }
     ensures desk_missed { D.missed (source_of reader.new) ≡ D.missed (source_of reader.old) }
@@ -97,13 +98,15 @@ pub(crate) fn run<R: Threads + Wait + Sync, F: Source, D: Source + Send, O: Sink
     requires editions { editions_of desk.old ≡ shown_in (first_of register.now) (own_moves seat.old) }
     ensures intake { IsSeat 0 register.now intake.new.seat }
     ensures intakes { let first = first_of register.now in
-        Intakes result.0 first (own_moves intake.new.seat) (F.faults feed.old) (F.faults feed.new) (F.left feed.old) (F.left feed.new) (O.written out.old) (O.written out.new) }
+        Intakes result.0 first (own_moves intake.new.seat) (F.faults feed.old) (F.faults feed.new) (F.left feed.old) (F.left feed.new)
+        (O.written out.old) (O.written out.new) }
     ensures out { HasOutCause result.0 (O.faults out.old) (O.faults out.new) }
     ensures handed { result.0 ≢ Err (RunFault.Print Stop.Out) → O.handed out.old ≡ O.written out.old → O.handed out.new ≡ O.written out.new }
     ensures feed_missed { F.missed feed.new ≡ F.missed feed.old }
     ensures seat { IsSeat 1 register.now seat.new }
     ensures desked { let first = first_of register.now in
-        DeskedBy result.1 first (own_moves seat.new) (seen_by intake.new.seat) (D.left (source_of reader.old)) (D.left (source_of reader.new)) (P.written replies.old) (P.written replies.new) }
+        DeskedBy result.1 first (seen_by intake.new.seat) (standing_of D.left P.written reader.old desk.old seat.old replies.old)
+        (standing_of D.left P.written reader.new desk.new seat.new replies.new) }
     ensures desk_cause { HasDeskCause (Some result.1) (D.faults (source_of reader.old)) (D.faults (source_of reader.new)) }
     ensures replies { HasRepliesCause (Some result.1) (P.faults replies.old) (P.faults replies.new) }
     ensures desk_missed { D.missed (source_of reader.new) ≡ D.missed (source_of reader.old) }

@@ -1,11 +1,12 @@
 // The two sides of a live run: what the intake owns, and what each does.
 ghost use Rattle.std.specs.Prelude.{◌≡◌, ◌≢◌, ◌≤◌, [], Err, length};
 ghost use Rattle.decode_session.specs.Causes.{HasOutCause};
-ghost use Rattle.desk.specs.State.{desk_of, editions_of};
+ghost use Rattle.desk.specs.State.{editions_of};
 ghost use Rattle.desk_lines.specs.Reader.{reading_of, source_of};
 ghost use Rattle.edition_register.specs.Seats.{IsSeat, first_of, shown_in};
 ghost use Rattle.histories.specs.History.{StartsWith};
 ghost use Rattle.live_desk.specs.Scripts.{HasDeskCause, HasRepliesCause, Worked};
+ghost use Rattle.live_desk.specs.Standing.{standing_of};
 ghost use Rattle.live_intake.specs.Intake.{Intakes};
 ghost use Rattle.live_session.specs.Sides.{IsFresh};
 ghost use Rattle.turn_cell.specs.Seats.{own_moves, seen_by};
@@ -51,7 +52,8 @@ pub(crate) fn run_intake<R: Threads + Wait + Sync, F: Source, O: Sink>(
     ensures seat { IsSeat 0 register.now side.new.seat }
     ensures seen { StartsWith (seen_by side.new.seat) (seen_by side.old.seat) }
     ensures intakes { let first = first_of register.now in
-        Intakes result first (own_moves side.new.seat) (F.faults feed.old) (F.faults feed.new) (F.left feed.old) (F.left feed.new) (O.written out.old) (O.written out.new) }
+        Intakes result first (own_moves side.new.seat) (F.faults feed.old) (F.faults feed.new) (F.left feed.old) (F.left feed.new)
+        (O.written out.old) (O.written out.new) }
     ensures out { HasOutCause result (O.faults out.old) (O.faults out.new) }
     ensures handed { result ≢ Err (RunFault.Print Stop.Out) → O.handed out.old ≡ O.written out.old → O.handed out.new ≡ O.written out.new }
     ensures missed { F.missed feed.new ≡ F.missed feed.old }
@@ -88,9 +90,8 @@ fn work_counted<L: Ledger, R: Wait, D: Source, P: Sink>(
     requires editions { editions_of desk.old ≡ shown_in (first_of register.now) (own_moves seat.old) }
     ensures seat { IsSeat 1 register.now seat.new }
     ensures editions { editions_of desk.new ≡ shown_in (first_of register.now) (own_moves seat.new) }
-    ensures worked { Worked until_go result (reading_of reader.old) (reading_of reader.new) (D.left (source_of reader.old))
-        (D.left (source_of reader.new)) (desk_of desk.old) (desk_of desk.new) (own_moves seat.old) (own_moves seat.new) (P.written replies.old)
-        (P.written replies.new) }
+    ensures worked { Worked until_go result (standing_of D.left P.written reader.old desk.old seat.old replies.old)
+        (standing_of D.left P.written reader.new desk.new seat.new replies.new) }
     ensures room { length (own_moves seat.new) ≤ (reading_of reader.new).lines }
     ensures seen { StartsWith (seen_by seat.new) (seen_by seat.old) }
     ensures desk { HasDeskCause result (D.faults (source_of reader.old)) (D.faults (source_of reader.new)) }
@@ -130,9 +131,8 @@ pub(crate) fn run_desk<R: Wait, D: Source, P: Sink>(
     requires editions { editions_of desk.old ≡ shown_in (first_of register.now) (own_moves seat.old) }
     ensures seat { IsSeat 1 register.now seat.new }
     ensures editions { editions_of desk.new ≡ shown_in (first_of register.now) (own_moves seat.new) }
-    ensures worked { Worked until_go result (reading_of reader.old) (reading_of reader.new) (D.left (source_of reader.old))
-        (D.left (source_of reader.new)) (desk_of desk.old) (desk_of desk.new) (own_moves seat.old) (own_moves seat.new) (P.written replies.old)
-        (P.written replies.new) }
+    ensures worked { Worked until_go result (standing_of D.left P.written reader.old desk.old seat.old replies.old)
+        (standing_of D.left P.written reader.new desk.new seat.new replies.new) }
     ensures room { length (own_moves seat.new) ≤ (reading_of reader.new).lines }
     ensures seen { StartsWith (seen_by seat.new) (seen_by seat.old) }
     ensures desk { HasDeskCause result (D.faults (source_of reader.old)) (D.faults (source_of reader.new)) }

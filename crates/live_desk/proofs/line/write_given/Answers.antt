@@ -1,4 +1,4 @@
-use Rattle.std.proofs.Common.{List, ℕ, Some, None, ◌∙◌, OnOk, OnErr, sym, ap, subst}
+use Rattle.std.proofs.Common.{List, ℕ, None, ◌∙◌, OnOk, OnErr, sym, ap, subst}
 use Rattle.std.specs.Prelude.{option_map}
 use Rattle.std.specs.Option.{option_to_list}
 use Rattle.std.specs.Io.KnownBytes.{Appends}

@@ -1,10 +1,11 @@
 use Rattle.std.proofs.Common.{◌≡◌, ◌-◌, ◌≤◌, length}
-use Rattle.desk.specs.State.{desk_of, editions_of}
+use Rattle.desk.specs.State.{editions_of}
 use Rattle.desk_lines.specs.Reader.{reading_of, source_of}
 use Rattle.desk_lines.specs.declared.reader.TheConstants.{LINE_ROOM}
 use Rattle.edition_register.specs.Seats.{IsSeat, first_of, shown_in}
 use Rattle.histories.specs.History.{StartsWith}
 use Rattle.live_desk.specs.Scripts.{Working}
+use Rattle.live_desk.specs.Standing.{standing_of}
 use Rattle.live_desk.proofs.script.work.Given as goal
 use Rattle.turn_cell.specs.Seats.{own_moves, seen_by}
 
@@ -14,7 +15,7 @@ invariant-loop-go g l = record {
   editions : editions_of l.desk ≡ shown_in (first_of l.register) (own_moves l.seat);
   room : length (own_moves l.seat) ≤ (reading_of l.reader).lines;
   seen : StartsWith (seen_by l.seat) (seen_by l.initial.seat);
-  working : Working l.until_go (reading_of l.initial.reader) (reading_of l.reader) (g.D.Source.left (source_of l.initial.reader)) (g.D.Source.left (source_of l.reader)) (desk_of l.initial.desk) (desk_of l.desk) (own_moves l.initial.seat) (own_moves l.seat) (g.P.Sink.written l.initial.replies) (g.P.Sink.written l.replies);
+  working : Working l.until_go (standing_of g.D.Source.left g.P.Sink.written l.initial.reader l.initial.desk l.initial.seat l.initial.replies) (standing_of g.D.Source.left g.P.Sink.written l.reader l.desk l.seat l.replies);
   buffer : length l.buffer ≡ LINE_ROOM;
   script : g.D.Source.faults (source_of l.reader) ≡ g.D.Source.faults (source_of l.initial.reader);
   replies : g.P.Sink.faults l.replies ≡ g.P.Sink.faults l.initial.replies;

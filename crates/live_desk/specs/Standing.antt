@@ -1,0 +1,34 @@
+-- Where a desk stands before and behind lines. [This profile.]
+use Rattle.std.specs.Prelude.{ℕ, List, Option}
+use Rattle.desk.specs.declared.desk.Desk.{Desk}
+use Rattle.desk.specs.State.{desk_of}
+use Rattle.desk_lines.specs.declared.reader.DeskReader.{DeskReader}
+use Rattle.desk_lines.specs.Ahead.{Reading}
+use Rattle.desk_lines.specs.Reader.{reading_of, source_of}
+use Rattle.mib_model.specs.declared.register.Answer.{Answer}
+use Rattle.mib_model.specs.declared.register.Entry.{Entry}
+use Rattle.mib_model.specs.Desk.{DeskState}
+use Rattle.mib_model.specs.RegisterHistories.{RegisterHistory}
+use Rattle.turn_cell.specs.declared.view.View.{View}
+use Rattle.turn_cell.specs.Seats.{Seat, own_moves}
+
+-- what a desk holds: its state, the moves of its seat, and what was written of its replies, where that is told
+pub record Held : Type 0 where
+  pub state : DeskState
+  pub own : RegisterHistory
+  pub written : Option (List ℕ)
+
+-- where a desk stands in its script: how far that was read, what is left of it, where that is told, and what the desk holds
+pub record Standing : Type 0 where
+  pub read : Reading
+  pub left : Option (List ℕ)
+  pub held : Held
+
+-- what is held by a desk, by its seat, and by the object that its replies go to
+abbrev pub held_by : {S C P : Type 0} → (P → Option (List ℕ)) → Desk → Seat S (View C Entry Answer) → P → Held
+held_by written desk seat replies = record { state = desk_of desk; own = own_moves seat; written = written replies }
+
+-- where a desk stands, by its reader, by itself, by its seat, and by the object that its replies go to
+abbrev pub standing_of : {S C D P : Type 0} → (D → Option (List ℕ)) → (P → Option (List ℕ)) → DeskReader D → Desk → Seat S (View C Entry Answer) → P → Standing
+standing_of left written reader desk seat replies =
+    record { read = reading_of reader; left = left (source_of reader); held = held_by written desk seat replies }
