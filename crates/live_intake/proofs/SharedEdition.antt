@@ -29,108 +29,74 @@ use Rattle.mib_tables.specs.contracts.table.Table as Table
 use Rattle.struct_plan.specs.contracts.structure.Structure as Structure
 use Rattle.structure_set.specs.contracts.set.StructureSet as StructureSet
 
+-- values of a type may be read by several threads, and may go to another
+record Crosses (T : RattleType) : Type 0 where
+  read : IsSync T
+  moved : IsSend T
+
+shared-rows-sync : (T : RattleType) (g : TableRow.Ghosts T.Denot) → IsSync T → IsSend T → IsSync (Table.the_row T g)
+shared-rows-sync T g y d = search (crosses, sendable) depth 40
+
+shared-rows-send : (T : RattleType) (g : TableRow.Ghosts T.Denot) → IsSync T → IsSend T → IsSend (Table.the_row T g)
+shared-rows-send T g y d = search (crosses, sendable) depth 40
+
 -- tables share their rows, so those must cross in both ways
-table-sync : (T : RattleType) (g : TableRow.Ghosts T.Denot) → IsSync T → IsSend T → IsSync (Table.the_row T g)
-table-sync T g y d = search (crosses, sendable) depth 40
+table-sync : (T : RattleType) (g : TableRow.Ghosts T.Denot) → Crosses T → IsSync (Table.the_row T g)
+table-sync T g c = shared-rows-sync T g c.read c.moved
 
-table-send : (T : RattleType) (g : TableRow.Ghosts T.Denot) → IsSync T → IsSend T → IsSend (Table.the_row T g)
-table-send T g y d = search (crosses, sendable) depth 40
+table-send : (T : RattleType) (g : TableRow.Ghosts T.Denot) → Crosses T → IsSend (Table.the_row T g)
+table-send T g c = shared-rows-send T g c.read c.moved
 
-pcf-sync : IsSync PcfRow.the_row
-pcf-sync = search (crosses, sendable) depth 60 fits 20000
+pcf-crosses : Crosses PcfRow.the_row
+pcf-crosses = record { read = search (crosses, sendable) depth 60 fits 20000; moved = search (crosses, sendable) depth 60 fits 20000 }
 
-pcf-send : IsSend PcfRow.the_row
-pcf-send = search (crosses, sendable) depth 60 fits 20000
+pid-crosses : Crosses PidRow.the_row
+pid-crosses = record { read = search (crosses, sendable) depth 60 fits 20000; moved = search (crosses, sendable) depth 60 fits 20000 }
 
-pid-sync : IsSync PidRow.the_row
-pid-sync = search (crosses, sendable) depth 60 fits 20000
+pic-crosses : Crosses PicRow.the_row
+pic-crosses = record { read = search (crosses, sendable) depth 60 fits 20000; moved = search (crosses, sendable) depth 60 fits 20000 }
 
-pid-send : IsSend PidRow.the_row
-pid-send = search (crosses, sendable) depth 60 fits 20000
+tpcf-crosses : Crosses TpcfRow.the_row
+tpcf-crosses = record { read = search (crosses, sendable) depth 60 fits 20000; moved = search (crosses, sendable) depth 60 fits 20000 }
 
-pic-sync : IsSync PicRow.the_row
-pic-sync = search (crosses, sendable) depth 60 fits 20000
+plf-crosses : Crosses PlfRow.the_row
+plf-crosses = record { read = search (crosses, sendable) depth 60 fits 20000; moved = search (crosses, sendable) depth 60 fits 20000 }
 
-pic-send : IsSend PicRow.the_row
-pic-send = search (crosses, sendable) depth 60 fits 20000
+vpd-crosses : Crosses VpdRow.the_row
+vpd-crosses = record { read = search (crosses, sendable) depth 60 fits 20000; moved = search (crosses, sendable) depth 60 fits 20000 }
 
-tpcf-sync : IsSync TpcfRow.the_row
-tpcf-sync = search (crosses, sendable) depth 60 fits 20000
+ocf-crosses : Crosses OcfRow.the_row
+ocf-crosses = record { read = search (crosses, sendable) depth 60 fits 20000; moved = search (crosses, sendable) depth 60 fits 20000 }
 
-tpcf-send : IsSend TpcfRow.the_row
-tpcf-send = search (crosses, sendable) depth 60 fits 20000
+ocp-crosses : Crosses OcpRow.the_row
+ocp-crosses = record { read = search (crosses, sendable) depth 60 fits 20000; moved = search (crosses, sendable) depth 60 fits 20000 }
 
-plf-sync : IsSync PlfRow.the_row
-plf-sync = search (crosses, sendable) depth 60 fits 20000
+cur-crosses : Crosses CurRow.the_row
+cur-crosses = record { read = search (crosses, sendable) depth 60 fits 20000; moved = search (crosses, sendable) depth 60 fits 20000 }
 
-plf-send : IsSend PlfRow.the_row
-plf-send = search (crosses, sendable) depth 60 fits 20000
+caf-crosses : Crosses CafRow.the_row
+caf-crosses = record { read = search (crosses, sendable) depth 60 fits 20000; moved = search (crosses, sendable) depth 60 fits 20000 }
 
-vpd-sync : IsSync VpdRow.the_row
-vpd-sync = search (crosses, sendable) depth 60 fits 20000
+cap-crosses : Crosses CapRow.the_row
+cap-crosses = record { read = search (crosses, sendable) depth 60 fits 20000; moved = search (crosses, sendable) depth 60 fits 20000 }
 
-vpd-send : IsSend VpdRow.the_row
-vpd-send = search (crosses, sendable) depth 60 fits 20000
+txf-crosses : Crosses TxfRow.the_row
+txf-crosses = record { read = search (crosses, sendable) depth 60 fits 20000; moved = search (crosses, sendable) depth 60 fits 20000 }
 
-ocf-sync : IsSync OcfRow.the_row
-ocf-sync = search (crosses, sendable) depth 60 fits 20000
+txp-crosses : Crosses TxpRow.the_row
+txp-crosses = record { read = search (crosses, sendable) depth 60 fits 20000; moved = search (crosses, sendable) depth 60 fits 20000 }
 
-ocf-send : IsSend OcfRow.the_row
-ocf-send = search (crosses, sendable) depth 60 fits 20000
+mcf-crosses : Crosses McfRow.the_row
+mcf-crosses = record { read = search (crosses, sendable) depth 60 fits 20000; moved = search (crosses, sendable) depth 60 fits 20000 }
 
-ocp-sync : IsSync OcpRow.the_row
-ocp-sync = search (crosses, sendable) depth 60 fits 20000
-
-ocp-send : IsSend OcpRow.the_row
-ocp-send = search (crosses, sendable) depth 60 fits 20000
-
-cur-sync : IsSync CurRow.the_row
-cur-sync = search (crosses, sendable) depth 60 fits 20000
-
-cur-send : IsSend CurRow.the_row
-cur-send = search (crosses, sendable) depth 60 fits 20000
-
-caf-sync : IsSync CafRow.the_row
-caf-sync = search (crosses, sendable) depth 60 fits 20000
-
-caf-send : IsSend CafRow.the_row
-caf-send = search (crosses, sendable) depth 60 fits 20000
-
-cap-sync : IsSync CapRow.the_row
-cap-sync = search (crosses, sendable) depth 60 fits 20000
-
-cap-send : IsSend CapRow.the_row
-cap-send = search (crosses, sendable) depth 60 fits 20000
-
-txf-sync : IsSync TxfRow.the_row
-txf-sync = search (crosses, sendable) depth 60 fits 20000
-
-txf-send : IsSend TxfRow.the_row
-txf-send = search (crosses, sendable) depth 60 fits 20000
-
-txp-sync : IsSync TxpRow.the_row
-txp-sync = search (crosses, sendable) depth 60 fits 20000
-
-txp-send : IsSend TxpRow.the_row
-txp-send = search (crosses, sendable) depth 60 fits 20000
-
-mcf-sync : IsSync McfRow.the_row
-mcf-sync = search (crosses, sendable) depth 60 fits 20000
-
-mcf-send : IsSend McfRow.the_row
-mcf-send = search (crosses, sendable) depth 60 fits 20000
-
-lgf-sync : IsSync LgfRow.the_row
-lgf-sync = search (crosses, sendable) depth 60 fits 20000
-
-lgf-send : IsSend LgfRow.the_row
-lgf-send = search (crosses, sendable) depth 60 fits 20000
+lgf-crosses : Crosses LgfRow.the_row
+lgf-crosses = record { read = search (crosses, sendable) depth 60 fits 20000; moved = search (crosses, sendable) depth 60 fits 20000 }
 
 book-sync : IsSync Book.the_row
-book-sync = search (table-sync, pcf-sync, pcf-send, pid-sync, pid-send, pic-sync, pic-send, tpcf-sync, tpcf-send, plf-sync, plf-send, vpd-sync, vpd-send, ocf-sync, ocf-send, ocp-sync, ocp-send, cur-sync, cur-send, caf-sync, caf-send, cap-sync, cap-send, txf-sync, txf-send, txp-sync, txp-send, mcf-sync, mcf-send, lgf-sync, lgf-send, crosses, sendable) depth 60 fits 20000
+book-sync = search (table-sync, pcf-crosses, pid-crosses, pic-crosses, tpcf-crosses, plf-crosses, vpd-crosses, ocf-crosses, ocp-crosses, cur-crosses, caf-crosses, cap-crosses, txf-crosses, txp-crosses, mcf-crosses, lgf-crosses, crosses, sendable) depth 60 fits 20000
 
 pub book-send : IsSend Book.the_row
-book-send = search (table-send, pcf-sync, pcf-send, pid-sync, pid-send, pic-sync, pic-send, tpcf-sync, tpcf-send, plf-sync, plf-send, vpd-sync, vpd-send, ocf-sync, ocf-send, ocp-sync, ocp-send, cur-sync, cur-send, caf-sync, caf-send, cap-sync, cap-send, txf-sync, txf-send, txp-sync, txp-send, mcf-sync, mcf-send, lgf-sync, lgf-send, crosses, sendable) depth 60 fits 20000
+book-send = search (table-send, pcf-crosses, pid-crosses, pic-crosses, tpcf-crosses, plf-crosses, vpd-crosses, ocf-crosses, ocp-crosses, cur-crosses, caf-crosses, cap-crosses, txf-crosses, txp-crosses, mcf-crosses, lgf-crosses, crosses, sendable) depth 60 fits 20000
 
 layout-sync : IsSync Layout.the_row
 layout-sync = search (crosses, sendable) depth 60 fits 20000
