@@ -1,10 +1,10 @@
 -- What a run over a generated feed has printed.
-use Rattle.std.proofs.Common.{◌≡◌, ℕ, ◌<◌, ◌+◌, List, [], ◌++◌, length, Option, Some, None, Result, Ok, Err, refl, sym, ap, ◌∙◌, arith, subst, append-nil, append_assoc, length-append}
+use Rattle.std.proofs.Common.{◌≡◌, ℕ, ◌<◌, ◌+◌, List, [], ◌++◌, length, Option, Some, None, Ok, sym, ap, ◌∙◌, arith, subst, append-nil, append_assoc, length-append}
 use Rattle.std.proofs.lemmas.List.Elements.{All-append}
 use Rattle.std.proofs.lemmas.List.FromFn.{length-map-range_with_len}
 use Rattle.std.proofs.lemmas.List.Folds.{concat-append}
 use Rattle.std.specs.List.{concat}
-use Rattle.decode_session.specs.Run.{Ran, EndsBy, Writes, most_packets}
+use Rattle.decode_session.specs.Run.{Ran, EndsBy, most_packets}
 use Rattle.decode_session.specs.declared.ending.RunEnd.{RunEnd}
 use Rattle.decode_session.specs.declared.ending.RunEnd.TheVariants as end
 use Rattle.mib_laws.proofs.CutFacts.{each-cut}

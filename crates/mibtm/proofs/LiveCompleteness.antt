@@ -11,7 +11,7 @@ use Rattle.mib_model.specs.RegisterHistories.{RegisterHistory}
 use Rattle.session.specs.Sources.{Files}
 use Rattle.mibtm.proofs.Completeness.{held, not_failed, told}
 use Rattle.mibtm.specs.Live.{AreFound, AreSteady, CompletesLive, HoldFiles, LivesWhole}
-use Rattle.mibtm.specs.Statement.{FeedIs, DeskIs, Lived, LivedBy, Names, Shelves, Unopened, opened, written_to, OfFile}
+use Rattle.mibtm.specs.Statement.{Lived, LivedBy, Names, Shelves, Unopened, opened, written_to, OfFile}
 use Rattle.mibtm.specs.Objects.{SinkView}
 use Rattle.mibtm.specs.Sources.{sound_in}
 use Rattle.mibtm.specs.Tool.{IsUnfailed}

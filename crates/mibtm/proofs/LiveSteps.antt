@@ -1,5 +1,5 @@
 -- What a live run says of its objects, from what its part behind the feed says of them.
-use Rattle.std.proofs.Common.{◌≡◌, ℕ, Bool, true, false, List, Option, Some, None, Result, Ok, Err, IfSome, IsOkAnd, IsSomeAnd, is_some, ap, sym, ◌∙◌, subst}
+use Rattle.std.proofs.Common.{◌≡◌, ℕ, Bool, true, false, List, Option, Some, None, Ok, IfSome, IsOkAnd, IsSomeAnd, is_some, ap, ◌∙◌, subst}
 use Rattle.mib_model.specs.declared.code.Code.{Code}
 use Rattle.mib_model.specs.declared.code.Code.TheVariants as code
 use Rattle.mib_model.specs.declared.code.Input.TheVariants as input

@@ -1,18 +1,12 @@
 -- What the parts of a call say, as the statement of `tool` puts it together.
-use Rattle.std.proofs.Common.{◌≡◌, ◌≢◌, ℕ, Bool, true, false, is_some, List, [], Option, Some, None, Result, Ok, Err, IfSome, IfOk, IsOkAnd, IsSomeAnd, MatchOption, ◌⊎◌, inr, ap, sym, refl, ◌∙◌, subst}
-use Rattle.std.specs.Io.KnownBytes.{Appends}
-use Rattle.std.proofs.KnownBytes.{Appends-nil}
-use Rattle.std.proofs.lemmas.List.Elements.{All-nil}
-use Rattle.mib_model.specs.Interpreter.{interpret}
-use Rattle.mib_model.specs.Output.{output, output_of_one, stamped_by}
-use Rattle.mib_model.specs.Packets.{IsPacket}
+use Rattle.std.proofs.Common.{◌≡◌, ◌≢◌, ℕ, Bool, true, false, is_some, List, Option, Some, None, Result, Ok, Err, IfSome, IsOkAnd, IsSomeAnd, ◌⊎◌, inr, ap, sym, refl, ◌∙◌}
 use Rattle.mib_model.specs.declared.database.Database.{Database}
 use Rattle.mib_model.specs.declared.fault.MibFault.{MibFault}
 use Rattle.session.specs.Sources.{Files}
 use Rattle.decode_session.specs.Causes.{HasFeedCause, HasOutCause}
 use Rattle.mib_model.specs.declared.code.Code.TheVariants as code
 use Rattle.mib_model.specs.declared.code.Input.TheVariants as input
-use Rattle.mibtm.specs.Objects.{ShelfView, SinkView, HasStood, IsUncalled, IsUnwritten, IsHandedOn, Took, TookNothing}
+use Rattle.mibtm.specs.Objects.{ShelfView, SinkView, HasStood, IsUncalled, IsUnwritten}
 use Rattle.mibtm.specs.Codes.{code_of_refusal, code_of_run}
 use Rattle.decode_session.specs.Run.{EndsBy, EndsUnread}
 use Rattle.mibtm.specs.Refusals.{Refuses, HasRefusalCause}

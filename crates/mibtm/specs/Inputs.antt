@@ -1,5 +1,5 @@
 -- What is said by what the words ask for. [This profile.]
-use Rattle.std.specs.Prelude.{ℕ, List, Result, Ok, Err, ⊤}
+use Rattle.std.specs.Prelude.{ℕ, List, Result, Ok, ⊤}
 use Rattle.mib_model.specs.declared.code.Misuse.{Misuse}
 use Rattle.mib_model.specs.Words.{Command, Check, Decode, Live, Drill}
 
