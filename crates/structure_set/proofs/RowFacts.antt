@@ -5,11 +5,13 @@ use Rattle.std.specs.Option.{option_eq}
 use Rattle.std.specs.Ordering.{int_eq}
 use Rattle.row_laws.proofs.SameFacts.{same_values-Decides}
 use Rattle.mib_model.specs.declared.database.Database.{Database}
+use Rattle.mib_model.specs.declared.rows.PcfRow.{PcfRow}
 use Rattle.mib_model.specs.declared.rows.VpdRow.{VpdRow}
 use Rattle.mib_model.specs.LayoutTables.{vpd, vpd_cells, vpd_row}
+use Rattle.mib_model.specs.ParameterTables.{pcf, pcf_cells, pcf_row}
 use Rattle.mib_model.specs.Parameters.{is_measured}
 use Rattle.mib_model.specs.Plans.{type_item}
-use Rattle.mib_model.specs.SameRows.{same_vpd}
+use Rattle.mib_model.specs.SameRows.{same_pcf, same_vpd}
 use Rattle.mib_model.specs.Structures.{deduced, is_deduced}
 use Rattle.struct_plan.specs.Slices.{deduced_item}
 use Rattle.structure_set.specs.Sets.{number_of}
@@ -17,6 +19,10 @@ use Rattle.structure_set.specs.Sets.{number_of}
 -- rows that are the same are equal
 pub equal-rows : (x y : VpdRow) → same_vpd x y ≡ true → x ≡ y
 equal-rows x y h = ap vpd_row ((same_values-Decides vpd (vpd_cells x) (vpd_cells y)).0 h)
+
+-- parameters that are the same are equal
+pub equal-parameters : (x y : PcfRow) → same_pcf x y ≡ true → x ≡ y
+equal-parameters x y h = ap pcf_row ((same_values-Decides pcf (pcf_cells x) (pcf_cells y)).0 h)
 
 -- tests that agree find the same
 pub find-agree : {R : Type 0} (p q : R → Bool) → ((r : R) → p r ≡ q r) → (rows : List R) → find p rows ≡ find q rows

@@ -8,6 +8,7 @@
 
 mod before;
 mod building;
+mod parameters;
 mod set;
 mod sources;
 mod ways;

@@ -9,6 +9,7 @@ ghost use Rattle.mib_model.specs.declared.limits.TheConstants.{HELD_MOST};
 
 use crate::before::Before;
 use crate::building::{Building, build};
+use crate::parameters::same_parameters;
 use crate::sources::Sources;
 use crate::ways::ByNumber;
 use first_rows::FirstRows;
@@ -26,7 +27,7 @@ use type_items::item_of;
 /// The structures and the deduced parameters of a database, compiled. Contracts see the database.
 pub struct StructureSet {
     structures: HashMap<i128, Arc<Structure>>,
-    deduced: FirstRows<ByNumber>,
+    deduced: Arc<FirstRows<ByNumber>>,
     book: Snapshot<Book>,
 }
 
@@ -43,6 +44,7 @@ impl Drop for StructureSet {
 
 impl Model for StructureSet {
     ghost use Rattle.std.specs.Prelude.{◌≡◌, ℤ};
+    ghost use Rattle.std.specs.Arc.{arc_value};
     ghost use Rattle.mib_model.specs.declared.database.Database.{Database};
     ghost use Rattle.struct_plan.specs.Slices.{structure_found};
     ghost use Rattle.structure_set.specs.Building.{structure_at};
@@ -51,7 +53,8 @@ impl Model for StructureSet {
 
     ghost view = { λ set. set.book.value };
 
-    ghost invariant = { λ set. ((tpsd : ℤ) → structure_at set.structures tpsd ≡ structure_found set.book.value tpsd) × (set.deduced ≡ set.book.value.pcf) };
+    ghost invariant = { λ set. ((tpsd : ℤ) → structure_at set.structures tpsd ≡ structure_found set.book.value tpsd)
+        × (arc_value set.deduced ≡ set.book.value.pcf) };
 }
 
 /// A set, and how many of its structures were compiled for it, not shared.
@@ -59,6 +62,22 @@ impl Model for StructureSet {
 pub struct Made {
     pub set: StructureSet,
     pub compiled: u32,
+}
+
+// The deduced parameters of a book, those of the base where the parameters are the same. An error is want of memory.
+fn deduced_of(
+    alloc: Global,
+    base: &StructureSet,
+    old: &Book,
+    book: &Book,
+) -> Result<Arc<FirstRows<ByNumber>>, AllocError>
+    requires { base.now ≡ old.now }
+    ensures { IfOk result (λ deduced. arc_value deduced ≡ book.now.pcf) }
+{
+    if same_parameters(old.pcf(), book.pcf()) {
+        return Arc::try_clone(&base.deduced);
+    }
+    Ok(Arc::new(alloc, FirstRows::new(alloc, book.pcf())?)?)
 }
 
 impl StructureSet {
@@ -69,7 +88,7 @@ impl StructureSet {
     {
         Ok(StructureSet {
             structures: HashMap::new(alloc),
-            deduced: FirstRows::new(alloc, &[])?,
+            deduced: Arc::new(alloc, FirstRows::new(alloc, &[])?)?,
             book: Snapshot::of(&Book::empty(alloc)),
         })
     }
@@ -91,7 +110,7 @@ impl StructureSet {
     {
         let before = Before::new(alloc, base, old)?;
         let new = Sources::new(alloc, book)?;
-        let deduced = FirstRows::new(alloc, book.pcf())?;
+        let deduced = deduced_of(alloc, base, old, book)?;
         let Building {
             structures,
             compiled,

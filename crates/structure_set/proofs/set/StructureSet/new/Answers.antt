@@ -14,5 +14,5 @@ invariant_of-set g c = (
       ∙ ap (λ (db : Database). found_among db c.args.book.now.vpd tpsd) c.in_ok-new.ensures
       ∙ found-all c.args.book.now tpsd
       ∙ ap (λ (db : Database). structure_found db tpsd) (sym c.of.ensures),
-  c.in_ok-deduced.ensures ∙ c.pcf.ensures.rows ∙ ap (λ (db : Database). db.pcf) (sym c.of.ensures),
+  c.in_ok-deduced.ensures ∙ ap (λ (db : Database). db.pcf) (sym c.of.ensures),
 )
