@@ -32,13 +32,17 @@ abbrev pub is_unexpected : Memory → Sample → List State → Bool
 is_unexpected memory sample states =
     list_any (asked_of memory) states && not (list_any (λ state. is_in_state sample state && asked_of memory state) states)
 
--- the hard limits, the deltas and the soft limits, which lie in this order
+-- ---- limits by their types: hard ones, deltas and soft ones lie in this order
+
+-- the hard limits
 abbrev pub hard_in : CheckSet → List Limit
 hard_in set = take set.hard set.limits.items
 
+-- the deltas
 abbrev pub deltas_in : CheckSet → List Limit
 deltas_in set = take set.deltas (drop set.hard set.limits.items)
 
+-- the soft limits
 abbrev pub soft_in : CheckSet → List Limit
 soft_in set = drop set.deltas (drop set.hard set.limits.items)
 
