@@ -13,9 +13,10 @@ fn are_same(old: &[PcfRow], new: &[PcfRow]) -> bool
     old == new
 }
 
-/// Whether two lists of parameters are the same: then they are equal.
+/// Whether two lists of parameters are the same: then they are equal, too.
 pub fn same_parameters(old: &[PcfRow], new: &[PcfRow]) -> bool
-    ensures { IsTrue result → old.now ≡ new.now }
+    ensures test { result ≡ pointwise Same.same_pcf old.now new.now }
+    ensures equal { IsTrue result → old.now ≡ new.now }
 {
     are_same(old, new)
 }
