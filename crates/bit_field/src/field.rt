@@ -101,6 +101,7 @@ fn number_from(octets: &[u8], skip: u8, width: u8) -> u64
 }
 
 // The number of at most 64 bits at a place in the octets.
+#[inline(always)]
 pub fn number_at(octets: &[u8], at: u64, width: u8) -> u64
     requires width { width ≤ 64 }
     requires inside { at + width ≤ 8 * length octets.now }

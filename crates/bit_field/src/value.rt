@@ -10,6 +10,7 @@ use crate::field::{complement, is_inside, number_at, number_behind};
 use mib_model::{Name, Order, Shape, Sort, Value};
 
 // The number in so many octets behind the first bits of an octet, the least significant first.
+#[inline(never)]
 fn little_behind(octets: &[u8], skip: u8, count: u8) -> u64
     requires skip { skip < 8 }
     requires count { count ≤ 8 }
@@ -35,6 +36,7 @@ fn little_at(octets: &[u8], at: u64, count: u8) -> u64
 }
 
 // The unsigned number of a field, 64 bits at most, and whole octets where the order is `Little`.
+#[inline(always)]
 fn field_number(octets: &[u8], at: u64, width: u8, order: Order) -> u64
     requires width { width ≤ 64 }
     requires octets { order ≡ Order.Little → width ≡ 8 * (width / 8) }
@@ -104,6 +106,7 @@ pub fn number(octets: &[u8], at: u64, shape: Shape) -> Option<u64>
 
 /// The value of a parameter at a place of a packet: its number by the sort, the width and the order of its shape, and 0
 /// for a sort without a number. There is none exactly where its bits pass the end.
+#[inline(always)]
 pub fn take(octets: &[u8], at: u64, name: Name, shape: Shape) -> Option<Value>
     ensures { result ≡ (if Spec.is_inside octets.now at shape.width
         then Some (value_at octets.now (record { name = name; at = at; shape = shape })) else None) }

@@ -34,6 +34,7 @@ pub struct Unread {
 }
 
 /// Reads the next packet into a room, and gives it this number.
+#[inline(always)]
 pub fn read_packet<S: Source>(
     number: u64,
     feed: &mut Feed<S>,

@@ -14,6 +14,9 @@ use std::alloc::{AllocError, Global};
 use std::marker::Model;
 use std::sync::Arc;
 
+// From so many plans on they don't all lie in the processor's cache, and are read ahead.
+const FAR: usize = 1_024;
+
 /// What is kept of each parameter of an edition: a slot for each plan, in the order of the plans. Contracts see the names
 /// and the slots.
 pub struct Board {
@@ -141,11 +144,15 @@ impl Board {
     pub(crate) fn read_ahead(&mut self, params: &Params, first: usize, count: usize)
         ensures { self.new ≡ self.old }
     {
+        if self.slots.len() < FAR {
+            return;
+        }
         let places = self.guesses.places(first, count);
         self.ahead = self.touch_slots(places) ^ read_ahead(params.plans(), places);
     }
 
     /// The place of a name, which is looked for first where a guess says.
+    #[inline(always)]
     pub(crate) fn place_near(&mut self, near: usize, name: &Name) -> Option<usize>
         ensures place { result ≡ place_of self.old name.now }
         ensures same { self.new ≡ self.old }
@@ -154,6 +161,15 @@ impl Board {
         if self.is_at(guess, name) {
             return Some(guess);
         }
+        self.place_noted(near, name)
+    }
+
+    // The place of a name for which a guess was wrong, which is noted for the next time.
+    #[inline(never)]
+    fn place_noted(&mut self, near: usize, name: &Name) -> Option<usize>
+        ensures place { result ≡ place_of self.old name.now }
+        ensures same { self.new ≡ self.old }
+    {
         let at = self.place(name);
         if let Some(at) = at {
             self.guesses.note(near, at);

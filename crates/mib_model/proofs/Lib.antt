@@ -1,1 +1,2 @@
 mod PaddingFacts
+mod WordFacts

@@ -31,6 +31,7 @@ mod shape;
 mod steps;
 mod table_row;
 mod tables;
+mod words;
 
 pub use calibration::Cal;
 pub use check::{Change, Class};

@@ -70,7 +70,7 @@ impl PartialEq for Name {
     ghost laws = { partial_equiv_from_equiv nat_list_eq_equiv };
 
     fn eq(&self, other: &Name) -> bool {
-        self.bytes() == other.bytes()
+        self.octets == other.octets
     }
 }
 
@@ -160,7 +160,7 @@ impl PartialEq for Text {
     ghost laws = { partial_equiv_from_equiv nat_list_eq_equiv };
 
     fn eq(&self, other: &Text) -> bool {
-        self.bytes() == other.bytes()
+        self.octets == other.octets
     }
 }
 

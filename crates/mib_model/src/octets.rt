@@ -1,5 +1,9 @@
 ghost use Rattle.std.specs.Prelude.{◌≡◌, ◌≤◌, length};
+ghost use Rattle.std.specs.Cmp.{partial_equiv_from_equiv};
+ghost use Rattle.std.specs.Cmp.Lexicographic.{nat_list_eq_equiv};
+ghost use Rattle.std.specs.Str.{bytes_eq};
 
+use crate::words::are_alike;
 use std::marker::Model;
 
 /// At most `N` octets that lie in the value itself. Contracts see the octets.
@@ -45,5 +49,16 @@ impl<const N: usize> Octets<N> {
         ensures fits { length result.now ≤ N }
     {
         &self.room[..usize::from(self.used)]
+    }
+}
+
+impl<const N: usize> PartialEq for Octets<N> {
+    ghost eq = { bytes_eq };
+
+    ghost laws = { partial_equiv_from_equiv nat_list_eq_equiv };
+
+    // Rooms are compared whole, behind which there are zeros.
+    fn eq(&self, other: &Octets<N>) -> bool {
+        self.used == other.used && are_alike(&self.room, &other.room)
     }
 }

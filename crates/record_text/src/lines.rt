@@ -94,6 +94,7 @@ impl Lines {
     }
 
     // Appends a name.
+    #[inline(always)]
     pub(crate) fn add_name(&mut self, name: &Name)
         requires { length self.old + 32 ≤ LINES_ROOM }
         ensures text { self.new ≡ self.old ++ name.now }
