@@ -1,2 +1,3 @@
-pub mod ShapeFacts
 pub mod OctetFacts
+pub mod ShapeFacts
+pub mod ShortFacts

@@ -12,9 +12,12 @@ mod fault;
 mod field;
 mod lines;
 mod octets;
+mod page;
 mod raw;
 mod record;
 mod reply;
+mod short;
+mod short_texts;
 mod tail;
 mod value;
 

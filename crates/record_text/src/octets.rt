@@ -2,10 +2,9 @@
 ghost use Rattle.std.specs.Prelude.{◌≡◌, ◌≤◌, ◌<◌, ◌+◌, ◌*◌, ◌^◌, ◌++◌, ◌∷◌, List, ℕ, codes, length};
 ghost use Rattle.std.specs.List.{flat_map};
 ghost use Rattle.mib_model.specs.RawTexts as Spec;
-ghost use Rattle.record_text.specs.declared.lines.TheConstants.{LINES_ROOM};
 
 use crate::field::{field, whole_octets};
-use crate::lines::Lines;
+use crate::page::Page;
 
 // A hexadecimal digit, in upper case.
 fn hex_digit(n: u8) -> u8
@@ -16,20 +15,22 @@ fn hex_digit(n: u8) -> u8
 }
 
 // Appends the two digits of an octet.
-fn add_hex_octet(octet: u8, out: &mut Lines)
-    requires { length out.old + 2 ≤ LINES_ROOM }
-    ensures text { out.new ≡ out.old ++ Spec.hex_text 2 octet }
-    ensures room { length out.new ≡ length out.old + 2 }
+fn add_hex_octet(octet: u8, out: &mut Page)
+    requires { length out.old.octets + 2 ≤ out.old.limit }
+    ensures text { out.new.octets ≡ out.old.octets ++ Spec.hex_text 2 octet }
+    ensures room { length out.new.octets ≡ length out.old.octets + 2 }
+    ensures limit { out.new.limit ≡ out.old.limit }
 {
     out.add(&[hex_digit(octet / 16), hex_digit(octet % 16)]);
 }
 
 /// Appends a number in so many digits.
-pub(crate) fn add_hex_number(number: u64, digits: u8, out: &mut Lines)
+pub(crate) fn add_hex_number(number: u64, digits: u8, out: &mut Page)
     requires digits { digits ≤ 16 }
-    requires room { length out.old + 16 ≤ LINES_ROOM }
-    ensures text { out.new ≡ out.old ++ Spec.hex_text digits number }
-    ensures room { length out.new ≤ length out.old + digits }
+    requires room { length out.old.octets + 16 ≤ out.old.limit }
+    ensures text { out.new.octets ≡ out.old.octets ++ Spec.hex_text digits number }
+    ensures room { length out.new.octets ≤ length out.old.octets + digits }
+    ensures limit { out.new.limit ≡ out.old.limit }
 {
     for i in 0..digits {
         let behind = digits - 1 - i;
@@ -45,10 +46,11 @@ fn stands_as_itself(octet: u8) -> bool
 }
 
 // Appends an octet that doesn't stand as itself, by its digits.
-fn add_escaped(octet: u8, out: &mut Lines)
-    requires { length out.old + 4 ≤ LINES_ROOM }
-    ensures text { out.new ≡ out.old ++ Spec.backslash ∷ codes "x" ++ Spec.hex_text 2 octet }
-    ensures room { length out.new ≡ length out.old + 4 }
+fn add_escaped(octet: u8, out: &mut Page)
+    requires { length out.old.octets + 4 ≤ out.old.limit }
+    ensures text { out.new.octets ≡ out.old.octets ++ Spec.backslash ∷ codes "x" ++ Spec.hex_text 2 octet }
+    ensures room { length out.new.octets ≡ length out.old.octets + 4 }
+    ensures limit { out.new.limit ≡ out.old.limit }
 {
     out.add(b"\\x");
     add_hex_octet(octet, out);
@@ -58,10 +60,11 @@ fn add_escaped(octet: u8, out: &mut Lines)
 pub(crate) trait Spelling {
     ghost spelled: { ℕ → List ℕ };
 
-    fn add(octet: u8, out: &mut Lines)
-        requires { length out.old + 4 ≤ LINES_ROOM }
-        ensures text { out.new ≡ out.old ++ spelled octet }
-        ensures room { length out.new ≤ length out.old + 4 };
+    fn add(octet: u8, out: &mut Page)
+        requires { length out.old.octets + 4 ≤ out.old.limit }
+        ensures text { out.new.octets ≡ out.old.octets ++ spelled octet }
+        ensures room { length out.new.octets ≤ length out.old.octets + 4 }
+        ensures limit { out.new.limit ≡ out.old.limit };
 }
 
 /// As two hexadecimal digits.
@@ -70,7 +73,7 @@ pub(crate) struct Digits;
 impl Spelling for Digits {
     ghost spelled = { Spec.hex_text 2 };
 
-    fn add(octet: u8, out: &mut Lines) {
+    fn add(octet: u8, out: &mut Page) {
         add_hex_octet(octet, out);
     }
 }
@@ -82,7 +85,7 @@ impl Spelling for Quoted {
     ghost spelled = { Spec.quoted_octet };
 
     #[inline(always)]
-    fn add(octet: u8, out: &mut Lines) {
+    fn add(octet: u8, out: &mut Page) {
         if stands_as_itself(octet) {
             out.push(octet);
         } else {
@@ -92,10 +95,11 @@ impl Spelling for Quoted {
 }
 
 // Appends octets.
-fn add_octets<S: Spelling>(octets: &[u8], out: &mut Lines)
-    requires { length out.old + 4 * length octets.now ≤ LINES_ROOM }
-    ensures text { out.new ≡ out.old ++ flat_map S.spelled octets.now }
-    ensures room { length out.new ≤ length out.old + 4 * length octets.now }
+fn add_octets<S: Spelling>(octets: &[u8], out: &mut Page)
+    requires { length out.old.octets + 4 * length octets.now ≤ out.old.limit }
+    ensures text { out.new.octets ≡ out.old.octets ++ flat_map S.spelled octets.now }
+    ensures room { length out.new.octets ≤ length out.old.octets + 4 * length octets.now }
+    ensures limit { out.new.limit ≡ out.old.limit }
 {
     for octet in octets {
         S::add(*octet, out);
@@ -103,12 +107,13 @@ fn add_octets<S: Spelling>(octets: &[u8], out: &mut Lines)
 }
 
 // Appends so many octets from a bit on.
-fn add_shifted<S: Spelling>(packet: &[u8], at: u64, count: u16, out: &mut Lines)
+fn add_shifted<S: Spelling>(packet: &[u8], at: u64, count: u16, out: &mut Page)
     requires count { count ≤ 1024 }
     requires inside { at + 8 * count ≤ 8 * length packet.now }
-    requires room { length out.old + 4 * count ≤ LINES_ROOM }
-    ensures text { out.new ≡ out.old ++ flat_map S.spelled (Spec.octets_at packet.now at count) }
-    ensures room { length out.new ≤ length out.old + 4 * count }
+    requires room { length out.old.octets + 4 * count ≤ out.old.limit }
+    ensures text { out.new.octets ≡ out.old.octets ++ flat_map S.spelled (Spec.octets_at packet.now at count) }
+    ensures room { length out.new.octets ≤ length out.old.octets + 4 * count }
+    ensures limit { out.new.limit ≡ out.old.limit }
 {
     for k in 0..count {
         S::add(field(packet, at, 8 * k, 8) as u8, out);
@@ -116,12 +121,13 @@ fn add_shifted<S: Spelling>(packet: &[u8], at: u64, count: u16, out: &mut Lines)
 }
 
 /// Appends so many octets from a bit on, from the packet itself where that bit is an octet's first.
-pub(crate) fn add_octets_at<S: Spelling>(packet: &[u8], at: u64, count: u16, out: &mut Lines)
+pub(crate) fn add_octets_at<S: Spelling>(packet: &[u8], at: u64, count: u16, out: &mut Page)
     requires count { count ≤ 1024 }
     requires inside { at + 8 * count ≤ 8 * length packet.now }
-    requires room { length out.old + 4 * count ≤ LINES_ROOM }
-    ensures text { out.new ≡ out.old ++ flat_map S.spelled (Spec.octets_at packet.now at count) }
-    ensures room { length out.new ≤ length out.old + 4 * count }
+    requires room { length out.old.octets + 4 * count ≤ out.old.limit }
+    ensures text { out.new.octets ≡ out.old.octets ++ flat_map S.spelled (Spec.octets_at packet.now at count) }
+    ensures room { length out.new.octets ≤ length out.old.octets + 4 * count }
+    ensures limit { out.new.limit ≡ out.old.limit }
 {
     match whole_octets(packet, at, count) {
         Some(octets) => add_octets::<S>(octets, out),
@@ -131,10 +137,11 @@ pub(crate) fn add_octets_at<S: Spelling>(packet: &[u8], at: u64, count: u16, out
 
 /// Appends octets in quotes.
 #[tactic(auto, unfolding(mib_model::specs::RawTexts::quoted))]
-pub(crate) fn add_quoted(octets: &[u8], out: &mut Lines)
-    requires { length out.old + (4 * length octets.now + 2) ≤ LINES_ROOM }
-    ensures text { out.new ≡ out.old ++ Spec.quoted octets.now }
-    ensures room { length out.new ≤ length out.old + (4 * length octets.now + 2) }
+pub(crate) fn add_quoted(octets: &[u8], out: &mut Page)
+    requires { length out.old.octets + (4 * length octets.now + 2) ≤ out.old.limit }
+    ensures text { out.new.octets ≡ out.old.octets ++ Spec.quoted octets.now }
+    ensures room { length out.new.octets ≤ length out.old.octets + (4 * length octets.now + 2) }
+    ensures limit { out.new.limit ≡ out.old.limit }
 {
     out.push(b'"');
     add_octets::<Quoted>(octets, out);

@@ -7,26 +7,29 @@ ghost use Rattle.record_text.specs.declared.lines.TheConstants.{LINES_ROOM, LINE
 
 use crate::lines::Lines;
 use crate::octets::add_quoted;
+use crate::page::Page;
 use itoa::Integer;
 use mib_model::{BadWhy, Change, Class, Ended, Found, Header, Name, Text};
 
 // Appends the service type and subtype.
-fn add_types(service: u8, subtype: u8, out: &mut Lines)
-    requires { length out.old + 90 ≤ LINES_ROOM }
-    ensures text { out.new ≡ out.old ++ Spec.type_text service subtype }
-    ensures room { length out.new ≤ length out.old + 90 }
+fn add_types(service: u8, subtype: u8, out: &mut Page)
+    requires { length out.old.octets + 90 ≤ out.old.limit }
+    ensures text { out.new.octets ≡ out.old.octets ++ Spec.type_text service subtype }
+    ensures room { length out.new.octets ≤ length out.old.octets + 90 }
+    ensures limit { out.new.limit ≡ out.old.limit }
 {
     out.add(b" TYPE ");
-    out.add_number(service);
+    out.add_number(u64::from(service));
     out.push(b'/');
-    out.add_number(subtype);
+    out.add_number(u64::from(subtype));
 }
 
 // Appends the name of a packet, where there is one that isn't empty.
-fn add_title(title: Option<&Text>, out: &mut Lines)
-    requires { length out.old + 264 ≤ LINES_ROOM }
-    ensures text { out.new ≡ out.old ++ Spec.title_text (option_copied title.entry) }
-    ensures room { length out.new ≤ length out.old + 264 }
+fn add_title(title: Option<&Text>, out: &mut Page)
+    requires { length out.old.octets + 264 ≤ out.old.limit }
+    ensures text { out.new.octets ≡ out.old.octets ++ Spec.title_text (option_copied title.entry) }
+    ensures room { length out.new.octets ≤ length out.old.octets + 264 }
+    ensures limit { out.new.limit ≡ out.old.limit }
 {
     let Some(title) = title else {
         return;
@@ -39,10 +42,11 @@ fn add_title(title: Option<&Text>, out: &mut Lines)
 }
 
 // Appends what a packet is.
-fn add_found(found: &Found, title: Option<&Text>, out: &mut Lines)
-    requires { length out.old + 400 ≤ LINES_ROOM }
-    ensures text { out.new ≡ out.old ++ Spec.found_text found.now (option_copied title.entry) }
-    ensures room { length out.new ≤ length out.old + 400 }
+fn add_found(found: &Found, title: Option<&Text>, out: &mut Page)
+    requires { length out.old.octets + 400 ≤ out.old.limit }
+    ensures text { out.new.octets ≡ out.old.octets ++ Spec.found_text found.now (option_copied title.entry) }
+    ensures room { length out.new.octets ≤ length out.old.octets + 400 }
+    ensures limit { out.new.limit ≡ out.old.limit }
 {
     match *found {
         Found::Spid {
@@ -53,7 +57,7 @@ fn add_found(found: &Found, title: Option<&Text>, out: &mut Lines)
         } => {
             add_types(service, subtype, out);
             out.add(b" SPID ");
-            out.add_number(spid);
+            out.add_number(u64::from(spid));
             add_title(title, out);
         }
         Found::Unknown { service, subtype } => {
@@ -67,22 +71,33 @@ fn add_found(found: &Found, title: Option<&Text>, out: &mut Lines)
     }
 }
 
+// Appends the head of a packet's record.
+#[tactic(auto, unfolding(mib_model::specs::Texts::head_text))]
+fn add_head(number: u64, header: &Header, found: &Found, title: Option<&Text>, out: &mut Page)
+    requires { length out.old.octets + HEAD_ROOM ≤ out.old.limit }
+    ensures text { out.new.octets ≡ out.old.octets ++ Spec.head_text number header.now found.now (option_copied title.entry) }
+    ensures room { length out.new.octets ≤ length out.old.octets + HEAD_ROOM }
+    ensures limit { out.new.limit ≡ out.old.limit }
+{
+    out.add(b"PKT ");
+    out.add_number(number);
+    out.add(b" APID ");
+    out.add_number(u64::from(header.apid));
+    out.add(b" COUNT ");
+    out.add_number(u64::from(header.count));
+    add_found(found, title, out);
+    out.push(b'\n');
+}
+
 /// Appends the head of a packet's record: its number, what its primary header says, what it is, and its name where
 /// there is one that isn't empty. There must be room for 5,000 octets.
-#[tactic(auto, unfolding(mib_model::specs::Texts::head_text))]
 pub fn head_line(number: u64, header: &Header, found: &Found, title: Option<&Text>, out: &mut Lines)
     requires { length out.old + LINE_MOST ≤ LINES_ROOM }
     ensures text { out.new ≡ out.old ++ Spec.head_text number header.now found.now (option_copied title.entry) }
     ensures room { length out.new ≤ length out.old + HEAD_ROOM }
 {
-    out.add(b"PKT ");
-    out.add_number(number);
-    out.add(b" APID ");
-    out.add_number(header.apid);
-    out.add(b" COUNT ");
-    out.add_number(header.count);
-    add_found(found, title, out);
-    out.push(b'\n');
+    out.page.make_ready();
+    add_head(number, header, found, title, &mut out.page);
 }
 
 // The word of a class; none for a nominal one, which isn't told of.
@@ -100,11 +115,12 @@ fn class_word(class: Class) -> &'static [u8]
 }
 
 // Appends what is told of a name, in a word of 8 octets and a class.
-fn add_change(word: &[u8], name: &Name, class: Class, out: &mut Lines)
+fn add_change(word: &[u8], name: &Name, class: Class, out: &mut Page)
     requires word { length word.now ≡ 8 }
-    requires room { length out.old + NOTE_ROOM ≤ LINES_ROOM }
-    ensures text { out.new ≡ out.old ++ word.now ++ name.now ++ codes " " ++ Alarms.class_text class ++ codes "\n" }
-    ensures room { length out.new ≤ length out.old + NOTE_ROOM }
+    requires room { length out.old.octets + NOTE_ROOM ≤ out.old.limit }
+    ensures text { out.new.octets ≡ out.old.octets ++ word.now ++ name.now ++ codes " " ++ Alarms.class_text class ++ codes "\n" }
+    ensures room { length out.new.octets ≤ length out.old.octets + NOTE_ROOM }
+    ensures limit { out.new.limit ≡ out.old.limit }
 {
     out.add(word);
     out.add_name(name);
@@ -119,40 +135,44 @@ pub fn change_line(name: Name, change: Change, out: &mut Lines)
     ensures text { out.new ≡ out.old ++ Alarms.change_text name change }
     ensures room { length out.new ≤ length out.old + NOTE_ROOM }
 {
+    out.page.make_ready();
     match change {
-        Change::Alarm(class) => add_change(b"  ALARM ", &name, class, out),
-        Change::Clear(class) => add_change(b"  CLEAR ", &name, class, out),
+        Change::Alarm(class) => add_change(b"  ALARM ", &name, class, &mut out.page),
+        Change::Clear(class) => add_change(b"  CLEAR ", &name, class, &mut out.page),
     }
 }
 
 // Appends a word of 14 octets at most and a number in a line.
-fn add_numbered<I: Integer>(word: &[u8], n: I, out: &mut Lines)
+fn add_numbered<I: Integer>(word: &[u8], n: I, out: &mut Page)
     requires word { length word.now ≤ 14 }
-    requires room { length out.old + 55 ≤ LINES_ROOM }
-    ensures text { out.new ≡ out.old ++ word.now ++ I.text n ++ codes "\n" }
-    ensures room { length out.new ≤ length out.old + 55 }
+    requires room { length out.old.octets + 55 ≤ out.old.limit }
+    ensures text { out.new.octets ≡ out.old.octets ++ word.now ++ I.text n ++ codes "\n" }
+    ensures room { length out.new.octets ≤ length out.old.octets + 55 }
+    ensures limit { out.new.limit ≡ out.old.limit }
 {
     out.add(word);
-    out.add_number(n);
+    out.add_digits(n);
     out.push(b'\n');
 }
 
 // Appends the line of the value that passes the packet's end.
-fn add_short(name: &Name, out: &mut Lines)
-    requires { length out.old + 41 ≤ LINES_ROOM }
-    ensures text { out.new ≡ out.old ++ codes "  SHORT " ++ name.now ++ codes "\n" }
-    ensures room { length out.new ≤ length out.old + 41 }
+fn add_short(name: &Name, out: &mut Page)
+    requires { length out.old.octets + 41 ≤ out.old.limit }
+    ensures text { out.new.octets ≡ out.old.octets ++ codes "  SHORT " ++ name.now ++ codes "\n" }
+    ensures room { length out.new.octets ≤ length out.old.octets + 41 }
+    ensures limit { out.new.limit ≡ out.old.limit }
 {
     out.add(b"  SHORT ");
     out.add_name(name);
     out.push(b'\n');
 }
 
-/// Appends the line that tells how values end, and nothing where they are whole. There must be room for 5,000 octets.
-pub fn ended_line(ended: &Ended, out: &mut Lines)
-    requires { length out.old + LINE_MOST ≤ LINES_ROOM }
-    ensures text { out.new ≡ out.old ++ Spec.ended_text ended.now }
-    ensures room { length out.new ≤ length out.old + NOTE_ROOM }
+// Appends the line that tells how values end.
+fn add_ended(ended: &Ended, out: &mut Page)
+    requires { length out.old.octets + NOTE_ROOM ≤ out.old.limit }
+    ensures text { out.new.octets ≡ out.old.octets ++ Spec.ended_text ended.now }
+    ensures room { length out.new.octets ≤ length out.old.octets + NOTE_ROOM }
+    ensures limit { out.new.limit ≡ out.old.limit }
 {
     match ended {
         Ended::Whole => {}
@@ -163,6 +183,16 @@ pub fn ended_line(ended: &Ended, out: &mut Lines)
     }
 }
 
+/// Appends the line that tells how values end, and nothing where they are whole. There must be room for 5,000 octets.
+pub fn ended_line(ended: &Ended, out: &mut Lines)
+    requires { length out.old + LINE_MOST ≤ LINES_ROOM }
+    ensures text { out.new ≡ out.old ++ Spec.ended_text ended.now }
+    ensures room { length out.new ≤ length out.old + NOTE_ROOM }
+{
+    out.page.make_ready();
+    add_ended(ended, &mut out.page);
+}
+
 /// Appends the line of an edition, which stands before a packet whose edition differs from the one before. There must
 /// be room for 5,000 octets.
 pub fn edition_line(edition: u32, out: &mut Lines)
@@ -170,7 +200,8 @@ pub fn edition_line(edition: u32, out: &mut Lines)
     ensures text { out.new ≡ out.old ++ Spec.edition_text edition }
     ensures room { length out.new ≤ length out.old + NOTE_ROOM }
 {
-    add_numbered(b"EDITION ", edition, out);
+    out.page.make_ready();
+    add_numbered(b"EDITION ", edition, &mut out.page);
 }
 
 /// Appends the line of a feed that ends inside a packet, of which so many octets are there. There must be room for
@@ -180,5 +211,6 @@ pub fn cut_line(octets: u32, out: &mut Lines)
     ensures text { out.new ≡ out.old ++ Spec.cut_text octets }
     ensures room { length out.new ≤ length out.old + NOTE_ROOM }
 {
-    add_numbered(b"CUT ", octets, out);
+    out.page.make_ready();
+    add_numbered(b"CUT ", octets, &mut out.page);
 }

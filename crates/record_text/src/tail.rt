@@ -3,11 +3,10 @@ ghost use Rattle.std.specs.Prelude.{◌≡◌, ◌≤◌, ◌+◌, ◌++◌, len
 ghost use Rattle.mib_model.specs.CalibrationViews.{calibrated_as};
 ghost use Rattle.mib_model.specs.Texts as Spec;
 ghost use Rattle.record_text.specs.TailViews.{tail_as};
-ghost use Rattle.record_text.specs.declared.lines.TheConstants.{LINES_ROOM};
 ghost use Rattle.record_text.specs.declared.tail.TheConstants.{TAIL_ROOM};
 
-use crate::lines::Lines;
 use crate::octets::add_quoted;
+use crate::page::Page;
 use mib_model::Cal;
 
 /// The most octets of a tail: a status text of 64 octets.
@@ -23,10 +22,11 @@ pub enum Tail<'a> {
 }
 
 // Appends what a calibration gave.
-fn add_given(cal: &Cal<'_>, decimals: u8, out: &mut Lines)
-    requires { length out.old + TAIL_ROOM ≤ LINES_ROOM }
-    ensures text { out.new ≡ out.old ++ Spec.given_text (calibrated_as cal.now) decimals }
-    ensures room { length out.new ≤ length out.old + TAIL_ROOM }
+fn add_given(cal: &Cal<'_>, decimals: u8, out: &mut Page)
+    requires { length out.old.octets + TAIL_ROOM ≤ out.old.limit }
+    ensures text { out.new.octets ≡ out.old.octets ++ Spec.given_text (calibrated_as cal.now) decimals }
+    ensures room { length out.new.octets ≤ length out.old.octets + TAIL_ROOM }
+    ensures limit { out.new.limit ≡ out.old.limit }
 {
     match cal {
         Cal::Value(number) => {
@@ -46,10 +46,11 @@ fn add_given(cal: &Cal<'_>, decimals: u8, out: &mut Lines)
 }
 
 /// Appends the text of a tail.
-pub(crate) fn add_tail(tail: &Tail<'_>, out: &mut Lines)
-    requires { length out.old + TAIL_ROOM ≤ LINES_ROOM }
-    ensures text { out.new ≡ out.old ++ Spec.tail_text (tail_as tail.now) }
-    ensures room { length out.new ≤ length out.old + TAIL_ROOM }
+pub(crate) fn add_tail(tail: &Tail<'_>, out: &mut Page)
+    requires { length out.old.octets + TAIL_ROOM ≤ out.old.limit }
+    ensures text { out.new.octets ≡ out.old.octets ++ Spec.tail_text (tail_as tail.now) }
+    ensures room { length out.new.octets ≤ length out.old.octets + TAIL_ROOM }
+    ensures limit { out.new.limit ≡ out.old.limit }
 {
     match tail {
         Tail::Plain => {}

@@ -2,7 +2,7 @@ use Rattle.std.proofs.Common.{append_assoc, rules}
 use Rattle.std.proofs.lemmas.Int.{to_z-of_z}
 use mir.Val.{SFits}
 use mir.Syntax.{w128}
-use Rattle.record_text.proofs.record.ended_line.Goals as goal
+use Rattle.record_text.proofs.record.add_ended.Goals as goal
 
 pub returns-in-NoStructure-clause-text : goal.returns-in-NoStructure-clause-text
 returns-in-NoStructure-clause-text c =

@@ -1,0 +1,196 @@
+// Where the octets of lines are written.
+ghost use Rattle.std.specs.Prelude.{◌≡◌, ◌≤◌, ◌<◌, ◌+◌, ◌++◌, [], ◌∷◌, length, decimal, IfOk};
+ghost use Rattle.mib_model.specs.Counts.{count_text};
+ghost use Rattle.record_text.specs.ShortTexts.{digits_of};
+ghost use Rattle.record_text.specs.declared.lines.TheConstants.{LINES_ROOM, LINE_MOST};
+
+use crate::lines::{LINE_MOST, LINES_ROOM};
+use crate::short::Short;
+use crate::short_texts::{SHORT_BOUND, ShortTexts};
+use dec_num::write_eng;
+use itoa::{Buffer, Integer};
+use mib_model::{Eng, Line, Name};
+use std::alloc::{AllocError, Global};
+use std::marker::Model;
+
+/// The octets that are made ready at once, more than any line has.
+const READY: usize = 16_384;
+
+/// The octets so far of lines that are being written. Others stand ready behind them, so that an octet is appended by
+/// storing it. Contracts see the octets, and how many there may be before more are made ready.
+pub(crate) struct Page {
+    octets: Vec<u8>,
+    used: usize,
+    shorts: ShortTexts,
+    number: Line,
+}
+
+/// By hand, so that whoever lets one go proves one call.
+impl Drop for Page {
+    fn drop(self) {
+        let Page {
+            octets: _octets,
+            used: _,
+            shorts: _shorts,
+            number: _number,
+        } = self;
+    }
+}
+
+impl Model for Page {
+    ghost use Rattle.std.specs.Prelude.{◌≤◌, length, take, vec_capacity};
+    ghost use Rattle.record_text.specs.Pages.{Written};
+    ghost use Rattle.record_text.specs.declared.lines.TheConstants.{LINES_ROOM};
+
+    ghost Value = { Written };
+
+    ghost view = { λ page. record { octets = take page.used page.octets.items; limit = length page.octets.items } };
+
+    ghost invariant = { λ page. (page.used ≤ length page.octets.items) × (LINES_ROOM ≤ vec_capacity page.octets) };
+}
+
+impl Page {
+    /// An empty page. An error is want of memory.
+    pub(crate) fn new(alloc: Global) -> Result<Page, AllocError>
+        ensures { IfOk result (λ page. page.octets ≡ []) }
+    {
+        Ok(Page {
+            octets: Vec::with_capacity(alloc, LINES_ROOM)?,
+            used: 0,
+            shorts: ShortTexts::new(alloc)?,
+            number: Line::new(),
+        })
+    }
+
+    /// The octets so far.
+    pub(crate) fn bytes(&self) -> &[u8]
+        ensures { result.now ≡ self.now.octets }
+    {
+        &self.octets[..self.used]
+    }
+
+    /// Makes it empty again.
+    pub(crate) fn clear(&mut self)
+        ensures { self.new.octets ≡ [] }
+    {
+        self.used = 0;
+    }
+
+    /// Makes so many octets ready that a line can be appended.
+    #[inline(always)]
+    pub(crate) fn make_ready(&mut self)
+        requires { length self.old.octets + LINE_MOST ≤ LINES_ROOM }
+        ensures octets { self.new.octets ≡ self.old.octets }
+        ensures limit { length self.new.octets + LINE_MOST ≤ self.new.limit }
+    {
+        if self.octets.len() - self.used < LINE_MOST {
+            self.widen();
+        }
+    }
+
+    #[cold]
+    #[inline(never)]
+    fn widen(&mut self)
+        requires room { length self.old.octets + LINE_MOST ≤ LINES_ROOM }
+        requires short { self.old.limit < length self.old.octets + LINE_MOST }
+        ensures octets { self.new.octets ≡ self.old.octets }
+        ensures limit { length self.new.octets + LINE_MOST ≤ self.new.limit }
+    {
+        let ready = (self.used + READY).min(LINES_ROOM);
+        let _widened = self.octets.resize(ready, 0);
+    }
+
+    /// Appends an octet.
+    #[inline(always)]
+    pub(crate) fn push(&mut self, octet: u8)
+        requires { length self.old.octets < self.old.limit }
+        ensures text { self.new.octets ≡ self.old.octets ++ octet ∷ [] }
+        ensures room { length self.new.octets ≡ length self.old.octets + 1 }
+        ensures limit { self.new.limit ≡ self.old.limit }
+    {
+        self.octets[self.used] = octet;
+        self.used += 1;
+    }
+
+    /// Appends octets.
+    #[inline(always)]
+    pub(crate) fn add(&mut self, octets: &[u8])
+        requires { length self.old.octets + length octets.now ≤ self.old.limit }
+        ensures text { self.new.octets ≡ self.old.octets ++ octets.now }
+        ensures room { length self.new.octets ≡ length self.old.octets + length octets.now }
+        ensures limit { self.new.limit ≡ self.old.limit }
+    {
+        let end = self.used + octets.len();
+        self.octets[self.used..end].copy_from_slice(octets);
+        self.used = end;
+    }
+
+    /// Appends a name.
+    pub(crate) fn add_name(&mut self, name: &Name)
+        requires { length self.old.octets + 32 ≤ self.old.limit }
+        ensures text { self.new.octets ≡ self.old.octets ++ name.now }
+        ensures room { length self.new.octets ≤ length self.old.octets + 32 }
+        ensures limit { self.new.limit ≡ self.old.limit }
+    {
+        self.add(name.bytes());
+    }
+
+    // Appends the digits of a short text. The octets behind them are written too, and cut off.
+    #[inline(always)]
+    fn add_short(&mut self, short: Short)
+        requires { length self.old.octets + 4 ≤ self.old.limit }
+        ensures text { self.new.octets ≡ self.old.octets ++ digits_of short }
+        ensures room { length self.new.octets ≤ length self.old.octets + 4 }
+        ensures limit { self.new.limit ≡ self.old.limit }
+    {
+        let end = self.used + usize::from(short.count);
+        self.add(&short.digits);
+        self.used = end;
+    }
+
+    /// Appends a number's digits.
+    pub(crate) fn add_number(&mut self, n: u64)
+        requires { length self.old.octets + 40 ≤ self.old.limit }
+        ensures text { self.new.octets ≡ self.old.octets ++ decimal n }
+        ensures room { length self.new.octets ≤ length self.old.octets + 40 }
+        ensures limit { self.new.limit ≡ self.old.limit }
+    {
+        if n < SHORT_BOUND {
+            let short = self.shorts.at(n);
+            self.add_short(short);
+        } else if n < SHORT_BOUND * SHORT_BOUND {
+            let high = self.shorts.at(n / SHORT_BOUND);
+            let low = self.shorts.at(n % SHORT_BOUND);
+            self.add_short(high);
+            self.add(&low.four);
+        } else {
+            self.add_digits(n);
+        }
+    }
+
+    /// Appends the digits of a number of any size.
+    #[cold]
+    #[inline(never)]
+    pub(crate) fn add_digits<I: Integer>(&mut self, n: I)
+        requires { length self.old.octets + 40 ≤ self.old.limit }
+        ensures text { self.new.octets ≡ self.old.octets ++ I.text n }
+        ensures room { length self.new.octets ≤ length self.old.octets + 40 }
+        ensures limit { self.new.limit ≡ self.old.limit }
+    {
+        self.add(Buffer::new().format(n).as_bytes());
+    }
+
+    /// Appends an engineering value with some decimals.
+    pub(crate) fn add_count(&mut self, v: Eng, decimals: u8)
+        requires { length self.old.octets + 60 ≤ self.old.limit }
+        ensures text { self.new.octets ≡ self.old.octets ++ count_text v.count decimals }
+        ensures room { length self.new.octets ≤ length self.old.octets + 60 }
+        ensures limit { self.new.limit ≡ self.old.limit }
+    {
+        self.number.clear();
+        write_eng(v, decimals, &mut self.number);
+        let end = self.used + self.number.bytes().len();
+        self.octets[self.used..end].copy_from_slice(self.number.bytes());
+        self.used = end;
+    }
+}
