@@ -61,7 +61,7 @@ impl PlanSets {
     {
         Ok(PlanSets {
             params: Params::new(Vec::new(alloc)),
-            layouts: LayoutSet::empty(alloc),
+            layouts: LayoutSet::empty(alloc)?,
             structures: StructureSet::empty(alloc)?,
         })
     }

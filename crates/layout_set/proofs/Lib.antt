@@ -1,3 +1,4 @@
 pub mod RowFacts
 pub mod SoundFacts
 pub mod BuildingFacts
+pub mod AlikeFacts

@@ -1,5 +1,5 @@
 -- The fixed layouts of a database beside those of a base. [SCOS-2000 Database Import ICD, pid and plf; this profile.]
-use Rattle.std.specs.Prelude.{ℕ, Bool, false, List, Option, Some, None, filter, ◌&&◌, not, if◌then◌else◌}
+use Rattle.std.specs.Prelude.{◌≡◌, ℕ, Bool, false, List, Option, Some, None, filter, map, ◌&&◌, not, if◌then◌else◌}
 use Rattle.edition_plans.specs.Layouts.{layout_of, layout_slice}
 use Rattle.layout_plan.specs.Slices.{LayoutRows}
 use Rattle.mib_model.specs.declared.database.Database.{Database}
@@ -7,6 +7,7 @@ use Rattle.mib_model.specs.declared.plan.Slice.{Slice}
 use Rattle.mib_model.specs.declared.plan.Slice.TheVariants as slice
 use Rattle.mib_model.specs.declared.rows.PidRow.{PidRow}
 use Rattle.mib_model.specs.Fixed.{has_layout}
+use Rattle.mib_model.specs.Plans.{type_item}
 use Rattle.mib_model.specs.Touched.{same_slice}
 
 -- what a layout is compiled of, as the slice of a plan
@@ -33,3 +34,7 @@ new_layouts base db = filter (is_new base db) db.pid
 -- the SPID of a packet of fixed layout
 abbrev pub laid_out : PidRow → Option ℕ
 laid_out row = if has_layout row then Some row.spid else None
+
+-- databases whose layouts are the same: those with the same packets, places and type items
+abbrev pub AreLaidAlike : Database → Database → Type 0
+AreLaidAlike old new = (old.pid ≡ new.pid) × (old.plf ≡ new.plf) × (map type_item old.pcf ≡ map type_item new.pcf)

@@ -44,8 +44,8 @@ fn are_same(old: &[PlfRow], new: &[PlfRow]) -> bool
     old == new
 }
 
-// Whether two lists of places are equal.
-fn same_places(old: &[PlfRow], new: &[PlfRow]) -> bool
+/// Whether two lists of places are equal.
+pub fn same_places(old: &[PlfRow], new: &[PlfRow]) -> bool
     ensures test { result ≡ pointwise Same.same_plf old.now new.now }
     ensures equal { IsTrue result → old.now ≡ new.now }
 {

@@ -6,6 +6,7 @@
 //! edition_plans for what the layout of a SPID is, and on row_laws and mib_laws for laws of rows.
 #![tactic(auto)]
 
+mod alike;
 mod before;
 mod building;
 mod set;

@@ -2,11 +2,12 @@ ghost use Rattle.std.specs.Prelude.{◌≡◌, ◌+◌, ◌≤◌, IfOk, OnOk, l
 ghost use Rattle.std.specs.Arc.{arc_value};
 ghost use Rattle.std.specs.Option.{option_copied};
 ghost use Rattle.edition_plans.specs.Layouts.{layout_of, HasPlaces};
-ghost use Rattle.layout_set.specs.Sets.{new_layouts};
+ghost use Rattle.layout_set.specs.Sets.{AreLaidAlike, new_layouts};
 ghost use Rattle.mib_model.specs.Database.{no_rows};
 ghost use Rattle.mib_model.specs.Soundness.{IsSound};
 ghost use Rattle.mib_model.specs.declared.limits.TheConstants.{HELD_MOST};
 
+use crate::alike::are_laid_alike;
 use crate::before::Before;
 use crate::building::{Building, build};
 use crate::sources::Sources;
@@ -22,7 +23,7 @@ use std::sync::ledger::Ledger;
 
 /// The fixed layouts of a database, compiled. Contracts see the database.
 pub struct LayoutSet {
-    layouts: HashMap<u32, Arc<Layout>>,
+    layouts: Arc<HashMap<u32, Arc<Layout>>>,
     book: Snapshot<Book>,
 }
 
@@ -38,6 +39,7 @@ impl Drop for LayoutSet {
 
 impl Model for LayoutSet {
     ghost use Rattle.std.specs.Prelude.{◌≡◌, ℕ};
+    ghost use Rattle.std.specs.Arc.{arc_value};
     ghost use Rattle.edition_plans.specs.Layouts.{layout_of};
     ghost use Rattle.layout_set.specs.Building.{layout_at};
     ghost use Rattle.mib_model.specs.declared.database.Database.{Database};
@@ -46,7 +48,7 @@ impl Model for LayoutSet {
 
     ghost view = { λ set. set.book.value };
 
-    ghost invariant = { λ set. (spid : ℕ) → layout_at set.layouts spid ≡ layout_of set.book.value spid };
+    ghost invariant = { λ set. (spid : ℕ) → layout_at (arc_value set.layouts) spid ≡ layout_of set.book.value spid };
 }
 
 /// A set, and how many of its layouts were compiled for it, not shared.
@@ -57,20 +59,30 @@ pub struct Made {
 }
 
 impl LayoutSet {
-    /// The set of a database without rows.
+    /// The set of a database without rows. An error is want of memory.
     #[tactic(auto, unfolding(edition_plans::specs::Layouts::layout_of))]
-    pub fn empty(alloc: Global) -> LayoutSet
-        ensures { result ≡ no_rows }
+    pub fn empty(alloc: Global) -> Result<LayoutSet, AllocError>
+        ensures { IfOk result (λ set. set ≡ no_rows) }
     {
-        LayoutSet {
-            layouts: HashMap::new(alloc),
+        Ok(LayoutSet {
+            layouts: Arc::new(alloc, HashMap::new(alloc))?,
             book: Snapshot::of(&Book::empty(alloc)),
-        }
+        })
     }
 
-    /// The set of a sound book, beside the set of another: a layout that this has of the same rows and type items is
-    /// shared with it, each other is compiled, in one step. An error is want of memory.
-    pub fn new<L: Ledger>(
+    // The set of a book that has the same packets, places and type items. An error is want of memory.
+    fn taken_over(&self, book: &Book) -> Result<LayoutSet, AllocError>
+        requires { AreLaidAlike self.now book.now }
+        ensures { IfOk result (λ set. set ≡ book.now) }
+    {
+        Ok(LayoutSet {
+            layouts: Arc::try_clone(&self.layouts)?,
+            book: Snapshot::of(book),
+        })
+    }
+
+    // The set of a sound book beside another, of which each layout is looked at.
+    fn beside<L: Ledger>(
         alloc: Global,
         base: &LayoutSet,
         old: &Book,
@@ -88,10 +100,36 @@ impl LayoutSet {
         let new = Sources::new(alloc, book)?;
         let Building { layouts, compiled } = build(alloc, &before, &new, book.pid(), steps)?;
         let set = LayoutSet {
-            layouts,
+            layouts: Arc::new(alloc, layouts)?,
             book: Snapshot::of(book),
         };
         Ok(Made { set, compiled })
+    }
+
+    /// The set of a sound book, beside the set of another: a layout that this has of the same rows and type items is
+    /// shared with it, each other is compiled, in one step. All are shared at once where the books have the same packets,
+    /// places and type items. An error is want of memory.
+    pub fn new<L: Ledger>(
+        alloc: Global,
+        base: &LayoutSet,
+        old: &Book,
+        book: &Book,
+        steps: &mut Steps<L>,
+    ) -> Result<Made, AllocError>
+        requires base { base.now ≡ old.now }
+        requires sound { IsSound book.now }
+        ensures set { IfOk result (λ made. made.set ≡ book.now) }
+        ensures compiled { IfOk result (λ made. made.compiled ≡ length (new_layouts base.now book.now)) }
+        ensures few { IfOk result (λ made. made.compiled ≤ HELD_MOST) }
+        ensures steps { OnOk result (steps.new ≡ steps.old + length (new_layouts base.now book.now)) }
+    {
+        if are_laid_alike(old, book) {
+            return Ok(Made {
+                set: base.taken_over(book)?,
+                compiled: 0,
+            });
+        }
+        LayoutSet::beside(alloc, base, old, book, steps)
     }
 
     /// The layout of a SPID, which others may share.

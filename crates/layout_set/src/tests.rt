@@ -113,7 +113,7 @@ fn first_set<L: Ledger, R: Abort>(
     requires { IsSound book.now }
     ensures { IfOk result (λ set. set ≡ book.now) }
 {
-    let nothing = LayoutSet::empty(alloc);
+    let nothing = LayoutSet::empty(alloc)?;
     set_of(rt, &nothing, &Book::empty(alloc), book, 2, steps, alloc)
 }
 

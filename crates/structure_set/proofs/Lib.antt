@@ -1,2 +1,3 @@
 pub mod RowFacts
 pub mod BuildingFacts
+pub mod AlikeFacts

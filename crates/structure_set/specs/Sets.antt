@@ -1,11 +1,11 @@
 -- The structures of a database beside those of a base. [SCOS-2000 Database Import ICD, vpd and pcf; this profile.]
-use Rattle.std.specs.Prelude.{ℕ, ℤ, pos, Bool, false, List, Option, Some, None, map, filter, option_map, ◌&&◌, not, if◌then◌else◌}
+use Rattle.std.specs.Prelude.{◌≡◌, ℕ, ℤ, pos, Bool, false, List, Option, Some, None, map, filter, option_map, ◌&&◌, not, if◌then◌else◌}
 use Rattle.mib_model.specs.declared.database.Database.{Database}
 use Rattle.mib_model.specs.declared.plan.Slice.{Slice}
 use Rattle.mib_model.specs.declared.plan.Slice.TheVariants as slice
 use Rattle.mib_model.specs.declared.rows.PcfRow.{PcfRow}
 use Rattle.mib_model.specs.Parameters.{is_measured}
-use Rattle.mib_model.specs.Plans.{distinct}
+use Rattle.mib_model.specs.Plans.{distinct, type_item}
 use Rattle.mib_model.specs.Structures.{structure, is_deduced}
 use Rattle.mib_model.specs.Touched.{same_slice}
 use Rattle.struct_plan.specs.Slices.{StructureRows, structure_found, with_types}
@@ -38,3 +38,7 @@ new_structures base db = filter (λ tpsd. is_new base db (pos tpsd)) (distinct (
 -- the number by which a deduced value finds a parameter: that of a measured parameter, not deduced itself, that has one
 abbrev pub number_of : PcfRow → Option ℤ
 number_of row = if is_measured row && not (is_deduced row) then option_map pos row.pid else None
+
+-- databases whose structures are the same: those with the same rows of structures, and the same type items
+abbrev pub AreStructuredAlike : Database → Database → Type 0
+AreStructuredAlike old new = (old.vpd ≡ new.vpd) × (map type_item old.pcf ≡ map type_item new.pcf)

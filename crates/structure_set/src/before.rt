@@ -24,8 +24,8 @@ fn are_same(old: &[VpdRow], new: &[VpdRow]) -> bool
     old == new
 }
 
-// Whether two lists of rows are equal.
-fn same_rows(old: &[VpdRow], new: &[VpdRow]) -> bool
+/// Whether two lists of rows are equal.
+pub fn same_rows(old: &[VpdRow], new: &[VpdRow]) -> bool
     ensures test { result ≡ pointwise same_vpd old.now new.now }
     ensures equal { IsTrue result → old.now ≡ new.now }
 {

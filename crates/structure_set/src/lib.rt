@@ -6,6 +6,7 @@
 //! on row_laws and mib_keys for laws of rows.
 #![tactic(auto)]
 
+mod alike;
 mod before;
 mod building;
 mod parameters;

@@ -1,12 +1,14 @@
-ghost use Rattle.std.specs.Prelude.{◌≡◌, ◌+◌, ◌≤◌, IfOk, OnOk, length, option_map};
+ghost use Rattle.std.specs.Prelude.{◌≡◌, ◌+◌, ◌≤◌, ℤ, IfOk, OnOk, length, option_map};
 ghost use Rattle.std.specs.Arc.{arc_value};
 ghost use Rattle.std.specs.Option.{option_copied};
 ghost use Rattle.mib_model.specs.Database.{no_rows};
 ghost use Rattle.mib_model.specs.Plans.{type_item};
 ghost use Rattle.struct_plan.specs.Slices.{deduced_item, structure_found};
+ghost use Rattle.structure_set.specs.Building.{structure_at};
 ghost use Rattle.structure_set.specs.Sets.{new_structures};
 ghost use Rattle.mib_model.specs.declared.limits.TheConstants.{HELD_MOST};
 
+use crate::alike::are_structured_alike;
 use crate::before::Before;
 use crate::building::{Building, build};
 use crate::parameters::same_parameters;
@@ -26,7 +28,7 @@ use type_items::item_of;
 
 /// The structures and the deduced parameters of a database, compiled. Contracts see the database.
 pub struct StructureSet {
-    structures: HashMap<i128, Arc<Structure>>,
+    structures: Arc<HashMap<i128, Arc<Structure>>>,
     deduced: Arc<FirstRows<ByNumber>>,
     book: Snapshot<Book>,
 }
@@ -53,7 +55,7 @@ impl Model for StructureSet {
 
     ghost view = { λ set. set.book.value };
 
-    ghost invariant = { λ set. ((tpsd : ℤ) → structure_at set.structures tpsd ≡ structure_found set.book.value tpsd)
+    ghost invariant = { λ set. ((tpsd : ℤ) → structure_at (arc_value set.structures) tpsd ≡ structure_found set.book.value tpsd)
         × (arc_value set.deduced ≡ set.book.value.pcf) };
 }
 
@@ -80,6 +82,62 @@ fn deduced_of(
     Ok(Arc::new(alloc, FirstRows::new(alloc, book.pcf())?)?)
 }
 
+// Structures by TPSD, and how many of them were compiled, not shared.
+#[derive(Drop)]
+struct Plans {
+    structures: Arc<HashMap<i128, Arc<Structure>>>,
+    compiled: u32,
+}
+
+// The structures of a book, each of which is looked at.
+fn compared<L: Ledger>(
+    alloc: Global,
+    base: &StructureSet,
+    old: &Book,
+    book: &Book,
+    steps: &mut Steps<L>,
+) -> Result<Plans, AllocError>
+    requires { base.now ≡ old.now }
+    ensures structures { IfOk result (λ plans. (tpsd : ℤ) → structure_at (arc_value plans.structures) tpsd ≡ structure_found book.now tpsd) }
+    ensures compiled { IfOk result (λ plans. plans.compiled ≡ length (new_structures base.now book.now)) }
+    ensures few { IfOk result (λ plans. plans.compiled ≤ HELD_MOST) }
+    ensures steps { OnOk result (steps.new ≡ steps.old + length (new_structures base.now book.now)) }
+{
+    let before = Before::new(alloc, base, old)?;
+    let new = Sources::new(alloc, book)?;
+    let Building {
+        structures,
+        compiled,
+    } = build(alloc, &before, &new, book.vpd(), steps)?;
+    Ok(Plans {
+        structures: Arc::new(alloc, structures)?,
+        compiled,
+    })
+}
+
+// The structures of a book: those of the base at once where the books have the same rows of structures and type items.
+fn plans_of<L: Ledger>(
+    alloc: Global,
+    base: &StructureSet,
+    old: &Book,
+    book: &Book,
+    steps: &mut Steps<L>,
+) -> Result<Plans, AllocError>
+    requires { base.now ≡ old.now }
+    ensures structures { IfOk result (λ plans. (tpsd : ℤ) → structure_at (arc_value plans.structures) tpsd ≡ structure_found book.now tpsd) }
+    ensures compiled { IfOk result (λ plans. plans.compiled ≡ length (new_structures base.now book.now)) }
+    ensures few { IfOk result (λ plans. plans.compiled ≤ HELD_MOST) }
+    ensures steps { OnOk result (steps.new ≡ steps.old + length (new_structures base.now book.now)) }
+{
+    if are_structured_alike(old, book) {
+        return Ok(Plans {
+            structures: Arc::try_clone(&base.structures)?,
+            compiled: 0,
+        });
+    }
+    compared(alloc, base, old, book, steps)
+}
+
 impl StructureSet {
     #[tactic(auto, unfolding(mib_model::specs::Structures::structure, mib_model::specs::Orders::sorted_by))]
     /// The set of a database without rows. An error is want of memory.
@@ -87,14 +145,15 @@ impl StructureSet {
         ensures { IfOk result (λ set. set ≡ no_rows) }
     {
         Ok(StructureSet {
-            structures: HashMap::new(alloc),
+            structures: Arc::new(alloc, HashMap::new(alloc))?,
             deduced: Arc::new(alloc, FirstRows::new(alloc, &[])?)?,
             book: Snapshot::of(&Book::empty(alloc)),
         })
     }
 
     /// The set of a book, beside the set of another: a structure that this has of the same rows and type items is shared
-    /// with it, each other is compiled, in one step. An error is want of memory.
+    /// with it, each other is compiled, in one step. All are shared at once where the books have the same rows of
+    /// structures and type items. An error is want of memory.
     pub fn new<L: Ledger>(
         alloc: Global,
         base: &StructureSet,
@@ -108,13 +167,11 @@ impl StructureSet {
         ensures few { IfOk result (λ made. made.compiled ≤ HELD_MOST) }
         ensures steps { OnOk result (steps.new ≡ steps.old + length (new_structures base.now book.now)) }
     {
-        let before = Before::new(alloc, base, old)?;
-        let new = Sources::new(alloc, book)?;
         let deduced = deduced_of(alloc, base, old, book)?;
-        let Building {
+        let Plans {
             structures,
             compiled,
-        } = build(alloc, &before, &new, book.vpd(), steps)?;
+        } = plans_of(alloc, base, old, book, steps)?;
         let set = StructureSet {
             structures,
             deduced,

@@ -1,3 +1,4 @@
 pub mod RowFacts
 pub mod SameFacts
 pub mod FindFacts
+pub mod AlikeFacts

@@ -1,6 +1,6 @@
 -- Lists and type items that are the same are equal.
 use Rattle.std.proofs.Common.{◌≡◌, nat_eq, Bool, true, false, ◌&&◌, List, [], ◌∷◌, refl}
-use Rattle.std.proofs.lemmas.Bool.{eqb-true}
+use Rattle.std.proofs.lemmas.Bool.{eq-eqb, eqb-true}
 use Rattle.std.proofs.lemmas.Slice.Eq.{bytes_eq-Decides}
 use Rattle.std.specs.Cmp.Lexicographic.{pointwise}
 use Rattle.std.specs.Str.{bytes_eq}
@@ -46,3 +46,18 @@ equal-items x y h =
     let natur : x.natur ≡ y.natur = eqb-true x.natur y.natur natures.1 in
     let order : x.endian ≡ y.endian = equal-endian x.endian y.endian orders.1 in
     λ i. record { name = name i; ptc = ptc i; pfc = pfc i; width = width i; natur = natur i; endian = order i }
+
+-- items that are each the same as themselves make lists that are
+pub same-lists : {A : Type 0} (same : A → A → Bool) → ((x : A) → same x x ≡ true) → (xs : List A) → pointwise same xs xs ≡ true
+same-lists same each [] = refl
+same-lists same each (x ∷ xs) = rw (each x) (same-lists same each xs)
+
+same-order : (x : Endian) → same_endian x x ≡ true
+same-order endian.B = refl
+same-order endian.L = refl
+
+-- a type item is the same as itself
+pub same-item : (x : TypeItem) → same_type_item x x ≡ true
+same-item x =
+    rw ((bytes_eq-Decides x.name x.name).1 refl, eq-eqb x.ptc x.ptc refl, eq-eqb x.pfc x.pfc refl, eq-eqb x.width x.width refl, eq-eqb x.natur x.natur refl)
+    (same-order x.endian)

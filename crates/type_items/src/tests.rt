@@ -52,3 +52,16 @@ fn a_name_without_a_parameter_has_no_type_item(rt: HostRuntime) -> Result<(), Fa
     assert!(&rt; !same_items(&found, &[item_of(&parameter(a, 4))]));
     Ok(())
 }
+
+#[test]
+fn parameters_of_the_same_types_are_told(rt: HostRuntime) -> Result<(), Fail> {
+    let a = name(&rt, b"A");
+    let other_decimals = PcfRow {
+        decim: 2,
+        ..parameter(a, 12)
+    };
+    assert!(&rt; same_types(&[parameter(a, 12)], &[other_decimals]));
+    assert!(&rt; !same_types(&[parameter(a, 12)], &[parameter(a, 4)]));
+    assert!(&rt; !same_types(&[parameter(a, 12)], &[]));
+    Ok(())
+}

@@ -1,18 +1,17 @@
-use Rattle.std.proofs.Common.{◌∙◌, List, ap, subst, sym}
-use Rattle.edition_plans.specs.Layouts.{layout_of}
-use Rattle.layout_set.specs.Building.{AreApart, found_among}
-use Rattle.layout_set.proofs.SoundFacts.{packets-apart}
+use Rattle.std.proofs.Common.{◌≡◌, ◌∙◌, arith, ap, length}
+use Rattle.layout_set.proofs.AlikeFacts.{none-new}
+use Rattle.layout_set.specs.Sets.{new_layouts}
 use Rattle.mib_model.specs.declared.database.Database.{Database}
-use Rattle.mib_model.specs.declared.rows.PidRow.{PidRow}
 use Rattle.layout_set.proofs.set.LayoutSet.new.Goals as goal
 
-pub build-requires-clause-apart : goal.build-requires-clause-apart
-build-requires-clause-apart g c = subst AreApart (sym c.pid.ensures.rows) (packets-apart c.args.book.now c.requires.sound)
-
-pub invariant_of-set : goal.invariant_of-set
-unfolding layout_of
-invariant_of-set g c = λ spid.
-    c.in_ok-layouts.ensures.layouts spid
-    ∙ ap (λ (rows : List PidRow). found_among c.in_ok-new.new rows spid) c.pid.ensures.rows
-    ∙ ap (λ (db : Database). found_among db c.args.book.now.pid spid) c.in_ok-new.ensures
-    ∙ ap (λ (db : Database). layout_of db spid) (sym c.of.ensures)
+pub returns-then-are_laid_alike : goal.returns-then-are_laid_alike
+returns-then-are_laid_alike g c =
+    let none : length (new_layouts c.args.base.now c.args.book.now) ≡ 0 =
+    ap (λ (db : Database). length (new_layouts db c.args.book.now)) c.requires.base
+    ∙ ap length (none-new c.args.old.now c.args.book.now (c.are_laid_alike.ensures c.if-are_laid_alike.true) c.requires.sound) in
+    record {
+      set = c.in_ok-taken_over.ensures;
+      compiled = omega (arith, none);
+      few = omega arith;
+      steps = omega (arith, none);
+    }

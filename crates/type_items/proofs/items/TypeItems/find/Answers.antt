@@ -1,4 +1,4 @@
-use Rattle.std.proofs.Common.{ℕ, List, ◌∙◌, ap, refl}
+use Rattle.std.proofs.Common.{List, ◌∙◌, ap, refl}
 use Rattle.std.specs.List.{find}
 use Rattle.std.specs.Str.{bytes_eq}
 use Rattle.mib_model.specs.declared.plan.TypeItem.{TypeItem}
