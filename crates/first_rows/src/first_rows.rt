@@ -3,11 +3,11 @@ ghost use Rattle.std.specs.List.{find};
 ghost use Rattle.std.specs.Option.{option_eq, option_or, option_copied};
 ghost use Rattle.std.specs.HashMap.{get};
 
+use crate::seen::Seen;
 use std::alloc::{AllocError, Global};
 use std::collections::HashMap;
 use std::hash::Hash;
 use std::marker::Model;
-use std::snapshot::Snapshot;
 
 /// A way to look up rows: by a key, which some rows may lack.
 pub trait By {
@@ -27,7 +27,7 @@ pub trait By {
 pub struct FirstRows<B: By> {
     firsts: HashMap<B::Key, B::Row>,
     count: usize,
-    rows: Snapshot<Vec<B::Row>>,
+    rows: Seen<B::Row>,
 }
 
 impl<B: By> Model for FirstRows<B> {
@@ -38,10 +38,10 @@ impl<B: By> Model for FirstRows<B> {
 
     ghost Value = { List B.Row };
 
-    ghost view = { λ all. all.rows.value.items };
+    ghost view = { λ all. all.rows };
 
-    ghost invariant = { λ all. (all.count ≡ length all.rows.value.items)
-        × ((key : B.Key) → get B.Key.eq all.firsts key ≡ find (λ row. option_eq B.Key.eq (B.key_of row) (Some key)) all.rows.value.items) };
+    ghost invariant = { λ all. (all.count ≡ length all.rows)
+        × ((key : B.Key) → get B.Key.eq all.firsts key ≡ find (λ row. option_eq B.Key.eq (B.key_of row) (Some key)) all.rows) };
 }
 
 // Notes a row whose key has none yet.
@@ -74,14 +74,10 @@ impl<B: By> FirstRows<B> {
     pub fn new(alloc: Global, rows: &[B::Row]) -> Result<FirstRows<B>, AllocError>
         ensures { IfOk result (λ all. all ≡ rows.now) }
     {
-        let kept = Vec::from_slice(alloc, rows)?;
-        let firsts = firsts::<B>(alloc, &kept)?;
-        let count = kept.len();
-        let rows = Snapshot::of(&kept);
         Ok(FirstRows {
-            firsts,
-            count,
-            rows,
+            firsts: firsts::<B>(alloc, rows)?,
+            count: rows.len(),
+            rows: Seen::of(alloc, rows)?,
         })
     }
 

@@ -6,5 +6,7 @@
 #![tactic(auto)]
 
 mod first_rows;
+mod seen;
 
 pub use first_rows::{By, FirstRows};
+pub use seen::Seen;

@@ -1,5 +1,5 @@
 -- Lists in order: there is one that keeps the order of items that tie.
-use Rattle.std.proofs.Common.{◌≡◌, ◌∙◌, ℕ, zero, suc, ◌+◌, Bool, true, false, not, cond, ◌&&◌, List, [], ◌∷◌, get_or, filter, Less, Equal, Greater, Ordering, nat_le, refl, sym, ap, subst, arith}
+use Rattle.std.proofs.Common.{◌≡◌, ◌∙◌, ℕ, zero, suc, ◌+◌, Bool, true, false, not, cond, ◌&&◌, List, [], ◌∷◌, get_or, filter, map, Less, Equal, Greater, Ordering, nat_le, refl, sym, ap, subst, arith}
 use Rattle.std.proofs.lemmas.Bool.{false≢true}
 use Rattle.std.proofs.lemmas.Bool.Decides.{nat_tests}
 use Rattle.std.proofs.lemmas.List.Sorted.{ranks_by}
@@ -198,3 +198,18 @@ pub filter-by-number : {X : Type 0} (number : X → ℕ) (p : X → Bool) (xs : 
 filter-by-number number p xs =
     ap (filter p) (sym (by-number number xs)) ∙
     (filter-sorted (less nat_cmp_total number) (may_stand nat_cmp_total number) (ranks_by nat_cmp_total number) (not-less nat_cmp_total number) p xs ∙ by-number number (filter p xs))
+
+-- parts in order, where the items are put in order by them
+module _ {A B : Type 0} (part : A → B) (before : B → B → Bool) where
+  map-insert : (x : A) (ys : List A) → map part (insert_by (λ x y. before (part x) (part y)) x ys) ≡ insert_by before (part x) (map part ys)
+  map-insert x [] = refl
+  map-insert x (y ∷ ys) = go (before (part x) (part y)) (map-insert x ys) where
+    go : (b : Bool) → map part (insert_by (λ x y. before (part x) (part y)) x ys) ≡ insert_by before (part x) (map part ys)
+        → map part (cond b (x ∷ y ∷ ys) (y ∷ insert_by (λ x y. before (part x) (part y)) x ys)) ≡ cond b (part x ∷ part y ∷ map part ys) (part y ∷ insert_by before (part x) (map part ys))
+    go true rest = refl
+    go false rest = ap (λ zs. part y ∷ zs) rest
+
+  pub map-sorted : (xs : List A) → map part (sorted_by (λ x y. before (part x) (part y)) xs) ≡ sorted_by before (map part xs)
+  unfolding sorted_by
+  map-sorted [] = refl
+  map-sorted (x ∷ xs) = map-insert x (sorted_by (λ x y. before (part x) (part y)) xs) ∙ ap (insert_by before (part x)) (map-sorted xs)

@@ -1,10 +1,10 @@
 // Rows in order of a key.
-ghost use Rattle.std.specs.Prelude.{◌≡◌, IfOk, filter};
+ghost use Rattle.std.specs.Prelude.{◌≡◌, IfOk, filter, map};
 ghost use Rattle.std.specs.Ordering.{is_le};
 ghost use Rattle.mib_model.specs.Orders.{sorted_by, sorted_by_number};
 ghost use Rattle.mib_model.specs.Plans.{has_plan, may_precede};
 
-use mib_model::{CurRow, Name, OcpRow, PcfRow};
+use mib_model::{CurRow, OcpRow, PcfRow};
 use std::alloc::{AllocError, Global};
 
 // A key by which rows are put in order.
@@ -27,22 +27,6 @@ fn ordered<O: Order>(alloc: Global, rows: &[O::Row]) -> Result<Vec<O::Row>, Allo
     let mut ordered = Vec::from_slice(alloc, rows)?;
     ordered.sort_by_key(|row| O::key(row))?;
     Ok(ordered)
-}
-
-// ByName by their names.
-#[derive(Drop)]
-struct ByName;
-
-impl Order for ByName {
-    type Row = PcfRow;
-
-    type Key = Name;
-
-    ghost key_of = { λ row. row.name };
-
-    fn key(row: &PcfRow) -> Name {
-        row.name
-    }
 }
 
 // Selections by POS.
@@ -78,21 +62,21 @@ impl Order for LimitsByPos {
 }
 
 // The parameters that have plans.
-fn planned(alloc: Global, rows: &[PcfRow]) -> Result<Vec<PcfRow>, AllocError>
-    ensures { IfOk result (λ planned. planned.items ≡ filter has_plan rows.now) }
+fn planned(alloc: Global, rows: &[PcfRow]) -> Result<Vec<&PcfRow>, AllocError>
+    ensures { IfOk result (λ planned. map (λ row. row.now) planned.items ≡ filter has_plan rows.now) }
 {
     rows.iter()
         .filter(|row| row.is_measured() && !row.is_deduced())
-        .copied()
         .collect(alloc)
 }
 
 /// The parameters that have plans, by name. An error is want of memory.
-pub fn parameters(alloc: Global, rows: &[PcfRow]) -> Result<Vec<PcfRow>, AllocError>
-    ensures { IfOk result (λ ordered. ordered.items ≡ sorted_by (λ x y. may_precede x.name y.name) (filter has_plan rows.now)) }
+pub fn parameters(alloc: Global, rows: &[PcfRow]) -> Result<Vec<&PcfRow>, AllocError>
+    ensures { IfOk result (λ ordered. map (λ row. row.now) ordered.items ≡ sorted_by (λ x y. may_precede x.name y.name) (filter has_plan rows.now)) }
 {
-    let planned = planned(alloc, rows)?;
-    ordered::<ByName>(alloc, &planned)
+    let mut ordered = planned(alloc, rows)?;
+    ordered.sort_by_key(|row| row.name)?;
+    Ok(ordered)
 }
 
 /// Selections by POS, those of one POS in file order. An error is want of memory.

@@ -96,14 +96,14 @@ fn plans_of<L: Ledger>(
     alloc: Global,
     base: &Params,
     sources: &ParamSources,
-    rows: &[PcfRow],
+    rows: &[&PcfRow],
     steps: &mut Steps<L>,
 ) -> Result<Plans, AllocError>
     requires few { length rows.now ≤ u32.MAX }
-    ensures plans { IfOk result (λ plans. map arc_value plans.params.items ≡ map (slice_for sources.now) rows.now) }
-    ensures compiled { IfOk result (λ plans. plans.compiled ≡ length (filter (is_new base.now) (map (slice_for sources.now) rows.now))) }
+    ensures plans { IfOk result (λ plans. map arc_value plans.params.items ≡ map (slice_for sources.now) (map (λ row. row.now) rows.now)) }
+    ensures compiled { IfOk result (λ plans. plans.compiled ≡ length (filter (is_new base.now) (map (slice_for sources.now) (map (λ row. row.now) rows.now)))) }
     ensures few { IfOk result (λ plans. plans.compiled ≤ length rows.now) }
-    ensures steps { OnOk result (steps.new ≡ steps.old + length (filter (is_new base.now) (map (slice_for sources.now) rows.now))) }
+    ensures steps { OnOk result (steps.new ≡ steps.old + length (filter (is_new base.now) (map (slice_for sources.now) (map (λ row. row.now) rows.now)))) }
 {
     let mut params = Vec::with_capacity(alloc, rows.len())?;
     let mut compiled = 0;

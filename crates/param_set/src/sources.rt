@@ -68,13 +68,11 @@ impl ParamSources {
         requires { IsSound book.now }
         ensures { IfOk result (λ sources. sources ≡ book.now) }
     {
-        let selections = selections(alloc, book.cur())?;
-        let limits = limits(alloc, book.ocp())?;
         Ok(ParamSources {
             curves: CompiledCurves::new(alloc, book)?,
-            selections: RowGroups::new(alloc, &selections)?,
+            selections: RowGroups::new(alloc, &selections(alloc, book.cur())?)?,
             checks: FirstRows::new(alloc, book.ocf())?,
-            limits: RowGroups::new(alloc, &limits)?,
+            limits: RowGroups::new(alloc, &limits(alloc, book.ocp())?)?,
             book: Snapshot::of(book),
         })
     }

@@ -18,13 +18,13 @@ impl<R: Copy + Drop> Model for Group<R> {
 }
 
 impl<R: Copy + Drop> Group<R> {
-    /// A group without rows.
-    pub fn new(alloc: Global) -> Group<R>
-        ensures { result ≡ [] }
+    /// A group without rows, with room for so many. An error is want of memory.
+    pub fn with_room(alloc: Global, count: usize) -> Result<Group<R>, AllocError>
+        ensures { IfOk result (λ group. group ≡ []) }
     {
-        Group {
-            rows: Vec::new(alloc),
-        }
+        Ok(Group {
+            rows: Vec::with_capacity(alloc, count)?,
+        })
     }
 
     /// The group with one more row behind the others. An error is want of memory.

@@ -1,20 +1,19 @@
-ghost use Rattle.std.specs.Prelude.{◌≡◌, ◌++◌, ◌∷◌, [], Some, OnOk, IfOk, filter, if◌then◌else◌};
+ghost use Rattle.std.specs.Prelude.{◌≡◌, ◌+◌, ◌<◌, ◌++◌, ◌∷◌, [], Some, OnOk, IfOk, filter, length, if◌then◌else◌};
 ghost use Rattle.std.specs.Option.{option_eq};
 ghost use Rattle.std.specs.HashMap.{get};
-ghost use Rattle.row_groups.specs.Groups.{rows_of};
+ghost use Rattle.row_groups.specs.Groups.{count_of, rows_of};
 
 use crate::group::Group;
-use first_rows::By;
+use first_rows::{By, Seen};
 use std::alloc::{AllocError, Global};
 use std::collections::HashMap;
 use std::marker::Model;
-use std::snapshot::Snapshot;
 
 /// The rows of each key. Contracts see all the rows that it was made of, in their order.
 #[derive(Drop)]
 pub struct RowGroups<B: By> {
     groups: HashMap<B::Key, Group<B::Row>>,
-    rows: Snapshot<Vec<B::Row>>,
+    rows: Seen<B::Row>,
 }
 
 impl<B: By> Model for RowGroups<B> {
@@ -25,15 +24,42 @@ impl<B: By> Model for RowGroups<B> {
 
     ghost Value = { List B.Row };
 
-    ghost view = { λ all. all.rows.value.items };
+    ghost view = { λ all. all.rows };
 
     ghost invariant = { λ all. (key : B.Key) → rows_of (get B.Key.eq all.groups key)
-        ≡ filter (λ row. option_eq B.Key.eq (B.key_of row) (Some key)) all.rows.value.items };
+        ≡ filter (λ row. option_eq B.Key.eq (B.key_of row) (Some key)) all.rows };
+}
+
+// Counts a row by its key.
+fn count<B: By>(counts: &mut HashMap<B::Key, usize>, row: &B::Row) -> Result<(), AllocError>
+    requires { (key : B.Key) → count_of (get B.Key.eq counts.old key) < usize.MAX }
+    ensures { OnOk result ((key : B.Key) → count_of (get B.Key.eq counts.new key) ≡
+        (if option_eq B.Key.eq (B.key_of row.now) (Some key) then count_of (get B.Key.eq counts.old key) + 1 else count_of (get B.Key.eq counts.old key))) }
+{
+    let Some(key) = B::key(row) else {
+        return Ok(());
+    };
+    let before = counts.get(&key).copied().unwrap_or(0);
+    counts.insert(key, before + 1)?;
+    Ok(())
+}
+
+// How many rows have each key.
+fn counts<B: By>(alloc: Global, rows: &[B::Row]) -> Result<HashMap<B::Key, usize>, AllocError>
+    ensures { IfOk result (λ counts. (key : B.Key) → count_of (get B.Key.eq counts key)
+        ≡ length (filter (λ row. option_eq B.Key.eq (B.key_of row) (Some key)) rows.now)) }
+{
+    let mut counts = HashMap::new(alloc);
+    for row in rows {
+        count::<B>(&mut counts, row)?;
+    }
+    Ok(counts)
 }
 
 // Puts a row behind those with its key.
 fn put<B: By>(
     alloc: Global,
+    counts: &HashMap<B::Key, usize>,
     groups: &mut HashMap<B::Key, Group<B::Row>>,
     row: B::Row,
 ) -> Result<(), AllocError>
@@ -45,23 +71,24 @@ fn put<B: By>(
     };
     let group = match groups.remove(&key) {
         Some(group) => group,
-        None => Group::new(alloc),
+        None => Group::with_room(alloc, counts.get(&key).copied().unwrap_or(0))?,
     };
     groups.insert(key, group.with(row)?)?;
     Ok(())
 }
 
-// The rows of each key.
+// The rows of each key, with room for as many as were counted.
 fn groups<B: By>(
     alloc: Global,
+    counts: &HashMap<B::Key, usize>,
     rows: &[B::Row],
 ) -> Result<HashMap<B::Key, Group<B::Row>>, AllocError>
     ensures { IfOk result (λ groups. (key : B.Key) → rows_of (get B.Key.eq groups key)
         ≡ filter (λ row. option_eq B.Key.eq (B.key_of row) (Some key)) rows.now) }
 {
-    let mut groups = HashMap::new(alloc);
+    let mut groups = HashMap::with_capacity(alloc, counts.len())?;
     for row in rows {
-        put::<B>(alloc, &mut groups, *row)?;
+        put::<B>(alloc, counts, &mut groups, *row)?;
     }
     Ok(groups)
 }
@@ -71,10 +98,11 @@ impl<B: By> RowGroups<B> {
     pub fn new(alloc: Global, rows: &[B::Row]) -> Result<RowGroups<B>, AllocError>
         ensures { IfOk result (λ all. all ≡ rows.now) }
     {
-        let kept = Vec::from_slice(alloc, rows)?;
-        let groups = groups::<B>(alloc, &kept)?;
-        let rows = Snapshot::of(&kept);
-        Ok(RowGroups { groups, rows })
+        let counts = counts::<B>(alloc, rows)?;
+        Ok(RowGroups {
+            groups: groups::<B>(alloc, &counts, rows)?,
+            rows: Seen::of(alloc, rows)?,
+        })
     }
 
     /// The rows that have this key, in their order, in one probe.

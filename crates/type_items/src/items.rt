@@ -4,11 +4,10 @@ ghost use Rattle.mib_model.specs.Plans.{type_item};
 ghost use Rattle.type_items.specs.Items as Items;
 
 use crate::named::Named;
-use first_rows::{By, FirstRows};
+use first_rows::{By, FirstRows, Seen};
 use mib_model::{Endian, Name, PcfRow, TypeItem};
 use std::alloc::{AllocError, Global};
 use std::marker::Model;
-use std::snapshot::Snapshot;
 
 // Type items by the names of their parameters.
 #[derive(Drop)]
@@ -32,7 +31,7 @@ impl By for ByName {
 #[derive(Drop)]
 pub struct TypeItems {
     items: FirstRows<ByName>,
-    parameters: Snapshot<Vec<PcfRow>>,
+    parameters: Seen<PcfRow>,
 }
 
 impl Model for TypeItems {
@@ -42,9 +41,9 @@ impl Model for TypeItems {
 
     ghost Value = { List PcfRow };
 
-    ghost view = { λ all. all.parameters.value.items };
+    ghost view = { λ all. all.parameters };
 
-    ghost invariant = { λ all. all.items ≡ map type_item all.parameters.value.items };
+    ghost invariant = { λ all. all.items ≡ map type_item all.parameters };
 }
 
 // The octet order that a letter asks for.
@@ -80,11 +79,10 @@ impl TypeItems {
     pub fn new(alloc: Global, parameters: &[PcfRow]) -> Result<TypeItems, AllocError>
         ensures { IfOk result (λ items. items ≡ parameters.now) }
     {
-        let kept = Vec::from_slice(alloc, parameters)?;
-        let items = items_of(alloc, &kept)?;
+        let items = items_of(alloc, parameters)?;
         Ok(TypeItems {
             items: FirstRows::new(alloc, &items)?,
-            parameters: Snapshot::of(&kept),
+            parameters: Seen::of(alloc, parameters)?,
         })
     }
 

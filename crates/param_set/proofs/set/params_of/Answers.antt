@@ -1,5 +1,6 @@
-use Rattle.std.proofs.Common.{◌≡◌, ◌∙◌, List, ap, arith, filter, length, map, sym, subst}
+use Rattle.std.proofs.Common.{◌≡◌, ◌∙◌, Bor, List, ap, arith, filter, length, map, sym, subst}
 use Rattle.std.specs.Arc.{arc_value}
+use Rattle.std.proofs.lemmas.List.{length-map}
 use Rattle.edition_plans.specs.Params.{param_slices}
 use Rattle.mib_model.specs.declared.rows.PcfRow.{PcfRow}
 use Rattle.mib_model.specs.Orders.{sorted_by}
@@ -12,19 +13,19 @@ use Rattle.param_set.proofs.set.params_of.Goals as goal
 
 pub plans_of-requires : goal.plans_of-requires
 plans_of-requires g c =
-    let rows = c.deref.ensures.value ∙ c.in_ok-rows.ensures in
+    let rows = ap (map (λ (row : Bor PcfRow). row.now)) c.deref.ensures.value ∙ c.in_ok-rows.ensures in
     let most = planned-most (λ x y. may_precede x.name y.name) has_plan c.pcf.result.now in
-    omega (arith, ap length rows, most, c.pcf.ensures.few)
+    omega (arith, ap length rows, length-map c.deref.result.now (λ (row : Bor PcfRow). row.now), most, c.pcf.ensures.few)
 
 pub new-params-requires : goal.new-params-requires
 unfolding param_slices
 new-params-requires g c =
-    let rows = c.deref.ensures.value ∙ (c.in_ok-rows.ensures ∙ ap (λ (pcf : List PcfRow). sorted_by (λ x y. may_precede x.name y.name) (filter has_plan pcf)) c.pcf.ensures.rows) in
+    let rows = ap (map (λ (row : Bor PcfRow). row.now)) c.deref.ensures.value ∙ (c.in_ok-rows.ensures ∙ ap (λ (pcf : List PcfRow). sorted_by (λ x y. may_precede x.name y.name) (filter has_plan pcf)) c.pcf.ensures.rows) in
     let slices : map arc_value c.in_ok-plans.plans.params.items ≡ param_slices c.args.book.now = c.in_ok-plans.ensures.plans ∙ (λ i. map (slice_for (c.in_ok-sources.ensures i)) (rows i)) in
     subst Ascend (sym slices) (slices-ascend c.args.book.now c.requires)
 
 pub returns-clause-few : goal.returns-clause-few
 returns-clause-few g c =
-    let rows = c.deref.ensures.value ∙ c.in_ok-rows.ensures in
+    let rows = ap (map (λ (row : Bor PcfRow). row.now)) c.deref.ensures.value ∙ c.in_ok-rows.ensures in
     let most = planned-most (λ x y. may_precede x.name y.name) has_plan c.pcf.result.now in
-    omega (arith, ap length rows, most, c.pcf.ensures.few, c.in_ok-plans.ensures.few)
+    omega (arith, ap length rows, length-map c.deref.result.now (λ (row : Bor PcfRow). row.now), most, c.pcf.ensures.few, c.in_ok-plans.ensures.few)

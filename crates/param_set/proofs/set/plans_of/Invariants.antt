@@ -6,8 +6,8 @@ use Rattle.param_set.proofs.set.plans_of.Given as goal
 
 abbrev pub invariant-loop-row : goal.invariant-loop-row
 invariant-loop-row g l = record {
-  plans : map arc_value l.params.items ≡ map (slice_for l.sources) (take l.row-index l.rows);
-  compiled : l.compiled ≡ length (filter (is_new l.base) (map (slice_for l.sources) (take l.row-index l.rows)));
+  plans : map arc_value l.params.items ≡ map (slice_for l.sources) (map (λ row. row.now) (take l.row-index l.rows));
+  compiled : l.compiled ≡ length (filter (is_new l.base) (map (slice_for l.sources) (map (λ row. row.now) (take l.row-index l.rows))));
   few : l.compiled ≤ l.row-index;
-  steps : l.steps ≡ l.initial.steps + length (filter (is_new l.base) (map (slice_for l.sources) (take l.row-index l.rows)));
+  steps : l.steps ≡ l.initial.steps + length (filter (is_new l.base) (map (slice_for l.sources) (map (λ row. row.now) (take l.row-index l.rows))));
 }

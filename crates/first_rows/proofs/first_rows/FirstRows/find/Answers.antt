@@ -1,4 +1,4 @@
-use Rattle.std.proofs.Common.{◌≡◌, ◌∙◌, sym, List, [], ◌∷◌, length, refl, arith, ap, Bool, Option, None}
+use Rattle.std.proofs.Common.{◌≡◌, ◌∙◌, sym, List, [], ◌∷◌, length, refl, arith, Bool, None}
 use Rattle.std.specs.List.{find}
 use Rattle.first_rows.proofs.first_rows.FirstRows.find.Goals as goal
 
@@ -7,4 +7,4 @@ none-of-none p [] is = refl
 none-of-none p (x ∷ xs) is = absurd (omega (arith, is))
 
 pub returns-then-self-eq0 : goal.returns-then-self-eq0
-returns-then-self-eq0 g c = rw (← c.self.view_is) (none-of-none _ c.self.inside.rows.value.items (sym c.self.invariant.0 ∙ c.if-self-eq0.true))
+returns-then-self-eq0 g c = rw (← c.self.view_is) (none-of-none _ c.self.inside.rows (sym c.self.invariant.0 ∙ c.if-self-eq0.true))

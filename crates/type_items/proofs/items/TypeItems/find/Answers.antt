@@ -9,4 +9,4 @@ pub returns : goal.returns
 returns c =
     c.copied.ensures ∙ c.find.ensures
     ∙ ap (λ (items : List TypeItem). find (λ item. bytes_eq item.name c.args.name.now) items) c.self.invariant
-    ∙ find-item c.args.name.now c.self.inside.parameters.value.items ∙ rw c.self.view_is refl
+    ∙ find-item c.args.name.now c.self.inside.parameters ∙ rw c.self.view_is refl
