@@ -13,6 +13,7 @@ mod field;
 mod lines;
 mod octets;
 mod page;
+mod place;
 mod raw;
 mod record;
 mod reply;

@@ -21,7 +21,7 @@ fn add_hex_octet(octet: u8, out: &mut Page)
     ensures room { length out.new.octets ≡ length out.old.octets + 2 }
     ensures limit { out.new.limit ≡ out.old.limit }
 {
-    out.add(&[hex_digit(octet / 16), hex_digit(octet % 16)]);
+    out.add_word(&[hex_digit(octet / 16), hex_digit(octet % 16)]);
 }
 
 /// Appends a number in so many digits.
@@ -52,7 +52,7 @@ fn add_escaped(octet: u8, out: &mut Page)
     ensures room { length out.new.octets ≡ length out.old.octets + 4 }
     ensures limit { out.new.limit ≡ out.old.limit }
 {
-    out.add(b"\\x");
+    out.add_word(b"\\x");
     add_hex_octet(octet, out);
 }
 

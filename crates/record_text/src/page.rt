@@ -5,6 +5,7 @@ ghost use Rattle.record_text.specs.ShortTexts.{digits_of};
 ghost use Rattle.record_text.specs.declared.lines.TheConstants.{LINES_ROOM, LINE_MOST};
 
 use crate::lines::{LINE_MOST, LINES_ROOM};
+use crate::place::put;
 use crate::short::Short;
 use crate::short_texts::{SHORT_BOUND, ShortTexts};
 use dec_num::write_eng;
@@ -125,6 +126,18 @@ impl Page {
         self.used = end;
     }
 
+    /// Appends a word of a known count of octets.
+    #[inline(always)]
+    pub(crate) fn add_word<const N: usize>(&mut self, word: &[u8; N])
+        requires { length self.old.octets + N ≤ self.old.limit }
+        ensures text { self.new.octets ≡ self.old.octets ++ word.now }
+        ensures room { length self.new.octets ≡ length self.old.octets + N }
+        ensures limit { self.new.limit ≡ self.old.limit }
+    {
+        put(&mut self.octets, self.used, word);
+        self.used += N;
+    }
+
     /// Appends a name.
     pub(crate) fn add_name(&mut self, name: &Name)
         requires { length self.old.octets + 32 ≤ self.old.limit }
@@ -144,7 +157,7 @@ impl Page {
         ensures limit { self.new.limit ≡ self.old.limit }
     {
         let end = self.used + usize::from(short.count);
-        self.add(&short.digits);
+        self.add_word(&short.digits);
         self.used = end;
     }
 
@@ -162,7 +175,7 @@ impl Page {
             let high = self.shorts.at(n / SHORT_BOUND);
             let low = self.shorts.at(n % SHORT_BOUND);
             self.add_short(high);
-            self.add(&low.four);
+            self.add_word(&low.four);
         } else {
             self.add_digits(n);
         }

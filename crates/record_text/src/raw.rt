@@ -61,7 +61,7 @@ fn add_real(shape: Shape, packet: &[u8], at: u64, out: &mut Page)
     ensures limit { out.new.limit ≡ out.old.limit }
 {
     let digits = real_digits(shape);
-    out.add(b"REAL:");
+    out.add_word(b"REAL:");
     add_hex_number(number(packet, at, shape).unwrap_or(0), digits, out);
 }
 
@@ -74,7 +74,7 @@ fn add_hex_field(packet: &[u8], at: u64, count: u16, out: &mut Page)
     ensures room { length out.new.octets ≤ length out.old.octets + RAW_ROOM }
     ensures limit { out.new.limit ≡ out.old.limit }
 {
-    out.add(b"HEX:");
+    out.add_word(b"HEX:");
     add_octets_at::<Digits>(packet, at, count, out);
 }
 
@@ -102,7 +102,7 @@ fn add_day_time(packet: &[u8], at: u64, width: u16, out: &mut Page)
     ensures room { length out.new.octets ≤ length out.old.octets + 127 }
     ensures limit { out.new.limit ≡ out.old.limit }
 {
-    out.add(b"TIME:");
+    out.add_word(b"TIME:");
     out.add_number(field(packet, at, 0, 16));
     out.push(b':');
     out.add_number(field(packet, at, 16, 32));
@@ -122,7 +122,7 @@ fn add_octet_time(packet: &[u8], at: u64, coarse: u8, fine: u8, out: &mut Page)
     ensures room { length out.new.octets ≤ length out.old.octets + 86 }
     ensures limit { out.new.limit ≡ out.old.limit }
 {
-    out.add(b"TIME:");
+    out.add_word(b"TIME:");
     out.add_number(field(packet, at, 0, 8 * coarse));
     if fine > 0 {
         out.push(b':');

@@ -18,7 +18,7 @@ fn add_types(service: u8, subtype: u8, out: &mut Page)
     ensures room { length out.new.octets ≤ length out.old.octets + 90 }
     ensures limit { out.new.limit ≡ out.old.limit }
 {
-    out.add(b" TYPE ");
+    out.add_word(b" TYPE ");
     out.add_number(u64::from(service));
     out.push(b'/');
     out.add_number(u64::from(subtype));
@@ -37,7 +37,7 @@ fn add_title(title: Option<&Text>, out: &mut Page)
     if title.bytes().is_empty() {
         return;
     }
-    out.add(b" NAME ");
+    out.add_word(b" NAME ");
     add_quoted(title.bytes(), out);
 }
 
@@ -56,18 +56,18 @@ fn add_found(found: &Found, title: Option<&Text>, out: &mut Page)
             ..
         } => {
             add_types(service, subtype, out);
-            out.add(b" SPID ");
+            out.add_word(b" SPID ");
             out.add_number(u64::from(spid));
             add_title(title, out);
         }
         Found::Unknown { service, subtype } => {
             add_types(service, subtype, out);
-            out.add(b" UNKNOWN");
+            out.add_word(b" UNKNOWN");
         }
-        Found::Idle => out.add(b" IDLE"),
-        Found::Bad(BadWhy::Version) => out.add(b" BAD VERSION"),
-        Found::Bad(BadWhy::Telecommand) => out.add(b" BAD TELECOMMAND"),
-        Found::Bad(BadWhy::Short) => out.add(b" BAD SHORT"),
+        Found::Idle => out.add_word(b" IDLE"),
+        Found::Bad(BadWhy::Version) => out.add_word(b" BAD VERSION"),
+        Found::Bad(BadWhy::Telecommand) => out.add_word(b" BAD TELECOMMAND"),
+        Found::Bad(BadWhy::Short) => out.add_word(b" BAD SHORT"),
     }
 }
 
@@ -79,11 +79,11 @@ fn add_head(number: u64, header: &Header, found: &Found, title: Option<&Text>, o
     ensures room { length out.new.octets ≤ length out.old.octets + HEAD_ROOM }
     ensures limit { out.new.limit ≡ out.old.limit }
 {
-    out.add(b"PKT ");
+    out.add_word(b"PKT ");
     out.add_number(number);
-    out.add(b" APID ");
+    out.add_word(b" APID ");
     out.add_number(u64::from(header.apid));
-    out.add(b" COUNT ");
+    out.add_word(b" COUNT ");
     out.add_number(u64::from(header.count));
     add_found(found, title, out);
     out.push(b'\n');
@@ -162,7 +162,7 @@ fn add_short(name: &Name, out: &mut Page)
     ensures room { length out.new.octets ≤ length out.old.octets + 41 }
     ensures limit { out.new.limit ≡ out.old.limit }
 {
-    out.add(b"  SHORT ");
+    out.add_word(b"  SHORT ");
     out.add_name(name);
     out.push(b'\n');
 }
@@ -177,7 +177,7 @@ fn add_ended(ended: &Ended, out: &mut Page)
     match ended {
         Ended::Whole => {}
         Ended::Short { name } => add_short(name, out),
-        Ended::Many => out.add(b"  MANY\n"),
+        Ended::Many => out.add_word(b"  MANY\n"),
         Ended::NoStructure { tpsd } => add_numbered(b"  NOSTRUCTURE ", *tpsd, out),
         Ended::NoParameter { pid } => add_numbered(b"  NOPARAMETER ", *pid, out),
     }

@@ -30,18 +30,18 @@ fn add_given(cal: &Cal<'_>, decimals: u8, out: &mut Page)
 {
     match cal {
         Cal::Value(number) => {
-            out.add(b" = ");
+            out.add_word(b" = ");
             out.add_count(*number, decimals);
         }
         Cal::Text(text) => {
-            out.add(b" = ");
+            out.add_word(b" = ");
             add_quoted(text.bytes(), out);
         }
-        Cal::NoText => out.add(b" ! NOTEXT"),
-        Cal::Outside => out.add(b" ! OUTSIDE"),
-        Cal::Over => out.add(b" ! OVER"),
-        Cal::LogCurve => out.add(b" ! LOGCURVE"),
-        Cal::RealCurve => out.add(b" ! REALCURVE"),
+        Cal::NoText => out.add_word(b" ! NOTEXT"),
+        Cal::Outside => out.add_word(b" ! OUTSIDE"),
+        Cal::Over => out.add_word(b" ! OVER"),
+        Cal::LogCurve => out.add_word(b" ! LOGCURVE"),
+        Cal::RealCurve => out.add_word(b" ! REALCURVE"),
     }
 }
 
@@ -55,6 +55,6 @@ pub(crate) fn add_tail(tail: &Tail<'_>, out: &mut Page)
     match tail {
         Tail::Plain => {}
         Tail::Given { cal, decimals } => add_given(cal, *decimals, out),
-        Tail::Invalid => out.add(b" ? INVALID"),
+        Tail::Invalid => out.add_word(b" ? INVALID"),
     }
 }

@@ -17,5 +17,5 @@ returns-clause-text c =
     let used : length c.args.self.now.octets ≡ c.self.inside.used =
     rw (← before) (length-take-le c.self.inside.used c.self.inside.octets.items (omega arith)) in
     let fits : c.self.inside.used + c.from.result ≤ length (take c.self-2.inside.used c.self-2.inside.octets.items) =
-    rw after (omega (arith, c.add.ensures.room, c.args.short.few)) in
-    rw c.from.ensures (cut_behind c.self-2.inside.octets.items c.args.self.now.octets c.args.short.digits c.self.inside.used c.self-2.inside.used c.args.short.count (after ∙ c.add.ensures.text) used (rw c.from.ensures at fits))
+    rw after (omega (arith, c.add_word.ensures.room, c.args.short.few)) in
+    rw c.from.ensures (cut_behind c.self-2.inside.octets.items c.args.self.now.octets c.args.short.digits c.self.inside.used c.self-2.inside.used c.args.short.count (after ∙ c.add_word.ensures.text) used (rw c.from.ensures at fits))
