@@ -7,3 +7,5 @@ pub mod OrderFacts
 mod GroupFacts
 mod SweepFacts
 mod FlawFacts
+mod KeptFacts
+mod EqualFacts

@@ -6,3 +6,4 @@ pub mod Points
 pub mod Structures
 pub mod Known
 pub mod Answers
+pub mod Kept

@@ -1,14 +1,17 @@
 //! Soundness of a monitoring database: the first flaw of its tables, by table, row and code.
 //!
 //! `sound` answers `Ok` exactly where no flaw stands, and else exactly the first. It looks keys up in hash maps that it
-//! makes in one pass over each table. It rests on the definitions of `mib_model`, on the `Book` of `mib_tables`, on the
-//! numbers of `dec_num` and on the types of `bit_field`.
+//! makes in one pass over each table. `sound_beside` answers the same of a book beside a sound base, and tests the tables alone
+//! that read something new. It rests on the definitions of `mib_model`, on the `Book` of `mib_tables`, on the law of
+//! `row_laws` that rows that are the same are equal, on the numbers of `dec_num` and on the types of `bit_field`.
 #![tactic(auto)]
 
+mod beside;
 mod fault;
 mod flaw;
 mod groups;
 mod index;
+mod kept;
 mod keys;
 mod lookups;
 mod points;
@@ -18,5 +21,6 @@ mod structures;
 mod tables;
 mod types;
 
+pub use beside::sound_beside;
 pub use fault::SoundFault;
 pub use soundness::sound;

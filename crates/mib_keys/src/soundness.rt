@@ -89,8 +89,8 @@ fn keyed_flaw<R: Rules>(
     Ok(table_flaw(lookups, &places, rows))
 }
 
-// The first flaw of a table.
-fn kind_flaw(
+/// The first flaw of a table.
+pub fn kind_flaw(
     alloc: Global,
     lookups: &Lookups<'_>,
     kind: Kind,
@@ -130,8 +130,8 @@ fn tables_flaw(alloc: Global, lookups: &Lookups<'_>) -> Result<Option<MibFault>,
     Ok(None)
 }
 
-// The first flaw of a book, with all that is made for it.
-fn first_flaw(alloc: Global, book: &Book) -> Result<Option<MibFault>, AllocError>
+/// The first flaw of a book, with all that is made for it.
+pub fn first_flaw(alloc: Global, book: &Book) -> Result<Option<MibFault>, AllocError>
     ensures { IfOk result (λ flaw. flaw ≡ first_flaw book.now) }
 {
     let lookups = Lookups::new(alloc, book)?;

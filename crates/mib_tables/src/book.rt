@@ -6,9 +6,11 @@ ghost use Rattle.mib_model.specs.RowTexts.{kind_in};
 ghost use Rattle.mib_model.specs.TableLists.{kind_held, rows_held};
 ghost use Rattle.mib_model.specs.declared.limits.TheConstants.{HELD_MOST};
 ghost use Rattle.mib_tables.specs.Kinds.{kind_of_key};
+ghost use Rattle.mib_tables.specs.Parts.{part_of};
 ghost use Rattle.mib_tables.specs.Puts.{put_made};
 
 use crate::table::{DelFault, Put, Table};
+use crate::table_set::TableSet;
 use mib_model::{
     CafRow, CapRow, CurRow, Key, Kind, LgfRow, McfRow, OcfRow, OcpRow, PcfRow, PicRow, PidRow,
     PlfRow, Row, TableRows, Tables, TpcfRow, TxfRow, TxpRow, VpdRow,
@@ -233,6 +235,31 @@ impl Book {
             lgf: self.lgf.copy()?,
             ocf: self.ocf.copy()?,
             ocp: self.ocp.copy()?,
+        })
+    }
+
+    /// A book of its own with the rows of some tables, and none of the others.
+    pub fn part(&self, tables: TableSet) -> Result<Book, AllocError>
+        ensures { IfOk result (λ part. part ≡ part_of tables self.now) }
+    {
+        let alloc = self.alloc;
+        Ok(Book {
+            alloc,
+            pcf: self.pcf.copy_if(tables.pcf)?,
+            pid: self.pid.copy_if(tables.pid)?,
+            pic: self.pic.copy_if(tables.pic)?,
+            tpcf: self.tpcf.copy_if(tables.tpcf)?,
+            plf: self.plf.copy_if(tables.plf)?,
+            vpd: self.vpd.copy_if(tables.vpd)?,
+            cur: self.cur.copy_if(tables.cur)?,
+            caf: self.caf.copy_if(tables.caf)?,
+            cap: self.cap.copy_if(tables.cap)?,
+            txf: self.txf.copy_if(tables.txf)?,
+            txp: self.txp.copy_if(tables.txp)?,
+            mcf: self.mcf.copy_if(tables.mcf)?,
+            lgf: self.lgf.copy_if(tables.lgf)?,
+            ocf: self.ocf.copy_if(tables.ocf)?,
+            ocp: self.ocp.copy_if(tables.ocp)?,
         })
     }
 

@@ -7,6 +7,8 @@
 mod book;
 mod shared;
 mod table;
+mod table_set;
 
 pub use book::Book;
 pub use table::{DelFault, Put};
+pub use table_set::TableSet;

@@ -3,6 +3,7 @@ ghost use Rattle.std.specs.Prelude.{◌≡◌, ◌≤◌, [], IfOk, OnErr, OnOk,
 ghost use Rattle.mib_model.specs.Drafts.{put_in, without_key, is_held};
 ghost use Rattle.mib_model.specs.Keys.{has_key, key_in, same_key};
 ghost use Rattle.mib_model.specs.declared.limits.TheConstants.{HELD_MOST};
+ghost use Rattle.mib_tables.specs.Parts.{if_kept};
 ghost use Rattle.mib_tables.specs.Puts.{put_made};
 
 use crate::shared::Shared;
@@ -120,6 +121,17 @@ impl<R: TableRow> Table<R> {
         Ok(Table {
             rows: self.rows.share()?,
         })
+    }
+
+    /// A table with these rows if they are to be kept, and else with none.
+    pub fn copy_if(&self, kept: bool) -> Result<Self, AllocError>
+        ensures { IfOk result (λ table. table ≡ if_kept kept self.now) }
+    {
+        if kept {
+            self.copy()
+        } else {
+            Ok(Table::empty())
+        }
     }
 
     /// Takes some rows in place of its own; more than `HELD_MOST` are want of memory.

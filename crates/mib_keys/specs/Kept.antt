@@ -1,0 +1,42 @@
+-- Which tables the flaws of a table depend on. [SCOS-2000 Database Import ICD, references between the tables; this profile.]
+use Rattle.std.specs.Prelude.{◌≡◌, Bool, true, ◌&&◌}
+use Rattle.mib_model.specs.declared.database.Database.{Database}
+use Rattle.mib_model.specs.declared.kind.Kind.{Kind}
+use Rattle.mib_model.specs.declared.kind.Kind.TheVariants as kind
+use Rattle.mib_tables.specs.declared.table_set.TableSet.{TableSet}
+
+-- the tables of a set have the same rows in both databases
+pub record AreSameIn (set : TableSet) (old new : Database) : Type 0 where
+  pub pcf : set.pcf ≡ true → old.pcf ≡ new.pcf
+  pub pid : set.pid ≡ true → old.pid ≡ new.pid
+  pub pic : set.pic ≡ true → old.pic ≡ new.pic
+  pub tpcf : set.tpcf ≡ true → old.tpcf ≡ new.tpcf
+  pub plf : set.plf ≡ true → old.plf ≡ new.plf
+  pub vpd : set.vpd ≡ true → old.vpd ≡ new.vpd
+  pub cur : set.cur ≡ true → old.cur ≡ new.cur
+  pub caf : set.caf ≡ true → old.caf ≡ new.caf
+  pub cap : set.cap ≡ true → old.cap ≡ new.cap
+  pub txf : set.txf ≡ true → old.txf ≡ new.txf
+  pub txp : set.txp ≡ true → old.txp ≡ new.txp
+  pub mcf : set.mcf ≡ true → old.mcf ≡ new.mcf
+  pub lgf : set.lgf ≡ true → old.lgf ≡ new.lgf
+  pub ocf : set.ocf ≡ true → old.ocf ≡ new.ocf
+  pub ocp : set.ocp ≡ true → old.ocp ≡ new.ocp
+
+-- whether a set has all tables that the flaws of a table depend on: its own, and those that its rows refer to
+abbrev pub covers : TableSet → Kind → Bool
+covers set kind.Pcf = set.pcf && set.cur && set.caf && set.txf && set.mcf && set.lgf
+covers set kind.Pid = set.pid && set.vpd
+covers set kind.Pic = set.pic
+covers set kind.Tpcf = set.tpcf
+covers set kind.Plf = set.plf && set.pcf && set.pid
+covers set kind.Vpd = set.vpd && set.pcf
+covers set kind.Cur = set.cur && set.pcf && set.caf && set.txf && set.mcf && set.lgf
+covers set kind.Caf = set.caf && set.cap
+covers set kind.Cap = set.cap && set.caf
+covers set kind.Txf = set.txf
+covers set kind.Txp = set.txp && set.txf
+covers set kind.Mcf = set.mcf
+covers set kind.Lgf = set.lgf
+covers set kind.Ocf = set.ocf && set.pcf
+covers set kind.Ocp = set.ocp && set.ocf && set.pcf

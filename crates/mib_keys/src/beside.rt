@@ -1,0 +1,89 @@
+// The first flaw of a book beside a sound base.
+ghost use Rattle.std.specs.Prelude.{◌≡◌, IfOk};
+ghost use Rattle.mib_keys.specs.Answers.{Gives};
+ghost use Rattle.mib_keys.specs.Kept.{AreSameIn};
+ghost use Rattle.mib_model.specs.Points.{first_of};
+ghost use Rattle.mib_model.specs.Soundness.{IsSound, first_flaw, flaws_of};
+
+use crate::fault::SoundFault;
+use crate::kept::{covers, same_tables, tables_read};
+use crate::lookups::Lookups;
+use crate::soundness::{first_flaw, kind_flaw};
+use mib_model::{KINDS, Kind, MibFault};
+use mib_tables::{Book, TableSet};
+use std::alloc::{AllocError, Global};
+
+// The first flaw of a table, with what is made of the tables alone that it reads.
+fn part_flaw(alloc: Global, book: &Book, kind: Kind) -> Result<Option<MibFault>, AllocError>
+    ensures { IfOk result (λ flaw. flaw ≡ first_of (flaws_of book.now kind)) }
+{
+    let part = book.part(tables_read(kind))?;
+    let lookups = Lookups::new(alloc, &part)?;
+    kind_flaw(alloc, &lookups, kind)
+}
+
+// The first flaw of a table: none where all that it reads is that of a sound base.
+fn flaw_beside(
+    alloc: Global,
+    base: &Book,
+    same: TableSet,
+    book: &Book,
+    kind: Kind,
+) -> Result<Option<MibFault>, AllocError>
+    requires sound { IsSound base.now }
+    requires same { AreSameIn same base.now book.now }
+    ensures { IfOk result (λ flaw. flaw ≡ first_of (flaws_of book.now kind)) }
+{
+    if covers(same, kind) {
+        return Ok(None);
+    }
+    part_flaw(alloc, book, kind)
+}
+
+// The first flaw of the tables of a book, of which those that read nothing new have none.
+fn new_flaw(
+    alloc: Global,
+    base: &Book,
+    same: TableSet,
+    book: &Book,
+) -> Result<Option<MibFault>, AllocError>
+    requires sound { IsSound base.now }
+    requires same { AreSameIn same base.now book.now }
+    ensures { IfOk result (λ flaw. flaw ≡ first_flaw book.now) }
+{
+    for kind in KINDS {
+        if let Some(flaw) = flaw_beside(alloc, base, same, book, kind)? {
+            return Ok(Some(flaw));
+        }
+    }
+    Ok(None)
+}
+
+// The first flaw of a book beside a sound base. Parameters are read by almost all tables: where they differ, all are tested.
+fn first_flaw_beside(
+    alloc: Global,
+    base: &Book,
+    book: &Book,
+) -> Result<Option<MibFault>, AllocError>
+    requires { IsSound base.now }
+    ensures { IfOk result (λ flaw. flaw ≡ first_flaw book.now) }
+{
+    let same = same_tables(base, book);
+    if same.pcf {
+        new_flaw(alloc, base, same, book)
+    } else {
+        first_flaw(alloc, book)
+    }
+}
+
+/// Whether a book is sound, as `sound` tells it. Tables that have no flaw in a sound base, and read the same rows here, are
+/// not tested again.
+pub fn sound_beside(alloc: Global, base: &Book, book: &Book) -> Result<(), SoundFault>
+    requires { IsSound base.now }
+    ensures { Gives result book.now }
+{
+    match first_flaw_beside(alloc, base, book)? {
+        None => Ok(()),
+        Some(fault) => Err(SoundFault::Mib(fault)),
+    }
+}
