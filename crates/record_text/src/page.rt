@@ -5,7 +5,7 @@ ghost use Rattle.record_text.specs.ShortTexts.{digits_of};
 ghost use Rattle.record_text.specs.declared.lines.TheConstants.{LINES_ROOM, LINE_MOST};
 
 use crate::lines::{LINE_MOST, LINES_ROOM};
-use crate::place::put;
+use crate::place::{put, put_text};
 use crate::short::Short;
 use crate::short_texts::{SHORT_BOUND, ShortTexts};
 use dec_num::write_eng;
@@ -121,9 +121,8 @@ impl Page {
         ensures room { length self.new.octets ≡ length self.old.octets + length octets.now }
         ensures limit { self.new.limit ≡ self.old.limit }
     {
-        let end = self.used + octets.len();
-        self.octets[self.used..end].copy_from_slice(octets);
-        self.used = end;
+        put_text(&mut self.octets, self.used, octets);
+        self.used += octets.len();
     }
 
     /// Appends a word of a known count of octets.
@@ -202,8 +201,8 @@ impl Page {
     {
         self.number.clear();
         write_eng(v, decimals, &mut self.number);
-        let end = self.used + self.number.bytes().len();
-        self.octets[self.used..end].copy_from_slice(self.number.bytes());
-        self.used = end;
+        let text = self.number.bytes();
+        put_text(&mut self.octets, self.used, text);
+        self.used += text.len();
     }
 }
