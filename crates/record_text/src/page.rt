@@ -3,6 +3,7 @@ ghost use Rattle.std.specs.Prelude.{◌≡◌, ◌≤◌, ◌<◌, ◌+◌, ◌+
 ghost use Rattle.mib_model.specs.Counts.{count_text};
 ghost use Rattle.record_text.specs.ShortTexts.{digits_of};
 ghost use Rattle.record_text.specs.declared.lines.TheConstants.{LINES_ROOM, LINE_MOST};
+ghost use Rattle.record_text.specs.declared.short_texts.TheConstants.{SHORT_BOUND};
 
 use crate::lines::{LINE_MOST, LINES_ROOM};
 use crate::place::{put, put_text};
@@ -160,7 +161,28 @@ impl Page {
         self.used = end;
     }
 
+    // Appends the digits of a number that has no short text: those in front of the last four and the last four, or as
+    // itoa has them.
+    #[inline(never)]
+    fn add_long(&mut self, n: u64)
+        requires room { length self.old.octets + 40 ≤ self.old.limit }
+        requires long { SHORT_BOUND ≤ n }
+        ensures text { self.new.octets ≡ self.old.octets ++ decimal n }
+        ensures room { length self.new.octets ≤ length self.old.octets + 40 }
+        ensures limit { self.new.limit ≡ self.old.limit }
+    {
+        if n < SHORT_BOUND * SHORT_BOUND {
+            let high = self.shorts.at(n / SHORT_BOUND);
+            let low = self.shorts.at(n % SHORT_BOUND);
+            self.add_short(high);
+            self.add_word(&low.four);
+        } else {
+            self.add_digits(n);
+        }
+    }
+
     /// Appends a number's digits.
+    #[inline(always)]
     pub(crate) fn add_number(&mut self, n: u64)
         requires { length self.old.octets + 40 ≤ self.old.limit }
         ensures text { self.new.octets ≡ self.old.octets ++ decimal n }
@@ -170,13 +192,8 @@ impl Page {
         if n < SHORT_BOUND {
             let short = self.shorts.at(n);
             self.add_short(short);
-        } else if n < SHORT_BOUND * SHORT_BOUND {
-            let high = self.shorts.at(n / SHORT_BOUND);
-            let low = self.shorts.at(n % SHORT_BOUND);
-            self.add_short(high);
-            self.add_word(&low.four);
         } else {
-            self.add_digits(n);
+            self.add_long(n);
         }
     }
 
