@@ -1,3 +1,4 @@
 pub mod OctetFacts
+pub mod PlaceFacts
 pub mod ShapeFacts
 pub mod ShortFacts

@@ -3,9 +3,10 @@ ghost use Rattle.std.specs.Prelude.{◌≡◌, ◌≤◌, ◌<◌, ◌+◌, ◌+
 ghost use Rattle.mib_model.specs.Counts.{count_text};
 ghost use Rattle.record_text.specs.ShortTexts.{digits_of};
 ghost use Rattle.record_text.specs.declared.lines.TheConstants.{LINES_ROOM, LINE_MOST};
+ghost use Rattle.record_text.specs.declared.short_texts.TheConstants.{SHORT_BOUND};
 
 use crate::lines::{LINE_MOST, LINES_ROOM};
-use crate::place::put;
+use crate::place::{put, put_text};
 use crate::short::Short;
 use crate::short_texts::{SHORT_BOUND, ShortTexts};
 use dec_num::write_eng;
@@ -121,9 +122,8 @@ impl Page {
         ensures room { length self.new.octets ≡ length self.old.octets + length octets.now }
         ensures limit { self.new.limit ≡ self.old.limit }
     {
-        let end = self.used + octets.len();
-        self.octets[self.used..end].copy_from_slice(octets);
-        self.used = end;
+        put_text(&mut self.octets, self.used, octets);
+        self.used += octets.len();
     }
 
     /// Appends a word of a known count of octets.
@@ -161,7 +161,28 @@ impl Page {
         self.used = end;
     }
 
+    // Appends the digits of a number that has no short text: those in front of the last four and the last four, or as
+    // itoa has them.
+    #[inline(never)]
+    fn add_long(&mut self, n: u64)
+        requires room { length self.old.octets + 40 ≤ self.old.limit }
+        requires long { SHORT_BOUND ≤ n }
+        ensures text { self.new.octets ≡ self.old.octets ++ decimal n }
+        ensures room { length self.new.octets ≤ length self.old.octets + 40 }
+        ensures limit { self.new.limit ≡ self.old.limit }
+    {
+        if n < SHORT_BOUND * SHORT_BOUND {
+            let high = self.shorts.at(n / SHORT_BOUND);
+            let low = self.shorts.at(n % SHORT_BOUND);
+            self.add_short(high);
+            self.add_word(&low.four);
+        } else {
+            self.add_digits(n);
+        }
+    }
+
     /// Appends a number's digits.
+    #[inline(always)]
     pub(crate) fn add_number(&mut self, n: u64)
         requires { length self.old.octets + 40 ≤ self.old.limit }
         ensures text { self.new.octets ≡ self.old.octets ++ decimal n }
@@ -171,13 +192,8 @@ impl Page {
         if n < SHORT_BOUND {
             let short = self.shorts.at(n);
             self.add_short(short);
-        } else if n < SHORT_BOUND * SHORT_BOUND {
-            let high = self.shorts.at(n / SHORT_BOUND);
-            let low = self.shorts.at(n % SHORT_BOUND);
-            self.add_short(high);
-            self.add_word(&low.four);
         } else {
-            self.add_digits(n);
+            self.add_long(n);
         }
     }
 
@@ -202,8 +218,8 @@ impl Page {
     {
         self.number.clear();
         write_eng(v, decimals, &mut self.number);
-        let end = self.used + self.number.bytes().len();
-        self.octets[self.used..end].copy_from_slice(self.number.bytes());
-        self.used = end;
+        let text = self.number.bytes();
+        put_text(&mut self.octets, self.used, text);
+        self.used += text.len();
     }
 }

@@ -28,8 +28,9 @@ fn add_magnitude(n: u128, out: &mut Page)
     }
 }
 
-// Appends a raw number's digits.
-fn add_integer(raw: i128, out: &mut Page)
+// Appends the digits of a raw number that is below zero or past 64 bits.
+#[inline(never)]
+fn add_far_integer(raw: i128, out: &mut Page)
     requires room { length out.old.octets + 41 ≤ out.old.limit }
     ensures text { out.new.octets ≡ out.old.octets ++ signed_decimal raw }
     ensures room { length out.new.octets ≤ length out.old.octets + 41 }
@@ -39,6 +40,19 @@ fn add_integer(raw: i128, out: &mut Page)
         out.push(b'-');
     }
     add_magnitude(raw.unsigned_abs(), out);
+}
+
+// Appends a raw number's digits.
+fn add_integer(raw: i128, out: &mut Page)
+    requires room { length out.old.octets + 41 ≤ out.old.limit }
+    ensures text { out.new.octets ≡ out.old.octets ++ signed_decimal raw }
+    ensures room { length out.new.octets ≤ length out.old.octets + 41 }
+    ensures limit { out.new.limit ≡ out.old.limit }
+{
+    match u64::try_from(raw) {
+        Ok(raw) => out.add_number(raw),
+        Err(_) => add_far_integer(raw, out),
+    }
 }
 
 // The hexadecimal digits of a real number.
