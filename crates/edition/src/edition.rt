@@ -15,7 +15,7 @@ use edition_plans::Plans;
 use first_rows::FirstRows;
 use ident_plan::Ident;
 use layout_plan::Layout;
-use mib_keys::sound;
+use mib_keys::{sound, sound_beside};
 use mib_model::{Rows, Steps, Text, TypeItem};
 use mib_tables::Book;
 use param_plan::Params;
@@ -142,7 +142,7 @@ impl Edition {
         ensures refused { IfErr result (Refuses book.now) }
         ensures steps { OnOk result (steps.new ≡ steps.old + length (touched base.now book.now)) }
     {
-        sound(alloc, book)?;
+        sound_beside(alloc, &base.book, book)?;
         Ok(Edition::beside(alloc, base, book, steps)?)
     }
 
