@@ -23,4 +23,5 @@ mod types;
 
 pub use beside::sound_beside;
 pub use fault::SoundFault;
+pub use kept::same_tables;
 pub use soundness::sound;

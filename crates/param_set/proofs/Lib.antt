@@ -5,3 +5,4 @@ pub mod SameFacts
 pub mod SharingFacts
 pub mod UniqueFacts
 pub mod PlanFacts
+pub mod BesideFacts

@@ -1,3 +1,4 @@
 pub mod Sharing
 pub mod Compiled
 pub mod Laws
+pub mod Beside

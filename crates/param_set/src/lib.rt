@@ -2,10 +2,12 @@
 //!
 //! `params_of` compiles a plan for each parameter that has one, and takes over by handle each plan of a base whose rows
 //! are the same, in the same order. The rows of a parameter are found by hash maps that are made once, so that its time
-//! grows with the rows, but for what is sorted. It rests on mib_tables for the rows, on first_rows and row_groups for
-//! finding them, and on param_plan for the plans.
+//! grows with the rows, but for what is sorted. `params_beside` compares, where parameters are the same, only what other
+//! tables changed. It rests on mib_tables for the rows, on mib_keys for the tables in which two books differ, on first_rows
+//! and row_groups for finding rows, and on param_plan for the plans.
 #![tactic(auto)]
 
+mod beside;
 mod compiled;
 mod curves;
 mod laws;
@@ -15,6 +17,7 @@ mod set;
 mod sources;
 mod ways;
 
+pub use beside::params_beside;
 pub use laws::{
     all_plans_are_new_to_nothing, new_plans_are_touched, param_slices_are_of_the_database,
     param_slices_have_the_planned_names,

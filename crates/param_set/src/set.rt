@@ -46,18 +46,18 @@ fn same_plan<'a>(base: &'a Params, rows: &ParamRows) -> Option<&'a Arc<Param>>
     }
 }
 
-// A plan, and whether it was compiled, not shared.
+/// A plan, and whether it was compiled, not shared.
 #[derive(Drop)]
-struct Plan {
-    param: Arc<Param>,
-    is_new: bool,
+pub struct Plan {
+    pub param: Arc<Param>,
+    pub is_new: bool,
 }
 
-// Plans, and how many of them were compiled, not shared.
+/// Plans, and how many of them were compiled, not shared.
 #[derive(Drop)]
-struct Plans {
-    params: Vec<Arc<Param>>,
-    compiled: u32,
+pub struct Plans {
+    pub params: Vec<Arc<Param>>,
+    pub compiled: u32,
 }
 
 /// The plans of a book's parameters, and how many of them were compiled, not shared with the base.

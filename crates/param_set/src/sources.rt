@@ -77,22 +77,22 @@ impl ParamSources {
         })
     }
 
-    // The selections of a parameter, by POS.
-    fn selections(&self, name: &Name) -> &[CurRow]
+    /// The selections of a parameter, by POS.
+    pub fn selections(&self, name: &Name) -> &[CurRow]
         ensures { result.now ≡ Spec.selections self.now name.now }
     {
         self.selections.of(name)
     }
 
-    // The limits of a parameter, by POS.
-    fn limits(&self, name: &Name) -> &[OcpRow]
+    /// The limits of a parameter, by POS.
+    pub fn limits(&self, name: &Name) -> &[OcpRow]
         ensures { result.now ≡ checks_of self.now name.now }
     {
         self.limits.of(name)
     }
 
-    // The check of a parameter.
-    fn check(&self, name: &Name) -> Option<OcfRow>
+    /// The check of a parameter.
+    pub fn check(&self, name: &Name) -> Option<OcfRow>
         ensures { result ≡ check_of self.now name.now }
     {
         self.checks.find(name).copied()
@@ -128,8 +128,8 @@ impl ParamSources {
         Ok(curves)
     }
 
-    // The curves of a parameter that has these selections.
-    fn curves(
+    /// The curves of a parameter that has these selections. An error is want of memory.
+    pub fn curves(
         &self,
         alloc: Global,
         row: &PcfRow,
