@@ -35,7 +35,7 @@ decimal_more n some fits =
     let c : n / 10 / 10 % 10 ≡ n % 10000 / 100 % 10 = omega arith in
     let d : n / 10 % 10 ≡ n % 10000 / 10 % 10 = omega arith in
     let e : n % 10 ≡ n % 10000 % 10 = omega arith in
-    rw (decimal_step n (omega arith) fits, decimal_step (n / 10) (omega arith) (omega arith), decimal_step (n / 10 / 10) (omega arith) (omega arith), decimal_step (n / 10 / 10 / 10) (omega arith) (omega arith), append_assoc, append_assoc, append_assoc, a, b, c, d, e) refl
+    rw (decimal_step n (omega arith) fits, decimal_step (n / 10) (omega arith) (omega arith), decimal_step (n / 10 / 10) (omega arith) (omega arith), decimal_step (n / 10 / 10 / 10) (omega arith) (omega arith)) (simp append_assoc (rw (a, b, c, d, e) refl))
 
 -- none
 pub no_texts : number_texts_below 0 ≡ []

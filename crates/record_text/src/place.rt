@@ -1,7 +1,7 @@
 // Octets that are put at a place.
 ghost use Rattle.std.specs.Prelude.{◌≡◌, ◌≤◌, ◌+◌, ◌++◌, length, take};
 
-/// Puts a known count of octets at a place. They become one store, since none of them is looked at twice.
+/// Puts a known count of octets at a place, which the compiler makes one or two stores of.
 #[inline(always)]
 pub(crate) fn put<const N: usize>(octets: &mut [u8], at: usize, word: &[u8; N])
     requires { at + N ≤ length octets.old }
@@ -13,7 +13,7 @@ pub(crate) fn put<const N: usize>(octets: &mut [u8], at: usize, word: &[u8; N])
     }
 }
 
-// Puts the first octets of a text at a place.
+// Puts the first octets of a text at a place. They are copied first: the compiler can't see that the text lies elsewhere.
 #[inline(always)]
 fn put_first<const N: usize>(octets: &mut [u8], at: usize, text: &[u8])
     requires fits { at + N ≤ length octets.old }

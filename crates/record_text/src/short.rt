@@ -1,7 +1,8 @@
 // The text of a small number.
 ghost use Rattle.std.specs.Prelude.{◌≤◌};
 
-/// A number's text: so many of these digits, and the same number in four digits.
+/// The text of a small number: the first `count` of `digits`, with other octets behind, and in four digits with zeros in
+/// front.
 #[derive(Clone, Copy)]
 pub(crate) struct Short {
     pub digits: [u8; 4],
