@@ -7,6 +7,7 @@ ghost use Rattle.mib_model.specs.Plans.{plans};
 ghost use Rattle.mib_model.specs.Soundness.{IsSound};
 ghost use Rattle.mib_model.specs.Touched.{touched};
 
+use crate::compiled::Compiled;
 use crate::fault::SaveFault;
 use crate::ident::{ident_beside, ident_of};
 use crate::sets::{Made, PlanSets};
@@ -21,6 +22,7 @@ use mib_tables::Book;
 use param_plan::Params;
 use std::alloc::{AllocError, Global};
 use std::marker::Model;
+use std::snapshot::Snapshot;
 use std::sync::Arc;
 use std::sync::ledger::Ledger;
 use struct_plan::{Structure, Structures};
@@ -152,6 +154,24 @@ impl Edition {
         ensures sound { IsSound result.now }
     {
         &self.book
+    }
+
+    /// Its plans alone: the tables are let go.
+    pub fn into_plans(self) -> Compiled
+        ensures { result ≡ self }
+    {
+        let Edition {
+            book,
+            ident,
+            sets,
+            titles,
+        } = self;
+        Compiled {
+            ident,
+            sets,
+            titles,
+            book: Snapshot::of(&book),
+        }
     }
 }
 

@@ -7,12 +7,14 @@
 //! plans.
 #![tactic(auto)]
 
+mod compiled;
 mod edition;
 mod fault;
 mod ident;
 mod sets;
 mod ways;
 
+pub use compiled::Compiled;
 pub use edition::{Amended, Edition};
 pub use edition_plans::{Ident, Layout, Param, Params, Plans, Structure, Structures};
 pub use fault::SaveFault;

@@ -1,9 +1,10 @@
--- An edition may be read by several threads, and may go to another.
+-- An edition may be read by several threads, and may go to another; its plans alone may be read by several.
 use denote.Param.Send.{IsSend, IsSync, sendable}
 use denote.RattleType.{RattleType}
 use Rattle.std.proofs.Crossing.{crosses}
 use Rattle.std.proofs.MapsCrossing.{crosses as map_crosses}
 use Rattle.decode_session.proofs.SharedPlans.{ident-send, ident-sync, params-send, params-sync}
+use Rattle.edition.specs.contracts.compiled.Compiled as Compiled
 use Rattle.edition.specs.contracts.edition.Edition as Edition
 use Rattle.edition.specs.contracts.sets.PlanSets as PlanSets
 use Rattle.layout_plan.specs.contracts.layout.Layout as Layout
@@ -133,3 +134,6 @@ edition-sync = search (ident-sync, ident-send, sets-sync, book-sync, map_crosses
 
 pub edition-send : IsSend Edition.the_row
 edition-send = search (ident-sync, ident-send, sets-send, book-send, map_crosses, crosses, sendable) depth 60 fits 20000
+
+pub compiled-sync : IsSync Compiled.the_row
+compiled-sync = search (ident-sync, ident-send, sets-sync, map_crosses, crosses, sendable) depth 60 fits 20000
