@@ -70,7 +70,8 @@ fn add_real(shape: Shape, packet: &[u8], at: u64, out: &mut Page)
     requires sort { shape.sort ≡ Sort.Real }
     requires inside { at + shape.width ≤ 8 * length packet.now }
     requires room { length out.old.octets + 21 ≤ out.old.limit }
-    ensures text { out.new.octets ≡ out.old.octets ++ codes "REAL:" ++ Spec.hex_text (shape.width / 4) (Bits.field_number shape.order packet.now at shape.width) }
+    ensures text { out.new.octets ≡ out.old.octets ++ codes "REAL:"
+        ++ Spec.hex_text (shape.width / 4) (Bits.field_number shape.order packet.now at shape.width) }
     ensures room { length out.new.octets ≤ length out.old.octets + 21 }
     ensures limit { out.new.limit ≡ out.old.limit }
 {
@@ -132,7 +133,8 @@ fn add_octet_time(packet: &[u8], at: u64, coarse: u8, fine: u8, out: &mut Page)
     requires fine { fine ≤ 8 }
     requires inside { at + 8 * coarse + 8 * fine ≤ 8 * length packet.now }
     requires room { length out.old.octets + 86 ≤ out.old.limit }
-    ensures text { out.new.octets ≡ out.old.octets ++ codes "TIME:" ++ decimal (Bits.bits packet.now at (8 * coarse)) ++ Spec.fine_text packet.now (at + 8 * coarse) fine }
+    ensures text { out.new.octets ≡ out.old.octets ++ codes "TIME:"
+        ++ decimal (Bits.bits packet.now at (8 * coarse)) ++ Spec.fine_text packet.now (at + 8 * coarse) fine }
     ensures room { length out.new.octets ≤ length out.old.octets + 86 }
     ensures limit { out.new.limit ≡ out.old.limit }
 {
