@@ -27,12 +27,12 @@ pub(crate) fn decode<T: Shelf, F: Shelf, O: Sink, X: Threads + Sync>(
         (shelf feed.old feed.new F.holds F.left F.faults F.missed)
         (sink out.old out.new O.written O.handed O.faults) }
 {
-    let edition = match folder_edition(alloc, folder, tables) {
-        Ok(edition) => edition,
+    let plans = match folder_edition(alloc, folder, tables) {
+        Ok(edition) => edition.into_plans(),
         Err(refusal) => return Code::from(refusal),
     };
     match feed.aim(name) {
-        Ok(true) => run_code(decode_run(rt, alloc, &edition, feed, out, workers.max(1))),
+        Ok(true) => run_code(decode_run(rt, alloc, &plans, feed, out, workers.max(1))),
         Ok(false) => Code::NoFile(Input::Feed),
         Err(_) => Code::FeedFault,
     }

@@ -55,8 +55,8 @@ fn drill_counts<P: Plans + Sync, X: Threads + Sync>(
 fn drill_text<X: Threads + Sync>(rt: &X, alloc: Global, seed: u64) -> Result<Vec<u8>, AllocError>
     ensures { IfOk result (λ text. text.items ≡ drill_summary seed) }
 {
-    let edition = drill_edition(alloc)?;
-    drill_counts(rt, alloc, &edition, seed)?.summary(alloc)
+    let plans = drill_edition(alloc)?.into_plans();
+    drill_counts(rt, alloc, &plans, seed)?.summary(alloc)
 }
 
 /// Prints the summary of the generated run of a seed.

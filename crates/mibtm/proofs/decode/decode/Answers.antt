@@ -3,7 +3,7 @@ use Rattle.mibtm.specs.Objects.{shelf, sink}
 use Rattle.decode_session.specs.Run.{Ran, EndsBy}
 use Rattle.mibtm.proofs.DecodeSteps.{fed}
 use Rattle.mibtm.proofs.StatementSteps.{missing_decoded, ran_decoded, refused_decoded}
-use Rattle.live_intake.proofs.SharedEdition.{edition-sync}
+use Rattle.live_intake.proofs.SharedEdition.{compiled-sync}
 use denote.Param.Send.{sendable}
 use Rattle.mibtm.proofs.decode.decode.Goals as goal
 
@@ -22,7 +22,7 @@ returns-in-Ok-true g c =
     (sink c.args.out.now c.decode_run.new.out g.O.Sink.written g.O.Sink.handed g.O.Sink.faults)
     c.in-Ok.edition c.in-Ok.ensures.ok c.in-Ok.ensures.told c.decode_run.result
     (fed (λ start. Ran says c.in-Ok.edition start left old new) (g.F.Source.holds c.args.feed.now) c.args.name.now c.in-Ok-true.field-0 (g.F.Source.left c.aim.new.self)
-    c.in-Ok-true.field-0-test c.in-Ok-true.ensures.held c.in-Ok-true.ensures.left (rw same at c.decode_run.ensures.ran))
+    c.in-Ok-true.field-0-test c.in-Ok-true.ensures.held c.in-Ok-true.ensures.left (rw (c.into_plans-plans.ensures, same) at c.decode_run.ensures.ran))
     (rw same at c.decode_run.ensures.feed) c.decode_run.ensures.out c.decode_run.ensures.handed (λ wanting. (c.decode_run.ensures.untouched wanting).1))
 
 pub returns-in-Err : goal.returns-in-Err
@@ -35,7 +35,7 @@ returns-in-Err g c =
     c.in-Err.ensures.cause c.in-Err.ensures.refused refl refl)
 
 pub decode_run-requires-sync-P : goal.decode_run-requires-sync-P
-decode_run-requires-sync-P g c κs within = search (edition-sync, sendable) depth 9
+decode_run-requires-sync-P g c κs within = search (compiled-sync, sendable) depth 9
 
 pub returns-in-Ok-false : goal.returns-in-Ok-false
 returns-in-Ok-false g c =

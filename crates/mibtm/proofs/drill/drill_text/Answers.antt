@@ -1,6 +1,6 @@
-use Rattle.live_intake.proofs.SharedEdition.{edition-sync}
+use Rattle.live_intake.proofs.SharedEdition.{compiled-sync}
 use denote.Param.Send.{sendable}
 use Rattle.mibtm.proofs.drill.drill_text.Goals as goal
 
 pub drill_counts-requires-sync-P : goal.drill_counts-requires-sync-P
-drill_counts-requires-sync-P g c κs within = search (edition-sync, sendable) depth 9
+drill_counts-requires-sync-P g c κs within = search (compiled-sync, sendable) depth 9
