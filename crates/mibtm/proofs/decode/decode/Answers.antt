@@ -22,7 +22,7 @@ returns-in-Ok-true g c =
     (sink c.args.out.now c.decode_run.new.out g.O.Sink.written g.O.Sink.handed g.O.Sink.faults)
     c.in-Ok.edition c.in-Ok.ensures.ok c.in-Ok.ensures.told c.decode_run.result
     (fed (λ start. Ran says c.in-Ok.edition start left old new) (g.F.Source.holds c.args.feed.now) c.args.name.now c.in-Ok-true.field-0 (g.F.Source.left c.aim.new.self)
-    c.in-Ok-true.field-0-test c.in-Ok-true.ensures.held c.in-Ok-true.ensures.left (rw (c.into_plans.ensures, same) at c.decode_run.ensures.ran))
+    c.in-Ok-true.field-0-test c.in-Ok-true.ensures.held c.in-Ok-true.ensures.left (rw (c.into_plans-plans.ensures, same) at c.decode_run.ensures.ran))
     (rw same at c.decode_run.ensures.feed) c.decode_run.ensures.out c.decode_run.ensures.handed (λ wanting. (c.decode_run.ensures.untouched wanting).1))
 
 pub returns-in-Err : goal.returns-in-Err
