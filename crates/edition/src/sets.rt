@@ -10,7 +10,7 @@ use layout_set::LayoutSet;
 use mib_model::Steps;
 use mib_tables::Book;
 use param_plan::Params;
-use param_set::params_of;
+use param_set::params_beside;
 use std::alloc::{AllocError, Global};
 use std::marker::Model;
 use std::sync::ledger::Ledger;
@@ -81,7 +81,7 @@ impl PlanSets {
         ensures few { IfOk result (λ made. made.compiled ≤ 3 * HELD_MOST) }
         ensures steps { OnOk result (steps.new ≡ steps.old + count_sets base.now book.now) }
     {
-        let params = params_of(alloc, &base.params, book, steps)?;
+        let params = params_beside(alloc, &base.params, old, book, steps)?;
         let layouts = LayoutSet::new(alloc, &base.layouts, old, book, steps)?;
         let structures = StructureSet::new(alloc, &base.structures, old, book, steps)?;
         let compiled = params.compiled + layouts.compiled + structures.compiled;
