@@ -15,6 +15,3 @@ mod ways;
 
 pub use layout_plan::Layout;
 pub use set::{LayoutSet, Made};
-
-#[cfg(test)]
-mod tests;

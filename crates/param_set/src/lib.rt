@@ -23,6 +23,3 @@ pub use laws::{
     param_slices_have_the_planned_names,
 };
 pub use set::{Made, params_of};
-
-#[cfg(test)]
-mod tests;

@@ -16,6 +16,3 @@ mod ways;
 
 pub use set::{Made, StructureSet};
 pub use struct_plan::{Structure, TypeItem};
-
-#[cfg(test)]
-mod tests;

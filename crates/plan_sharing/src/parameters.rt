@@ -1,38 +1,18 @@
+// A plan of a parameter is shared where its rows are the same.
 ghost use Rattle.std.specs.Prelude.{◌≡◌};
 
-use crate::params_of;
+use crate::books::{book_of, name, parameter};
 use mib_keys::sound;
-use mib_model::{Name, PcfRow, Row, Steps};
+use mib_model::Steps;
 use mib_tables::Book;
 use param_plan::{Param, Params};
+use param_set::params_of;
 use std::alloc::{AllocError, Global};
 use std::marker::Brand;
 use std::process::Abort;
 use std::sync::Arc;
 use std::sync::ledger::{Blank, Ledger};
 use std::test::Fail;
-
-fn name(rt: &impl Abort, text: &[u8]) -> Name {
-    Name::new(text).expect(rt, "a name")
-}
-
-// A measured parameter of 8 bits with a width of its own.
-fn pcf(name: Name, width: u32) -> Row {
-    Row::Pcf(PcfRow {
-        name,
-        pid: None,
-        ptc: 3,
-        pfc: 4,
-        width,
-        valid: None,
-        categ: b'N',
-        natur: b'R',
-        curtx: None,
-        decim: 0,
-        valpar: 1,
-        endian: b'B',
-    })
-}
 
 // The plans of a book, which is sound.
 fn planned<L: Ledger>(
@@ -54,11 +34,9 @@ fn expect_shares<R: Abort>(rt: &R, plans: &[Arc<Param>]) {
     assert_eq!(rt; Arc::strong_count(&plans[1]), 1);
 }
 
-fn book_of(rt: &impl Abort, alloc: Global) -> Result<Book, AllocError> {
-    let mut book = Book::empty(alloc);
-    book.put(pcf(name(rt, b"C"), 0))?;
-    book.put(pcf(name(rt, b"A"), 0))?;
-    Ok(book)
+fn book<R: Abort>(rt: &R, alloc: Global) -> Result<Book, AllocError> {
+    let (c, a) = (name(rt, b"C"), name(rt, b"A"));
+    book_of(alloc, &[parameter(c, None, 4, 0), parameter(a, None, 4, 0)])
 }
 
 // Gives `C` another width, and makes the plans of what results.
@@ -69,7 +47,7 @@ fn edited<L: Ledger, R: Abort>(
     book: &mut Book,
     steps: &mut Steps<L>,
 ) -> Result<(), AllocError> {
-    book.put(pcf(name(rt, b"C"), 16))?;
+    book.put(parameter(name(rt, b"C"), None, 4, 16))?;
     let second = planned(alloc, first, book, steps)?;
     expect_shares(rt, first.plans());
     assert_eq!(rt; second.plans().len(), 2);
@@ -93,7 +71,7 @@ fn edits<L: Ledger, R: Abort>(rt: &R, alloc: Global, blank: Blank) -> Result<(),
     requires parts { blank.parts ≡ L.parts }
     requires one { blank.parts ≡ 1 }
 {
-    let mut book = book_of(rt, alloc)?;
+    let mut book = book(rt, alloc)?;
     let mut steps = Steps::<L>::new(blank);
     shares(rt, alloc, &mut book, &mut steps)
 }

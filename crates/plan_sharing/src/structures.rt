@@ -1,65 +1,24 @@
+// A structure is shared where its rows and types are the same.
 ghost use Rattle.std.specs.Prelude.{◌≡◌, IfOk};
 
-use super::*;
-use mib_model::{Name, PcfRow, Row, Steps, VpdRow};
+use crate::books::{book_of, name, parameter, structure_row};
+use mib_model::Steps;
 use mib_tables::Book;
 use std::alloc::{AllocError, Global};
 use std::marker::Brand;
 use std::process::Abort;
 use std::sync::ledger::{Blank, Ledger};
 use std::test::Fail;
-
-fn name<R: Abort>(rt: &R, octets: &[u8]) -> Name {
-    Name::new(octets).expect(rt, "a name")
-}
-
-fn parameter(name: Name, pid: Option<u32>, pfc: u16) -> Row {
-    Row::Pcf(PcfRow {
-        name,
-        pid,
-        ptc: 3,
-        pfc,
-        width: 0,
-        valid: None,
-        categ: b'N',
-        natur: b'R',
-        curtx: None,
-        decim: 0,
-        valpar: 1,
-        endian: b'B',
-    })
-}
-
-fn row(tpsd: u32, pos: u16, name: Name) -> Row {
-    Row::Vpd(VpdRow {
-        tpsd,
-        pos,
-        name,
-        grpsize: 0,
-        fixrep: 0,
-        choice: b'N',
-        pidref: b'N',
-        offset: 0,
-    })
-}
-
-// A book of these rows.
-fn book_of(alloc: Global, rows: &[Row]) -> Result<Book, AllocError> {
-    let mut book = Book::empty(alloc);
-    for row in rows {
-        book.put(*row)?;
-    }
-    Ok(book)
-}
+use structure_set::StructureSet;
 
 // Structures 7 and 8 of two parameters, the second of this format.
 fn book<R: Abort>(rt: &R, alloc: Global, pfc: u16) -> Result<Book, AllocError> {
     let (a, b) = (name(rt, b"A"), name(rt, b"B"));
-    let parameters = [parameter(a, Some(5), 12), parameter(b, None, pfc)];
+    let parameters = [parameter(a, Some(5), 12, 0), parameter(b, None, pfc, 0)];
     let mut book = book_of(alloc, &parameters)?;
-    book.put(row(7, 2, a))?;
-    book.put(row(8, 1, a))?;
-    book.put(row(7, 1, b))?;
+    book.put(structure_row(7, 2, a))?;
+    book.put(structure_row(8, 1, a))?;
+    book.put(structure_row(7, 1, b))?;
     Ok(book)
 }
 

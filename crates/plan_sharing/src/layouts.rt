@@ -1,9 +1,11 @@
+// A layout is shared where its rows and types are the same.
 ghost use Rattle.std.specs.Prelude.{◌≡◌, IfOk};
 ghost use Rattle.mib_model.specs.Soundness.{IsSound};
 
-use super::*;
+use crate::books::{book_of, name, packet, parameter, place};
+use layout_set::LayoutSet;
 use mib_keys::sound;
-use mib_model::{Name, PcfRow, PidRow, PlfRow, Row, Steps};
+use mib_model::Steps;
 use mib_tables::Book;
 use std::alloc::{AllocError, Global};
 use std::marker::Brand;
@@ -11,66 +13,12 @@ use std::process::Abort;
 use std::sync::ledger::{Blank, Ledger};
 use std::test::Fail;
 
-fn name<R: Abort>(rt: &R, octets: &[u8]) -> Name {
-    Name::new(octets).expect(rt, "a name")
-}
-
-fn parameter(name: Name, pfc: u16) -> Row {
-    Row::Pcf(PcfRow {
-        name,
-        pid: None,
-        ptc: 3,
-        pfc,
-        width: 0,
-        valid: None,
-        categ: b'N',
-        natur: b'R',
-        curtx: None,
-        decim: 0,
-        valpar: 1,
-        endian: b'B',
-    })
-}
-
-fn packet(spid: u32, apid: u16) -> Row {
-    Row::Pid(PidRow {
-        service: 3,
-        subtype: 25,
-        apid,
-        pi1_val: 0,
-        pi2_val: 0,
-        spid,
-        tpsd: -1,
-        dfhsize: 10,
-    })
-}
-
-fn place(name: Name, spid: u32) -> Row {
-    Row::Plf(PlfRow {
-        name,
-        spid,
-        offby: 10,
-        offbi: 0,
-        nbocc: 1,
-        lgocc: 0,
-    })
-}
-
-// A book of these rows.
-fn book_of(alloc: Global, rows: &[Row]) -> Result<Book, AllocError> {
-    let mut book = Book::empty(alloc);
-    for row in rows {
-        book.put(*row)?;
-    }
-    Ok(book)
-}
-
 // Layouts 4001 and 4002 of two parameters, the second of this format.
 fn book<R: Abort>(rt: &R, alloc: Global, pfc: u16) -> Result<Book, AllocError> {
     let (a, b) = (name(rt, b"A"), name(rt, b"B"));
     let mut book = book_of(alloc, &[packet(4001, 100), packet(4002, 101)])?;
-    book.put(parameter(a, 12))?;
-    book.put(parameter(b, pfc))?;
+    book.put(parameter(a, None, 12, 0))?;
+    book.put(parameter(b, None, pfc, 0))?;
     book.put(place(a, 4001))?;
     book.put(place(b, 4002))?;
     Ok(book)
