@@ -1,49 +1,48 @@
 ghost use Rattle.std.specs.Prelude.{◌≡◌, ◌++◌, ◌∷◌, [], IfOk, OnOk, map};
+ghost use Rattle.std.specs.Option.{option_copied};
 ghost use Rattle.mib_model.specs.Parameters as Spec;
 ghost use Rattle.mib_model.specs.Plans.{type_item};
 ghost use Rattle.type_items.specs.Items as Items;
 
 use crate::named::Named;
-use first_rows::{By, FirstRows, Seen};
+use first_rows::{By, FirstRows};
 use mib_model::{Endian, Name, PcfRow, TypeItem};
 use std::alloc::{AllocError, Global};
-use std::marker::Model;
+use std::marker::{Model, PhantomData};
 
-// Type items by the names of their parameters.
+// Parameters, where they stand in a book, by their names.
 #[derive(Drop)]
-struct ByName;
+struct ByName<'a> {
+    parameters: PhantomData<&'a PcfRow>,
+}
 
-impl By for ByName {
+impl<'a> By for ByName<'a> {
     ghost use Rattle.std.specs.Prelude.{Some};
 
-    type Row = TypeItem;
+    type Row = &'a PcfRow;
 
     type Key = Name;
 
-    ghost key_of = { λ item. Some item.name };
+    ghost key_of = { λ row. Some row.now.name };
 
-    fn key(item: &TypeItem) -> Option<Name> {
-        Some(item.name)
+    fn key(row: &&'a PcfRow) -> Option<Name> {
+        Some(row.name)
     }
 }
 
 /// The type items of parameters, found by their names. Contracts see the rows of the parameters.
 #[derive(Drop)]
-pub struct TypeItems {
-    items: FirstRows<ByName>,
-    parameters: Seen<PcfRow>,
+pub struct TypeItems<'a> {
+    parameters: FirstRows<ByName<'a>>,
 }
 
-impl Model for TypeItems {
-    ghost use Rattle.std.specs.Prelude.{◌≡◌, List, map};
+impl<'a> Model for TypeItems<'a> {
+    ghost use Rattle.std.specs.Prelude.{List, map};
     ghost use Rattle.mib_model.specs.declared.rows.PcfRow.{PcfRow};
-    ghost use Rattle.mib_model.specs.Plans.{type_item};
 
     ghost Value = { List PcfRow };
 
-    ghost view = { λ all. all.parameters };
-
-    ghost invariant = { λ all. all.items ≡ map type_item all.parameters };
+    ghost view = { λ all. map (λ row. row.now) all.parameters };
 }
 
 // The octet order that a letter asks for.
@@ -67,30 +66,38 @@ pub fn item_of(row: &PcfRow) -> TypeItem
     }
 }
 
-// The type items of parameters.
-fn items_of(alloc: Global, parameters: &[PcfRow]) -> Result<Vec<TypeItem>, AllocError>
-    ensures { IfOk result (λ items. items.items ≡ map type_item parameters.now) }
+// Each of some parameters, where it stands.
+fn each(alloc: Global, parameters: &[PcfRow]) -> Result<Vec<&PcfRow>, AllocError>
+    ensures { IfOk result (λ each. map (λ row. row.now) each.items ≡ parameters.now) }
 {
-    parameters.iter().map(item_of).collect(alloc)
+    parameters.iter().collect(alloc)
 }
 
-impl TypeItems {
+impl<'a> TypeItems<'a> {
     /// Those of some parameters. An error is want of memory.
-    pub fn new(alloc: Global, parameters: &[PcfRow]) -> Result<TypeItems, AllocError>
+    pub fn new(alloc: Global, parameters: &'a [PcfRow]) -> Result<TypeItems<'a>, AllocError>
         ensures { IfOk result (λ items. items ≡ parameters.now) }
     {
-        let items = items_of(alloc, parameters)?;
         Ok(TypeItems {
-            items: FirstRows::new(alloc, &items)?,
-            parameters: Seen::of(alloc, parameters)?,
+            parameters: FirstRows::new(alloc, &each(alloc, parameters)?)?,
         })
+    }
+
+    // The first parameter of a name.
+    fn parameter(&self, name: &Name) -> Option<&PcfRow>
+        ensures { option_copied result ≡ Spec.parameter self.now name.now }
+    {
+        self.parameters.find(name).copied()
     }
 
     /// That of the first parameter of a name, in one probe.
     pub fn find(&self, name: &Name) -> Option<TypeItem>
         ensures { result ≡ Items.item_of self.now name.now }
     {
-        self.items.find(name).copied()
+        match self.parameter(name) {
+            Some(row) => Some(item_of(row)),
+            None => None,
+        }
     }
 
     // Puts that of the parameter of a name behind the others, if there is one.
