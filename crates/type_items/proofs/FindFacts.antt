@@ -1,5 +1,5 @@
 -- The type item of a name among the type items of parameters.
-use Rattle.std.proofs.Common.{◌≡◌, ℕ, Bool, true, false, List, [], ◌∷◌, map, Option, Some, None, refl, option_map, if◌then◌else◌}
+use Rattle.std.proofs.Common.{◌≡◌, ℕ, Bool, true, false, List, [], ◌∷◌, map, Option, Some, refl, if◌then◌else◌}
 use Rattle.std.specs.Prelude.{option_and_then}
 use Rattle.std.specs.List.{find}
 use Rattle.std.specs.Str.{bytes_eq}
@@ -18,14 +18,3 @@ one-more false row item rest is = is
 pub find-item : (name : List ℕ) (pcfs : List PcfRow) → find (λ (item : TypeItem). bytes_eq item.name name) (map type_item pcfs) ≡ item_of pcfs name
 find-item name [] = refl
 find-item name (row ∷ pcfs) = one-more (bytes_eq row.name name) row _ _ (find-item name pcfs)
-
--- one more, which passes or doesn't
-one-seen : {R S : Type 0} (f : R → S) (b : Bool) (row : R) (rest : Option R) (seen : Option S) → option_map f rest ≡ seen
-    → option_map f (if b then Some row else rest) ≡ (if b then Some (f row) else seen)
-one-seen f true row rest seen is = refl
-one-seen f false row rest seen is = is
-
--- the first that passes, seen as f gives it, is the first that passes of all seen so
-pub find-seen : {R S : Type 0} (f : R → S) (p : S → Bool) (rows : List R) → option_map f (find (λ r. p (f r)) rows) ≡ find p (map f rows)
-find-seen f p [] = refl
-find-seen f p (row ∷ rows) = one-seen f (p (f row)) row _ _ (find-seen f p rows)

@@ -1,48 +1,49 @@
 ghost use Rattle.std.specs.Prelude.{◌≡◌, ◌++◌, ◌∷◌, [], IfOk, OnOk, map};
-ghost use Rattle.std.specs.Option.{option_copied};
 ghost use Rattle.mib_model.specs.Parameters as Spec;
 ghost use Rattle.mib_model.specs.Plans.{type_item};
 ghost use Rattle.type_items.specs.Items as Items;
 
 use crate::named::Named;
-use first_rows::{By, FirstRows};
+use first_rows::{By, FirstRows, Seen};
 use mib_model::{Endian, Name, PcfRow, TypeItem};
 use std::alloc::{AllocError, Global};
-use std::marker::{Model, PhantomData};
+use std::marker::Model;
 
-// Parameters, where they stand in a book, by their names.
+// Type items by the names of their parameters.
 #[derive(Drop)]
-struct ByName<'a> {
-    parameters: PhantomData<&'a PcfRow>,
-}
+struct ByName;
 
-impl<'a> By for ByName<'a> {
+impl By for ByName {
     ghost use Rattle.std.specs.Prelude.{Some};
 
-    type Row = &'a PcfRow;
+    type Row = TypeItem;
 
     type Key = Name;
 
-    ghost key_of = { λ row. Some row.now.name };
+    ghost key_of = { λ item. Some item.name };
 
-    fn key(row: &&'a PcfRow) -> Option<Name> {
-        Some(row.name)
+    fn key(item: &TypeItem) -> Option<Name> {
+        Some(item.name)
     }
 }
 
 /// The type items of parameters, found by their names. Contracts see the rows of the parameters.
 #[derive(Drop)]
-pub struct TypeItems<'a> {
-    parameters: FirstRows<ByName<'a>>,
+pub struct TypeItems {
+    items: FirstRows<ByName>,
+    parameters: Seen<PcfRow>,
 }
 
-impl<'a> Model for TypeItems<'a> {
-    ghost use Rattle.std.specs.Prelude.{List, map};
+impl Model for TypeItems {
+    ghost use Rattle.std.specs.Prelude.{◌≡◌, List, map};
     ghost use Rattle.mib_model.specs.declared.rows.PcfRow.{PcfRow};
+    ghost use Rattle.mib_model.specs.Plans.{type_item};
 
     ghost Value = { List PcfRow };
 
-    ghost view = { λ all. map (λ row. row.now) all.parameters };
+    ghost view = { λ all. all.parameters };
+
+    ghost invariant = { λ all. all.items ≡ map type_item all.parameters };
 }
 
 // The octet order that a letter asks for.
@@ -66,38 +67,30 @@ pub fn item_of(row: &PcfRow) -> TypeItem
     }
 }
 
-// Each of some parameters, where it stands.
-fn each(alloc: Global, parameters: &[PcfRow]) -> Result<Vec<&PcfRow>, AllocError>
-    ensures { IfOk result (λ each. map (λ row. row.now) each.items ≡ parameters.now) }
+// The type items of parameters.
+fn items_of(alloc: Global, parameters: &[PcfRow]) -> Result<Vec<TypeItem>, AllocError>
+    ensures { IfOk result (λ items. items.items ≡ map type_item parameters.now) }
 {
-    parameters.iter().collect(alloc)
+    parameters.iter().map(item_of).collect(alloc)
 }
 
-impl<'a> TypeItems<'a> {
+impl TypeItems {
     /// Those of some parameters. An error is want of memory.
-    pub fn new(alloc: Global, parameters: &'a [PcfRow]) -> Result<TypeItems<'a>, AllocError>
+    pub fn new(alloc: Global, parameters: &[PcfRow]) -> Result<TypeItems, AllocError>
         ensures { IfOk result (λ items. items ≡ parameters.now) }
     {
+        let items = items_of(alloc, parameters)?;
         Ok(TypeItems {
-            parameters: FirstRows::new(alloc, &each(alloc, parameters)?)?,
+            items: FirstRows::new(alloc, &items)?,
+            parameters: Seen::of(alloc, parameters)?,
         })
-    }
-
-    // The first parameter of a name.
-    fn parameter(&self, name: &Name) -> Option<&PcfRow>
-        ensures { option_copied result ≡ Spec.parameter self.now name.now }
-    {
-        self.parameters.find(name).copied()
     }
 
     /// That of the first parameter of a name, in one probe.
     pub fn find(&self, name: &Name) -> Option<TypeItem>
         ensures { result ≡ Items.item_of self.now name.now }
     {
-        match self.parameter(name) {
-            Some(row) => Some(item_of(row)),
-            None => None,
-        }
+        self.items.find(name).copied()
     }
 
     // Puts that of the parameter of a name behind the others, if there is one.
