@@ -47,3 +47,16 @@ pub spelled-more : (spell : ℕ → List ℕ) (before : List ℕ) (packet : List
     → (before ++ flat_map spell (octets_at packet at k)) ++ spell octet ≡ before ++ flat_map spell (octets_at packet at (k + 1))
 spelled-more spell before packet at k octet is =
     rw (is, octets-more packet at k) (flat_map_more spell before (octets_at packet at k) (bits packet (at + 8 * k) 8))
+
+-- the last eight digits of a number
+pub hex-eight : (n : ℕ)
+    → hex_digit (n / 268435456 % 16) ∷ hex_digit (n / 16777216 % 16) ∷ hex_digit (n / 1048576 % 16) ∷ hex_digit (n / 65536 % 16)
+    ∷ hex_digit (n / 4096 % 16) ∷ hex_digit (n / 256 % 16) ∷ hex_digit (n / 16 % 16) ∷ hex_digit (n % 16) ∷ [] ≡ hex_text 8 n
+hex-eight n =
+    let second : n / 256 ≡ n / 16 / 16 = omega arith in
+    let third : n / 4096 ≡ n / 16 / 16 / 16 = omega arith in
+    let fourth : n / 65536 ≡ n / 16 / 16 / 16 / 16 = omega arith in
+    let fifth : n / 1048576 ≡ n / 16 / 16 / 16 / 16 / 16 = omega arith in
+    let sixth : n / 16777216 ≡ n / 16 / 16 / 16 / 16 / 16 / 16 = omega arith in
+    let seventh : n / 268435456 ≡ n / 16 / 16 / 16 / 16 / 16 / 16 / 16 = omega arith in
+    rw (second, third, fourth, fifth, sixth, seventh) refl

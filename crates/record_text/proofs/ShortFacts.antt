@@ -37,6 +37,13 @@ decimal_more n some fits =
     let e : n % 10 ≡ n % 10000 % 10 = omega arith in
     rw (decimal_step n (omega arith) fits, decimal_step (n / 10) (omega arith) (omega arith), decimal_step (n / 10 / 10) (omega arith) (omega arith), decimal_step (n / 10 / 10 / 10) (omega arith) (omega arith)) (simp append_assoc (rw (a, b, c, d, e) refl))
 
+-- the last eight digits of a number of more
+pub decimal_eight : (n : ℕ) → 100000000 ≤ n → n < 2 ^ 64
+    → decimal n ≡ decimal (n / 100000000) ++ (four_digits (n / 10000 % 10000) ++ four_digits (n % 10000))
+decimal_eight n some fits =
+    let first : n / 10000 / 10000 ≡ n / 100000000 = omega arith in
+    rw (decimal_more n (omega arith) fits, decimal_more (n / 10000) (omega arith) (omega arith), first) (simp append_assoc refl)
+
 -- none
 pub no_texts : number_texts_below 0 ≡ []
 unfolding number_texts_below

@@ -24,8 +24,25 @@ fn add_hex_octet(octet: u8, out: &mut Page)
     out.add_word(&[hex_digit(octet / 16), hex_digit(octet % 16)]);
 }
 
-/// Appends a number in so many digits.
-pub(crate) fn add_hex_number(number: u64, digits: u8, out: &mut Page)
+// The last eight digits of a number.
+#[inline(always)]
+fn eight_digits(number: u64) -> [u8; 8]
+    ensures { result ≡ Spec.hex_text 8 number }
+{
+    [
+        hex_digit((number / 0x1000_0000 % 16) as u8),
+        hex_digit((number / 0x100_0000 % 16) as u8),
+        hex_digit((number / 0x10_0000 % 16) as u8),
+        hex_digit((number / 0x1_0000 % 16) as u8),
+        hex_digit((number / 0x1000 % 16) as u8),
+        hex_digit((number / 0x100 % 16) as u8),
+        hex_digit((number / 0x10 % 16) as u8),
+        hex_digit((number % 16) as u8),
+    ]
+}
+
+// Appends a number in so many digits, one after another.
+fn add_digits(number: u64, digits: u8, out: &mut Page)
     requires digits { digits ≤ 16 }
     requires room { length out.old.octets + 16 ≤ out.old.limit }
     ensures text { out.new.octets ≡ out.old.octets ++ Spec.hex_text digits number }
@@ -35,6 +52,24 @@ pub(crate) fn add_hex_number(number: u64, digits: u8, out: &mut Page)
     for i in 0..digits {
         let behind = digits - 1 - i;
         out.push(hex_digit(((number >> (4 * behind)) % 16) as u8));
+    }
+}
+
+/// Appends a number in so many digits.
+pub(crate) fn add_hex_number(number: u64, digits: u8, out: &mut Page)
+    requires digits { digits ≤ 16 }
+    requires room { length out.old.octets + 16 ≤ out.old.limit }
+    ensures text { out.new.octets ≡ out.old.octets ++ Spec.hex_text digits number }
+    ensures room { length out.new.octets ≤ length out.old.octets + digits }
+    ensures limit { out.new.limit ≡ out.old.limit }
+{
+    match digits {
+        8 => out.add_word(&eight_digits(number)),
+        16 => {
+            out.add_word(&eight_digits(number / 0x1_0000_0000));
+            out.add_word(&eight_digits(number));
+        }
+        _ => add_digits(number, digits, out),
     }
 }
 
@@ -52,8 +87,12 @@ fn add_escaped(octet: u8, out: &mut Page)
     ensures room { length out.new.octets ≡ length out.old.octets + 4 }
     ensures limit { out.new.limit ≡ out.old.limit }
 {
-    out.add_word(b"\\x");
-    add_hex_octet(octet, out);
+    out.add_word(&[
+        b'\\',
+        b'x',
+        hex_digit(octet / 16),
+        hex_digit(octet % 16),
+    ]);
 }
 
 /// How an octet is written.

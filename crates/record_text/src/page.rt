@@ -1,8 +1,9 @@
 // Where the octets of lines are written.
-ghost use Rattle.std.specs.Prelude.{◌≡◌, ◌≤◌, ◌<◌, ◌+◌, ◌++◌, [], ◌∷◌, length, decimal, IfOk};
+ghost use Rattle.std.specs.Prelude.{◌≡◌, ◌≤◌, ◌<◌, ◌+◌, ◌/◌, ◌%◌, ◌++◌, [], ◌∷◌, length, decimal, IfOk};
 ghost use Rattle.mib_model.specs.Counts.{count_text};
-ghost use Rattle.record_text.specs.ShortTexts.{digits_of};
+ghost use Rattle.record_text.specs.ShortTexts.{digits_of, four_digits};
 ghost use Rattle.record_text.specs.declared.lines.TheConstants.{LINES_ROOM, LINE_MOST};
+ghost use Rattle.record_text.specs.declared.page.TheConstants.{EIGHT_BOUND, TWELVE_BOUND};
 ghost use Rattle.record_text.specs.declared.short_texts.TheConstants.{SHORT_BOUND};
 
 use crate::lines::{LINE_MOST, LINES_ROOM};
@@ -17,6 +18,12 @@ use std::marker::Model;
 
 /// The octets that are made ready at once, more than any line has.
 const READY: usize = 16_384;
+
+// The numbers below this one have eight digits at most.
+const EIGHT_BOUND: u64 = SHORT_BOUND * SHORT_BOUND;
+
+// The numbers below this one have twelve digits at most.
+const TWELVE_BOUND: u64 = EIGHT_BOUND * SHORT_BOUND;
 
 /// The octets so far of lines that are being written. Others stand ready behind them, so that an octet is appended by
 /// storing it. Contracts see the octets, and how many there may be before more are made ready.
@@ -161,9 +168,73 @@ impl Page {
         self.used = end;
     }
 
-    // Appends the digits of a number that has no short text: those in front of the last four and the last four, or as
-    // itoa has them.
+    // Appends the last eight digits of a number, with zeros in front.
+    #[inline(always)]
+    fn add_last(&mut self, n: u64)
+        requires { length self.old.octets + 8 ≤ self.old.limit }
+        ensures text { self.new.octets ≡ self.old.octets ++ four_digits (n / 10000 % 10000) ++ four_digits (n % 10000) }
+        ensures room { length self.new.octets ≡ length self.old.octets + 8 }
+        ensures limit { self.new.limit ≡ self.old.limit }
+    {
+        let high = self.shorts.at(n / SHORT_BOUND % SHORT_BOUND);
+        let low = self.shorts.at(n % SHORT_BOUND);
+        self.add_word(&high.four);
+        self.add_word(&low.four);
+    }
+
+    // Appends the digits of a number of at most eight.
+    #[inline(always)]
+    fn add_eight(&mut self, n: u64)
+        requires room { length self.old.octets + 8 ≤ self.old.limit }
+        requires few { n < EIGHT_BOUND }
+        ensures text { self.new.octets ≡ self.old.octets ++ decimal n }
+        ensures room { length self.new.octets ≤ length self.old.octets + 8 }
+        ensures limit { self.new.limit ≡ self.old.limit }
+    {
+        if n < SHORT_BOUND {
+            let short = self.shorts.at(n);
+            self.add_short(short);
+            return;
+        }
+        let high = self.shorts.at(n / SHORT_BOUND);
+        let low = self.shorts.at(n % SHORT_BOUND);
+        self.add_short(high);
+        self.add_word(&low.four);
+    }
+
+    // Appends the digits of a number of at most twelve.
+    #[inline(always)]
+    fn add_twelve(&mut self, n: u64)
+        requires room { length self.old.octets + 12 ≤ self.old.limit }
+        requires few { n < TWELVE_BOUND }
+        ensures text { self.new.octets ≡ self.old.octets ++ decimal n }
+        ensures room { length self.new.octets ≤ length self.old.octets + 12 }
+        ensures limit { self.new.limit ≡ self.old.limit }
+    {
+        if n < EIGHT_BOUND {
+            self.add_eight(n);
+            return;
+        }
+        let first = self.shorts.at(n / EIGHT_BOUND);
+        self.add_short(first);
+        self.add_last(n);
+    }
+
+    // Appends the digits of a number of more than eight.
     #[inline(never)]
+    fn add_longer(&mut self, n: u64)
+        requires room { length self.old.octets + 40 ≤ self.old.limit }
+        requires long { EIGHT_BOUND ≤ n }
+        ensures text { self.new.octets ≡ self.old.octets ++ decimal n }
+        ensures room { length self.new.octets ≤ length self.old.octets + 40 }
+        ensures limit { self.new.limit ≡ self.old.limit }
+    {
+        self.add_twelve(n / EIGHT_BOUND);
+        self.add_last(n);
+    }
+
+    // Appends the digits of a number that has no short text, by fours.
+    #[inline]
     fn add_long(&mut self, n: u64)
         requires room { length self.old.octets + 40 ≤ self.old.limit }
         requires long { SHORT_BOUND ≤ n }
@@ -171,13 +242,10 @@ impl Page {
         ensures room { length self.new.octets ≤ length self.old.octets + 40 }
         ensures limit { self.new.limit ≡ self.old.limit }
     {
-        if n < SHORT_BOUND * SHORT_BOUND {
-            let high = self.shorts.at(n / SHORT_BOUND);
-            let low = self.shorts.at(n % SHORT_BOUND);
-            self.add_short(high);
-            self.add_word(&low.four);
+        if n < EIGHT_BOUND {
+            self.add_eight(n);
         } else {
-            self.add_digits(n);
+            self.add_longer(n);
         }
     }
 

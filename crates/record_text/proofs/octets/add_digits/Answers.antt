@@ -1,6 +1,6 @@
 use Rattle.std.proofs.Common.{◌++◌, List, ℕ, sym, ap, ◌∙◌, append_assoc, arith}
 use Rattle.record_text.proofs.OctetFacts.{hex-more}
-use Rattle.record_text.proofs.octets.add_hex_number.Goals as goal
+use Rattle.record_text.proofs.octets.add_digits.Goals as goal
 
 pub loop-i-preserved : goal.loop-i-preserved
 loop-i-preserved c = record {

@@ -1,6 +1,6 @@
 use Rattle.std.proofs.Common.{◌≡◌, ◌+◌, ◌-◌, ◌*◌, ◌/◌, ◌^◌, ◌++◌, length}
 use Rattle.mib_model.specs.RawTexts.{hex_text}
-use Rattle.record_text.proofs.octets.add_hex_number.Given as goal
+use Rattle.record_text.proofs.octets.add_digits.Given as goal
 
 abbrev pub invariant-loop-i : goal.invariant-loop-i
 invariant-loop-i l = record {
