@@ -15,27 +15,27 @@ use std::alloc::{AllocError, Global};
 use std::marker::Model;
 use std::sync::ledger::Ledger;
 
-/// The rows of a parameter, compiled. What is asked of it for each value lies together behind the rows. Contracts see the
-/// rows.
+/// The rows of a parameter, compiled. What is asked of it for each value lies together, and the rows lie apart. Contracts
+/// see the rows.
 pub struct Param {
-    rows: ParamRows,
     conditional: bool,
     decim: u8,
     only: Choice,
-    checks: Option<Checks>,
     selections: Vec<Selection>,
+    checks: Option<Checks>,
+    rows: Box<ParamRows>,
 }
 
 /// By hand, so that whoever lets one go proves one call.
 impl Drop for Param {
     fn drop(self) {
         let Param {
-            rows: _rows,
             conditional: _,
             decim: _,
             only: _only,
-            checks: _checks,
             selections: _selections,
+            checks: _checks,
+            rows: _rows,
         } = self;
     }
 }
@@ -46,9 +46,9 @@ impl Model for Param {
 
     ghost Value = { ParamSlice };
 
-    ghost view = { λ param. slice_of param.rows };
+    ghost view = { λ param. slice_of param.rows.value };
 
-    ghost invariant = { λ param. ArePartsOf (slice_of param.rows) param.conditional param.decim param.only param.selections.items param.checks };
+    ghost invariant = { λ param. ArePartsOf (slice_of param.rows.value) param.conditional param.decim param.only param.selections.items param.checks };
 }
 
 // The checks of a parameter that has a row of ocf.
@@ -75,9 +75,9 @@ impl Param {
             conditional: pcf.valid.is_some(),
             decim: pcf.decim,
             only: only_of(pcf.curtx, &rows.curves)?,
-            checks: checks_of(alloc, &rows.ocf, &rows.ocps)?,
             selections: selections_of(alloc, pcf.curtx, &rows.curs, &rows.curves)?,
-            rows,
+            checks: checks_of(alloc, &rows.ocf, &rows.ocps)?,
+            rows: Box::new(alloc, rows)?,
         })
     }
 
