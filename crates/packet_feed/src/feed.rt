@@ -1,4 +1,4 @@
-ghost use Rattle.std.specs.Prelude.{◌≡◌, ◌≤◌, ◌<◌, ◌+◌, ℕ, List, length, take, IfOk, IfSome, IsTrue, OnErr};
+ghost use Rattle.std.specs.Prelude.{◌≡◌, ◌≤◌, ◌<◌, ◌+◌, ℕ, List, Option, length, take, IfOk, IfSome, IsTrue, OnErr};
 ghost use Rattle.std.specs.Io.KnownBytes.{Consumes, IsAtEnd};
 ghost use Rattle.tm_io.specs.Causes.{HasCause};
 ghost use Rattle.mib_model.specs.Headers.{header_of};
@@ -71,6 +71,58 @@ impl<S> Feed<S> {
 }
 
 impl<S: Source> Feed<S> {
+    // So many octets as can be read at once: the next packet where it is known to be there whole, and else a header.
+    fn first_part(&self) -> usize
+        ensures some { HEADER_SIZE ≤ result }
+        ensures fits { result ≤ PACKET_SIZE }
+        ensures within { IfSome (S.left (source_of self.now)) (λ octets. result ≤ 7 + (header_of octets).length) }
+    {
+        let octets = self.source.at_hand();
+        if octets.len() < HEADER_SIZE {
+            return HEADER_SIZE;
+        }
+        let size = packet_size(header_at(octets).length);
+        if octets.len() < size {
+            HEADER_SIZE
+        } else {
+            size
+        }
+    }
+
+    // What comes next, where so many octets of it were read already, a header at least.
+    fn rest(&mut self, front: usize, into: &mut [u8]) -> Next
+        requires some { HEADER_SIZE ≤ front }
+        requires length { length into.old ≡ PACKET_SIZE }
+        requires front { front ≤ PACKET_SIZE }
+        ensures gives { (left : Option (List ℕ)) → IfSome left (λ octets. front ≤ 7 + (header_of octets).length)
+            → Consumes left (S.left (source_of self.old)) (take front into.old) → Gives result left (S.left (source_of self.new)) into.new }
+        ensures cause { HasNextCause result (S.faults (source_of self.old)) (S.faults (source_of self.new)) }
+        ensures holds { S.holds (source_of self.new) ≡ S.holds (source_of self.old) }
+        ensures missed { S.missed (source_of self.new) ≡ S.missed (source_of self.old) }
+        ensures borrow { S.borrow (source_of self.new) ≡ S.borrow (source_of self.old) }
+    {
+        let header = header_at(into);
+        let size = packet_size(header.length);
+        if size <= front {
+            return Next::Packet {
+                octets: size as u32,
+                header,
+            };
+        }
+        let Ok(body) = fill(&mut self.source, &mut into[front..size]) else {
+            return Next::Failed;
+        };
+        if front + body < size {
+            return Next::Cut {
+                octets: (front + body) as u32,
+            };
+        }
+        Next::Packet {
+            octets: size as u32,
+            header,
+        }
+    }
+
     /// What comes next. The octets of a packet are put at the front of `into`; after another answer, what `into`
     /// holds is left open.
     pub fn next(&mut self, into: &mut [u8]) -> Next
@@ -81,7 +133,8 @@ impl<S: Source> Feed<S> {
         ensures missed { S.missed (source_of self.new) ≡ S.missed (source_of self.old) }
         ensures borrow { S.borrow (source_of self.new) ≡ S.borrow (source_of self.old) }
     {
-        let Ok(front) = fill(&mut self.source, &mut into[..HEADER_SIZE]) else {
+        let part = self.first_part();
+        let Ok(front) = fill(&mut self.source, &mut into[..part]) else {
             return Next::Failed;
         };
         if front == 0 {
@@ -92,20 +145,7 @@ impl<S: Source> Feed<S> {
                 octets: front as u32,
             };
         }
-        let header = header_at(into);
-        let size = packet_size(header.length);
-        let Ok(body) = fill(&mut self.source, &mut into[HEADER_SIZE..size]) else {
-            return Next::Failed;
-        };
-        if HEADER_SIZE + body < size {
-            return Next::Cut {
-                octets: (HEADER_SIZE + body) as u32,
-            };
-        }
-        Next::Packet {
-            octets: size as u32,
-            header,
-        }
+        self.rest(front, into)
     }
 
     /// Whether the next packet is known to be there whole, so that giving it doesn't wait.
