@@ -8,4 +8,5 @@ mod GroupFacts
 mod SweepFacts
 mod FlawFacts
 mod KeptFacts
+mod ReadFacts
 mod EqualFacts

@@ -7,3 +7,4 @@ pub mod Structures
 pub mod Known
 pub mod Answers
 pub mod Kept
+pub mod Read

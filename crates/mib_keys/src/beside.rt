@@ -2,12 +2,14 @@
 ghost use Rattle.std.specs.Prelude.{◌≡◌, IfOk};
 ghost use Rattle.mib_keys.specs.Answers.{Gives};
 ghost use Rattle.mib_keys.specs.Kept.{AreSameIn};
+ghost use Rattle.mib_keys.specs.Read.{read_of};
 ghost use Rattle.mib_model.specs.Points.{first_of};
 ghost use Rattle.mib_model.specs.Soundness.{IsSound, first_flaw, flaws_of};
 
 use crate::fault::SoundFault;
-use crate::kept::{covers, same_tables, tables_read};
+use crate::kept::{covers, tables_read};
 use crate::lookups::Lookups;
+use crate::read::alike_tables;
 use crate::soundness::{first_flaw, kind_flaw};
 use mib_model::{KINDS, Kind, MibFault};
 use mib_tables::{Book, TableSet};
@@ -22,19 +24,19 @@ fn part_flaw(alloc: Global, book: &Book, kind: Kind) -> Result<Option<MibFault>,
     kind_flaw(alloc, &lookups, kind)
 }
 
-// The first flaw of a table: none where all that it reads is that of a sound base.
+// The first flaw of a table: none where what is read of all that it depends on is that of a sound base.
 fn flaw_beside(
     alloc: Global,
     base: &Book,
-    same: TableSet,
+    alike: TableSet,
     book: &Book,
     kind: Kind,
 ) -> Result<Option<MibFault>, AllocError>
     requires sound { IsSound base.now }
-    requires same { AreSameIn same base.now book.now }
+    requires alike { AreSameIn alike (read_of base.now) (read_of book.now) }
     ensures { IfOk result (λ flaw. flaw ≡ first_of (flaws_of book.now kind)) }
 {
-    if covers(same, kind) {
+    if covers(alike, kind) {
         return Ok(None);
     }
     part_flaw(alloc, book, kind)
@@ -44,22 +46,23 @@ fn flaw_beside(
 fn new_flaw(
     alloc: Global,
     base: &Book,
-    same: TableSet,
+    alike: TableSet,
     book: &Book,
 ) -> Result<Option<MibFault>, AllocError>
     requires sound { IsSound base.now }
-    requires same { AreSameIn same base.now book.now }
+    requires alike { AreSameIn alike (read_of base.now) (read_of book.now) }
     ensures { IfOk result (λ flaw. flaw ≡ first_flaw book.now) }
 {
     for kind in KINDS {
-        if let Some(flaw) = flaw_beside(alloc, base, same, book, kind)? {
+        if let Some(flaw) = flaw_beside(alloc, base, alike, book, kind)? {
             return Ok(Some(flaw));
         }
     }
     Ok(None)
 }
 
-// The first flaw of a book beside a sound base. Parameters are read by almost all tables: where they differ, all are tested.
+// The first flaw of a book beside a sound base. Parameters are read by almost all tables: where what is read of them differs,
+// all are tested.
 fn first_flaw_beside(
     alloc: Global,
     base: &Book,
@@ -68,16 +71,16 @@ fn first_flaw_beside(
     requires { IsSound base.now }
     ensures { IfOk result (λ flaw. flaw ≡ first_flaw book.now) }
 {
-    let same = same_tables(base, book);
-    if same.pcf {
-        new_flaw(alloc, base, same, book)
+    let alike = alike_tables(alloc, base, book)?;
+    if alike.pcf {
+        new_flaw(alloc, base, alike, book)
     } else {
         first_flaw(alloc, book)
     }
 }
 
-/// Whether a book is sound, as `sound` tells it. Tables that have no flaw in a sound base, and read the same rows here, are
-/// not tested again.
+/// Whether a book is sound, as `sound` tells it. Tables that have no flaw in a sound base, and read the same here, are not
+/// tested again.
 pub fn sound_beside(alloc: Global, base: &Book, book: &Book) -> Result<(), SoundFault>
     requires { IsSound base.now }
     ensures { Gives result book.now }

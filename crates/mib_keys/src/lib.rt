@@ -15,6 +15,7 @@ mod kept;
 mod keys;
 mod lookups;
 mod points;
+mod read;
 mod rules;
 mod soundness;
 mod structures;
