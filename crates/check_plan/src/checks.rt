@@ -16,7 +16,7 @@ pub struct Checks {
     inter: u8,
     nbchck: u8,
     set: CheckSet,
-    ocf: OcfRow,
+    ocf: Snapshot<OcfRow>,
     ocps: Snapshot<Vec<OcpRow>>,
 }
 
@@ -27,9 +27,9 @@ impl Model for Checks {
 
     ghost Value = { CheckRows };
 
-    ghost view = { λ checks. record { ocf = checks.ocf; ocps = checks.ocps.value.items } };
+    ghost view = { λ checks. record { ocf = checks.ocf.value; ocps = checks.ocps.value.items } };
 
-    ghost invariant = { λ checks. (checks.inter ≡ checks.ocf.inter) × (checks.nbchck ≡ checks.ocf.nbchck) × IsSetOf checks.set checks.ocps.value.items };
+    ghost invariant = { λ checks. (checks.inter ≡ checks.ocf.value.inter) × (checks.nbchck ≡ checks.ocf.value.nbchck) × IsSetOf checks.set checks.ocps.value.items };
 }
 
 impl Checks {
@@ -42,7 +42,7 @@ impl Checks {
             inter: ocf.inter,
             nbchck: ocf.nbchck,
             set: CheckSet::compile(alloc, &rows)?,
-            ocf: *ocf,
+            ocf: Snapshot::of(ocf),
             ocps: Snapshot::of(&rows),
         })
     }
@@ -50,13 +50,6 @@ impl Checks {
     /// A number made of limits: who asks for it early has them at hand when a sample is classed.
     pub fn touch(&self) -> usize {
         self.set.touch()
-    }
-
-    /// The row of ocf.
-    pub fn row(&self) -> &OcfRow
-        ensures { result.now ≡ self.now.ocf }
-    {
-        &self.ocf
     }
 
     /// Which number of a value is checked: `U` is the raw one (SCOS-2000 Database Import ICD, ocf).

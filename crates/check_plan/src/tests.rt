@@ -81,7 +81,7 @@ fn a_number_agrees_with_a_text_by_its_count(rt: HostRuntime) -> Result<(), Fail>
     let text = checks.class_of(Sample::Text(&low), None, &Nothing);
     assert_eq!(rt; number, Class::Nominal);
     assert_eq!(rt; text, Class::Status);
-    assert_eq!(rt; checks.row().nbchck, 2);
+    assert_eq!(rt; checks.nbchck(), 2);
     Ok(())
 }
 

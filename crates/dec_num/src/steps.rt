@@ -45,12 +45,23 @@ pub fn difference(a: i128, b: i128) -> Option<i128>
     step(a.checked_sub(b)?)
 }
 
-/// A product, where it is below the bound of steps.
+// A product of numbers of 64 bits.
+#[tactic(auto, using(crate::proofs::ScalingFacts::near_products))]
+fn near_product(a: i64, b: i64) -> i128
+    ensures { result ≡ a *ℤ b }
+{
+    i128::from(a) * i128::from(b)
+}
+
+/// A product, where it is below the bound of steps, by words of 64 bits where both numbers are that small.
 pub fn product(a: i128, b: i128) -> Option<i128>
     ensures value { result ≡ narrow (a *ℤ b) }
     ensures within { IfSome result (λ z. nat_abs z < STEP_BOUND) }
 {
-    step(a.checked_mul(b)?)
+    match (i64::try_from(a), i64::try_from(b)) {
+        (Ok(a), Ok(b)) => step(near_product(a, b)),
+        _ => step(a.checked_mul(b)?),
+    }
 }
 
 // 10 to a power of at most 36.

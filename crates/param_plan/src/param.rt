@@ -1,9 +1,11 @@
-ghost use Rattle.std.specs.Prelude.{◌≡◌, ◌≤ℤ◌, ◌+◌, option_map, IfOk, OnOk, OnErr};
+ghost use Rattle.std.specs.Prelude.{◌≡◌, ◌≤ℤ◌, ◌+◌, option_map, option_and_then, IfOk, OnOk, OnErr};
+ghost use Rattle.std.specs.List.{find};
 ghost use Rattle.std.specs.Option.{option_copied};
 ghost use Rattle.mib_model.specs.CalibrationViews.{calibrated_as};
 ghost use Rattle.mib_model.specs.Curves.{calibration};
 ghost use Rattle.mib_model.specs.Finish.{is_valid};
 ghost use Rattle.mib_model.specs.WholeNumbers.{least_raw, greatest_raw};
+ghost use Rattle.param_plan.specs.Choices.{is_met, selections_in};
 ghost use Rattle.param_plan.specs.Slices.{slice_of, curve_in, checks_in};
 
 use crate::choice::{Choice, Selection, only_of, selected_by, selections_of};
@@ -20,9 +22,10 @@ use std::sync::ledger::Ledger;
 pub struct Param {
     conditional: bool,
     decim: u8,
+    without_selections: bool,
     only: Choice,
-    selections: Vec<Selection>,
     checks: Option<Checks>,
+    selections: Vec<Selection>,
     rows: Box<ParamRows>,
 }
 
@@ -32,9 +35,10 @@ impl Drop for Param {
         let Param {
             conditional: _,
             decim: _,
+            without_selections: _,
             only: _only,
-            selections: _selections,
             checks: _checks,
+            selections: _selections,
             rows: _rows,
         } = self;
     }
@@ -48,7 +52,8 @@ impl Model for Param {
 
     ghost view = { λ param. slice_of param.rows.value };
 
-    ghost invariant = { λ param. ArePartsOf (slice_of param.rows.value) param.conditional param.decim param.only param.selections.items param.checks };
+    ghost invariant = { λ param. ArePartsOf (slice_of param.rows.value) param.conditional param.decim param.without_selections param.only
+        param.selections.items param.checks };
 }
 
 // The checks of a parameter that has a row of ocf.
@@ -71,12 +76,14 @@ impl Param {
         ensures { IfOk result (λ param. param ≡ slice_of rows) }
     {
         let pcf = rows.pcf;
+        let selections = selections_of(alloc, pcf.curtx, &rows.curs, &rows.curves)?;
         Ok(Param {
             conditional: pcf.valid.is_some(),
             decim: pcf.decim,
+            without_selections: selections.is_empty(),
             only: only_of(pcf.curtx, &rows.curves)?,
-            selections: selections_of(alloc, pcf.curtx, &rows.curs, &rows.curves)?,
             checks: checks_of(alloc, &rows.ocf, &rows.ocps)?,
+            selections,
             rows: Box::new(alloc, rows)?,
         })
     }
@@ -155,13 +162,24 @@ impl Param {
         is_met(self.rows.pcf.valid, self.rows.pcf.valpar, kept)
     }
 
+    // The curve of the first selection whose condition holds.
+    fn selected_curve<K: Holds>(&self, kept: &K) -> Option<&Curve>
+        ensures { option_copied result ≡ option_and_then (λ selection. selection.choice)
+            (find (is_met (K.memory kept.now)) (selections_in self.now.pcf.curtx self.now.curs self.now.curves)) }
+    {
+        if self.without_selections {
+            return None;
+        }
+        selected_by(&self.selections, kept)
+    }
+
     // The curve that values are taken by.
     fn curve<K: Holds>(&self, kept: &K) -> Option<&Curve>
         ensures { option_copied result ≡ curve_in self.now (K.memory kept.now) }
     {
         match self.only.curve() {
             Some(curve) => Some(curve),
-            None => selected_by(&self.selections, kept),
+            None => self.selected_curve(kept),
         }
     }
 
