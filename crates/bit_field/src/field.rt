@@ -106,7 +106,7 @@ fn number_from(octets: &[u8], skip: u8, width: u8) -> u64
     number_behind(octets, skip, width)
 }
 
-// The number of at most 64 bits at a place in the octets.
+/// The number of at most 64 bits at a place, which are in the octets, the most significant first.
 #[inline(always)]
 pub fn number_at(octets: &[u8], at: u64, width: u8) -> u64
     requires width { width ≤ 64 }
