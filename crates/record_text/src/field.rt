@@ -6,6 +6,7 @@ ghost use Rattle.mib_model.specs.RawTexts.{octets_at};
 use bit_field::number_at;
 
 /// The number in so many bits, 64 at most, that stand `offset` bits behind a place.
+#[inline(always)]
 pub(crate) fn field(packet: &[u8], at: u64, offset: u16, width: u8) -> u64
     requires width { width ≤ 64 }
     requires inside { at + offset + width ≤ 8 * length packet.now }
