@@ -106,4 +106,10 @@ pub half-twice : (width : ℕ) → 0 < width → 2 * 2 ^ (width - 1) ≡ 2 ^ wid
 half-twice zero some = absurd (omega arith)
 half-twice (suc k) some = rw (sub-one, pow-succ' 2 k) refl
 
+-- a one that is shifted less far than a word is wide
+pub one-shifted : (width : ℕ) → width < 64 → 1 * 2 ^ width % 2 ^ 64 ≡ 2 ^ width
+one-shifted width few =
+    let most : 2 ^ width ≤ 2 ^ 63 = pow_mono {i = width} {j = 63} (omega arith) in
+    omega (arith, most)
+
 pub ruleset halves = (half-below, half-twice)

@@ -33,11 +33,16 @@ fn number_in_eight(octets: &[u8], skip: u8, width: u8) -> u64
     ensures within { result < 2 ^ width }
 {
     let eight = BigEndian::read_u64(octets);
+    if width == 64 {
+        return eight;
+    }
     let rest = 64 - (skip + width);
-    field_of(u128::from(eight), rest, width)
+    (eight >> rest) % (1 << width)
 }
 
 // The number of 1 to 64 bits behind the first bits of an octet, 7 at most, in as few octets as hold it.
+#[cold]
+#[inline(never)]
 fn number_in_few(octets: &[u8], skip: u8, width: u8) -> u64
     requires skip { skip < 8 }
     requires some { 0 < width }
@@ -84,6 +89,7 @@ fn aligned(octets: &[u8], width: u8) -> Option<u64>
 }
 
 // The number of 1 to 64 bits behind the first bits of an octet, 7 at most, by one read where they are 1, 2, 4 or 8 octets.
+#[inline(always)]
 fn number_from(octets: &[u8], skip: u8, width: u8) -> u64
     requires skip { skip < 8 }
     requires some { 0 < width }
@@ -100,7 +106,7 @@ fn number_from(octets: &[u8], skip: u8, width: u8) -> u64
     number_behind(octets, skip, width)
 }
 
-// The number of at most 64 bits at a place in the octets.
+/// The number of at most 64 bits at a place, which are in the octets, the most significant first.
 #[inline(always)]
 pub fn number_at(octets: &[u8], at: u64, width: u8) -> u64
     requires width { width ≤ 64 }

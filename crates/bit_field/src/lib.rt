@@ -14,7 +14,7 @@ mod value;
 mod values;
 
 pub use encoding::shape_of;
-pub use field::{signed, unsigned};
+pub use field::{number_at, signed, unsigned};
 pub use laws::bits_are_a_sum;
 pub use mib_model::{Ended, Endian, MOST_VALUES, Order, Shape, Sort, Value};
 pub use value::{number, take};

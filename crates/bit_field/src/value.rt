@@ -71,6 +71,7 @@ fn number_width(shape: Shape) -> u8
 }
 
 // The number of a value, and 0 for a sort without one.
+#[inline(always)]
 #[tactic(auto, unfolding(mib_model::specs::Bits::raw_number))]
 fn raw_number(octets: &[u8], at: u64, shape: Shape) -> i128
     requires { at + shape.width ≤ 8 * length octets.now }

@@ -151,6 +151,7 @@ impl Layout {
 
     /// The values of a packet, in the order of the rows, and how they end: before the 8,193rd, or before the first whose
     /// bits aren't in the packet. It takes no memory.
+    #[inline(never)]
     pub fn extract(&self, packet: &[u8], values: &mut Values) -> Ended
         requires slots { length values.old.slots.now ≡ most_values }
         requires used { values.old.used ≡ 0 }

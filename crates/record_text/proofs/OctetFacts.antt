@@ -1,22 +1,12 @@
 -- Octets of a packet, and hexadecimal digits one by one.
-use Rattle.std.proofs.Common.{◌≡◌, ℕ, zero, suc, ◌+◌, ◌-◌, ◌*◌, ◌/◌, ◌%◌, ◌^◌, ◌<◌, ◌≤◌, true, List, [], ◌∷◌, ◌++◌, take, drop, length, get_or, Some, None, refl, sym, ap, subst, ◌∙◌, length-drop, arith}
-use Rattle.std.specs.Prelude.{Option, cond, unwrap_or}
+use Rattle.std.proofs.Common.{◌≡◌, ℕ, zero, suc, ◌+◌, ◌-◌, ◌*◌, ◌/◌, ◌%◌, ◌^◌, ◌<◌, ◌≤◌, List, [], ◌∷◌, ◌++◌, take, drop, length, get_or, refl, sym, ap, subst, ◌∙◌, length-drop, arith}
 use Rattle.std.specs.List.{flat_map}
-use Rattle.std.proofs.lemmas.Bool.{le-leb}
 use Rattle.std.proofs.lemmas.List.{take_more, get_or-drop, flat_map_more}
 use Rattle.std.proofs.lemmas.List.FromFn.{map-range_with_len_more}
 use Rattle.std.proofs.lemmas.Nat.{shr-shr}
-use Rattle.bit_field.proofs.BitFacts.{bits-octet, bits-drop}
-use Rattle.mib_model.specs.Bits.{bits, is_inside}
+use Rattle.bit_field.proofs.BitFacts.{bits-octet}
+use Rattle.mib_model.specs.Bits.{bits}
 use Rattle.mib_model.specs.RawTexts.{octets_at, hex_text, hex_digit}
-
--- the number of a field that stands behind the octet in which its place is
-pub field-number : (packet : List ℕ) (at offset width : ℕ) (found : Option ℕ) → found ≡ cond (is_inside (drop (at / 8) packet) (at % 8 + offset) width) (Some (bits (drop (at / 8) packet) (at % 8 + offset) width)) None
-    → at + offset + width ≤ 8 * length packet → unwrap_or found 0 ≡ bits packet (at + offset) width
-field-number packet at offset width found is fits =
-    let inside : is_inside (drop (at / 8) packet) (at % 8 + offset) width ≡ true = le-leb (at % 8 + offset + width) (8 * length (drop (at / 8) packet)) (omega (arith, length-drop (at / 8) packet)) in
-    let place : 8 * (at / 8) + (at % 8 + offset) ≡ at + offset = omega arith in
-    rw (is, inside) (bits-drop packet (at / 8) (at % 8 + offset) width ∙ ap (λ (j : ℕ). bits packet j width) place)
 
 -- an octet more
 pub octets-more : (packet : List ℕ) (at k : ℕ) → octets_at packet at (k + 1) ≡ octets_at packet at k ++ bits packet (at + 8 * k) 8 ∷ []
@@ -60,3 +50,9 @@ hex-eight n =
     let sixth : n / 16777216 ≡ n / 16 / 16 / 16 / 16 / 16 / 16 = omega arith in
     let seventh : n / 268435456 ≡ n / 16 / 16 / 16 / 16 / 16 / 16 / 16 = omega arith in
     rw (second, third, fourth, fifth, sixth, seventh) refl
+
+-- sixteen digits by eights
+pub hex-sixteen : (n : ℕ) → hex_text 16 n ≡ hex_text 8 (n / 4294967296) ++ hex_text 8 n
+hex-sixteen n =
+    let eighth : n / 4294967296 ≡ n / 16 / 16 / 16 / 16 / 16 / 16 / 16 / 16 = omega arith in
+    rw eighth refl

@@ -3,9 +3,10 @@ ghost use Rattle.std.specs.Prelude.{◌≡◌, ◌≤◌, ◌<◌, ◌+◌, ◌*
 ghost use Rattle.mib_model.specs.Bits.{bits};
 ghost use Rattle.mib_model.specs.RawTexts.{octets_at};
 
-use bit_field::unsigned;
+use bit_field::number_at;
 
 /// The number in so many bits, 64 at most, that stand `offset` bits behind a place.
+#[inline(always)]
 pub(crate) fn field(packet: &[u8], at: u64, offset: u16, width: u8) -> u64
     requires width { width ≤ 64 }
     requires inside { at + offset + width ≤ 8 * length packet.now }
@@ -13,7 +14,7 @@ pub(crate) fn field(packet: &[u8], at: u64, offset: u16, width: u8) -> u64
     ensures within { result < 2 ^ width }
 {
     let from_octet = &packet[(at / 8) as usize..];
-    unsigned(from_octet, at % 8 + u64::from(offset), width).unwrap_or(0)
+    number_at(from_octet, at % 8 + u64::from(offset), width)
 }
 
 /// So many octets from a bit on, where that bit is an octet's first, and else `None`.

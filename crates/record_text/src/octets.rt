@@ -87,12 +87,7 @@ fn add_escaped(octet: u8, out: &mut Page)
     ensures room { length out.new.octets ≡ length out.old.octets + 4 }
     ensures limit { out.new.limit ≡ out.old.limit }
 {
-    out.add_word(&[
-        b'\\',
-        b'x',
-        hex_digit(octet / 16),
-        hex_digit(octet % 16),
-    ]);
+    out.add_word(&[b'\\', b'x', hex_digit(octet / 16), hex_digit(octet % 16)]);
 }
 
 /// How an octet is written.

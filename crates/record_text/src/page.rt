@@ -1,5 +1,5 @@
 // Where the octets of lines are written.
-ghost use Rattle.std.specs.Prelude.{◌≡◌, ◌≤◌, ◌<◌, ◌+◌, ◌/◌, ◌%◌, ◌++◌, [], ◌∷◌, length, decimal, IfOk};
+ghost use Rattle.std.specs.Prelude.{◌≡◌, ◌≤◌, ◌<◌, ◌+◌, ◌/◌, ◌%◌, ◌++◌, [], ◌∷◌, codes, length, decimal, IfOk};
 ghost use Rattle.mib_model.specs.Counts.{count_text};
 ghost use Rattle.record_text.specs.ShortTexts.{digits_of, four_digits};
 ghost use Rattle.record_text.specs.declared.lines.TheConstants.{LINES_ROOM, LINE_MOST};
@@ -153,6 +153,23 @@ impl Page {
         ensures limit { self.new.limit ≡ self.old.limit }
     {
         self.add(name.bytes());
+    }
+
+    /// Appends a name behind two spaces and before one, as a value's line begins.
+    #[inline(always)]
+    pub(crate) fn add_indented(&mut self, name: &Name)
+        requires { length self.old.octets + 35 ≤ self.old.limit }
+        ensures text { self.new.octets ≡ self.old.octets ++ codes "  " ++ name.now ++ codes " " }
+        ensures room { length self.new.octets ≤ length self.old.octets + 35 }
+        ensures limit { self.new.limit ≡ self.old.limit }
+    {
+        let octets = name.bytes();
+        let first = self.used + 2;
+        let end = first + octets.len();
+        put(&mut self.octets, self.used, b"  ");
+        put_text(&mut self.octets, first, octets);
+        put(&mut self.octets, end, b" ");
+        self.used = end + 1;
     }
 
     // Appends the digits of a short text. The octets behind them are written too, and cut off.

@@ -20,9 +20,7 @@ fn add_value(value: &Value, packet: &[u8], tail: &Tail<'_>, out: &mut Page)
     ensures room { length out.new.octets ≤ length out.old.octets + VALUE_ROOM }
     ensures limit { out.new.limit ≡ out.old.limit }
 {
-    out.add_word(b"  ");
-    out.add_name(&value.name);
-    out.push(b' ');
+    out.add_indented(&value.name);
     add_raw(value, packet, out);
     add_tail(tail, out);
     out.push(b'\n');
