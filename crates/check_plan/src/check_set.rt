@@ -75,8 +75,8 @@ impl CheckSet {
         Ok(CheckSet {
             hard: counts.0,
             deltas: counts.1,
-            limits,
-            states,
+            limits: Vec::from_slice(alloc, &limits)?,
+            states: Vec::from_slice(alloc, &states)?,
         })
     }
 

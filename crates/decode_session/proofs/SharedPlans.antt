@@ -7,6 +7,7 @@ use Rattle.ident_plan.specs.contracts.ident.Ident as Ident
 use Rattle.param_plan.specs.contracts.choice.Choice as Choice
 use Rattle.param_plan.specs.contracts.param.Param as Param
 use Rattle.param_plan.specs.contracts.params.Params as Params
+use Rattle.param_plan.specs.contracts.rows.ParamRows as Rows
 
 choice-sync : IsSync Choice.the_row
 choice-sync = search (crosses, sendable) depth 60 fits 20000
@@ -20,11 +21,17 @@ checks-sync = search (crosses, sendable) depth 60 fits 20000
 checks-send : IsSend Checks.the_row
 checks-send = search (crosses, sendable) depth 60 fits 20000
 
+rows-sync : IsSync Rows.the_row
+rows-sync = search (crosses, sendable) depth 60 fits 20000
+
+rows-send : IsSend Rows.the_row
+rows-send = search (crosses, sendable) depth 60 fits 20000
+
 param-sync : IsSync Param.the_row
-param-sync = search (choice-sync, checks-sync, crosses, sendable) depth 60 fits 20000
+param-sync = search (rows-sync, choice-sync, checks-sync, crosses, sendable) depth 60 fits 20000
 
 param-send : IsSend Param.the_row
-param-send = search (choice-send, checks-send, crosses, sendable) depth 60 fits 20000
+param-send = search (rows-send, choice-send, checks-send, crosses, sendable) depth 60 fits 20000
 
 pub params-sync : IsSync Params.the_row
 params-sync = search (param-send, param-sync, crosses, sendable) depth 60 fits 20000

@@ -1,19 +1,22 @@
-// What is read ahead: the plans of a packet's values lie far apart in memory, so all are asked for before the first is needed.
+// What is read ahead: the slots and plans of a packet's values lie far apart in memory, so all are asked for before the first is
+// needed.
+use crate::slot::Slot;
 use param_plan::Param;
 use std::sync::Arc;
 
-// The plans themselves.
-fn touch_plans(plans: &[Arc<Param>], places: &[u32]) -> usize {
+// The slots, and the plans themselves.
+fn touch_both(slots: &[Slot], plans: &[Arc<Param>], places: &[u32]) -> usize {
     let mut seen = 0;
     for place in places {
-        if let Some(plan) = plans.get(*place as usize) {
-            seen ^= plan.touch();
+        let at = *place as usize;
+        if let (Some(slot), Some(plan)) = (slots.get(at), plans.get(at)) {
+            seen ^= slot.touch() ^ plan.touch();
         }
     }
     seen
 }
 
-// Their curves and limits.
+// The plans' curves and limits.
 fn touch_parts(plans: &[Arc<Param>], places: &[u32]) -> usize {
     let mut seen = 0;
     for place in places {
@@ -24,7 +27,7 @@ fn touch_parts(plans: &[Arc<Param>], places: &[u32]) -> usize {
     seen
 }
 
-/// Reads ahead what finishing will ask of the plans at these places. The number that it gives says nothing.
-pub fn read_ahead(plans: &[Arc<Param>], places: &[u32]) -> usize {
-    touch_plans(plans, places) ^ touch_parts(plans, places)
+/// Reads ahead what finishing will ask of the slots and plans at these places. The number that it gives says nothing.
+pub fn read_ahead(slots: &[Slot], plans: &[Arc<Param>], places: &[u32]) -> usize {
+    touch_both(slots, plans, places) ^ touch_parts(plans, places)
 }

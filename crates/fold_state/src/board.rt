@@ -123,23 +123,6 @@ impl Board {
         self.guesses.row(spid, count)
     }
 
-    // A number made of the name at a place and of what is kept there.
-    fn touch(&self, at: usize) -> usize {
-        match self.slots.get(at) {
-            Some(slot) => slot.name.bytes().len() ^ usize::from(slot.latest < 0),
-            None => 0,
-        }
-    }
-
-    // A number made of the names and slots at the places that guesses say.
-    fn touch_slots(&self, places: &[u32]) -> usize {
-        let mut seen = 0;
-        for place in places {
-            seen ^= self.touch(*place as usize);
-        }
-        seen
-    }
-
     /// Reads ahead what will be asked of the plans and slots of so many values, whose guesses begin here.
     pub(crate) fn read_ahead(&mut self, params: &Params, first: usize, count: usize)
         ensures { self.new ≡ self.old }
@@ -148,7 +131,7 @@ impl Board {
             return;
         }
         let places = self.guesses.places(first, count);
-        self.ahead = self.touch_slots(places) ^ read_ahead(params.plans(), places);
+        self.ahead = read_ahead(&self.slots, params.plans(), places);
     }
 
     /// The place of a name, which is looked for first where a guess says.

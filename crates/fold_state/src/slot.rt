@@ -13,12 +13,12 @@ use mib_model::{Eng, Name};
 /// alarm. The name lies beside them, and they have few octets, since those of many parameters are asked for in any order.
 #[derive(Clone, Copy)]
 pub struct Slot {
-    pub latest: i128,
     pub previous: Eng,
     pub has_latest: bool,
     pub has_previous: bool,
     pub alarm: Alarm,
     pub name: Name,
+    pub latest: i128,
 }
 
 impl Slot {
@@ -27,13 +27,18 @@ impl Slot {
         ensures { result ≡ vacant name }
     {
         Slot {
-            latest: 0,
             previous: Eng { count: 0 },
             has_latest: false,
             has_previous: false,
             alarm: Alarm::new(),
             name,
+            latest: 0,
         }
+    }
+
+    /// A number made of its first octets and of its last: who asks for it early has the slot at hand later.
+    pub fn touch(&self) -> usize {
+        usize::from(self.previous.count < 0) ^ usize::from(self.latest < 0)
     }
 
     /// Keeps what another slot keeps.
