@@ -90,7 +90,6 @@ fn extract<P: Plans>(plans: &P, found: &Found, packet: &[u8], values: &mut Value
 }
 
 /// Decodes a packet: tells what it is, and takes its values into the front of the slots. It takes no memory.
-#[inline(never)]
 pub fn decode<P: Plans>(plans: &P, header: Header, packet: &[u8], slots: &mut [Value]) -> Half
     requires header { header ≡ header_of packet.now }
     requires long { 7 ≤ length packet.now }

@@ -1,8 +1,9 @@
 ghost use Rattle.std.specs.Prelude.{◌≡◌, ◌+◌, ◌*◌, ◌≤◌, ◌<ℤ◌, ◌==◌, ◌&&◌, negsuc, pos, ℕ, length, Option, IfOk, IfSome, OnOk, OnErr, IsTrue, Some, None, true, false};
-ghost use Rattle.std.specs.List.{find};
+ghost use Rattle.std.specs.List.{find, list_any};
 ghost use Rattle.std.specs.Option.{option_copied, option_or};
 ghost use Rattle.mib_model.specs.Headers.{header_of};
 ghost use Rattle.mib_model.specs.Match as Spec;
+ghost use Rattle.ident_plan.specs.Rows.{has_apid};
 ghost use Rattle.mib_model.specs.Match.{service_of, subtype_of, lacks_service, is_criterion, found_with, match_by};
 
 use crate::keys::{ByCriterion, ByPacket, CriterionKey, PacketKey};
@@ -18,14 +19,20 @@ use std::sync::ledger::Ledger;
 pub struct Ident {
     pids: FirstRows<ByPacket>,
     pics: FirstRows<ByCriterion>,
+    // Whether a row of pic is of an APID of its own.
+    has_own: bool,
 }
 
 impl Model for Ident {
-    ghost use Rattle.ident_plan.specs.Rows.{IdentRows};
+    ghost use Rattle.std.specs.Prelude.{◌≡◌};
+    ghost use Rattle.std.specs.List.{list_any};
+    ghost use Rattle.ident_plan.specs.Rows.{IdentRows, has_apid};
 
     ghost Value = { IdentRows };
 
     ghost view = { λ ident. record { pids = ident.pids; pics = ident.pics } };
+
+    ghost invariant = { λ ident. ident.has_own ≡ list_any has_apid ident.pics };
 }
 
 // The service type and the subtype: octets 7 and 8 behind a secondary header, else 0 (ECSS-E-70-41A, telemetry packet
@@ -82,6 +89,13 @@ fn found_by(row: Option<&PidRow>, service: u8, subtype: u8) -> Found
     }
 }
 
+// Whether a row of pic is of an APID of its own.
+fn have_apids(pics: &[PicRow]) -> bool
+    ensures { result ≡ list_any has_apid pics.now }
+{
+    pics.iter().any(|row| row.apid.is_some())
+}
+
 impl Ident {
     /// Compiles all rows of pid and pic, in file order, in one step. An error is want of memory, and takes no step.
     pub fn compile<L: Ledger>(
@@ -94,10 +108,15 @@ impl Ident {
         ensures step { OnOk result (steps.new ≡ steps.old + 1) }
         ensures refused { OnErr result (steps.new ≡ steps.old) }
     {
+        let has_own = have_apids(pics);
         let pids = FirstRows::new(alloc, pids)?;
         let pics = FirstRows::new(alloc, pics)?;
         steps.tick();
-        Ok(Ident { pids, pics })
+        Ok(Ident {
+            pids,
+            pics,
+            has_own,
+        })
     }
 
     // The first row of pic with this key.
@@ -105,6 +124,20 @@ impl Ident {
         ensures { option_copied result ≡ find (is_criterion key.service key.subtype key.apid) self.now.pics }
     {
         self.pics.find(&key)
+    }
+
+    // The first row of pic of these types and this APID.
+    fn own_row(&self, service: u8, subtype: u8, apid: u16) -> Option<&PicRow>
+        ensures { option_copied result ≡ find (is_criterion service subtype (Some apid)) self.now.pics }
+    {
+        if !self.has_own {
+            return None;
+        }
+        self.row_of_pic(CriterionKey {
+            service,
+            subtype,
+            apid: Some(apid),
+        })
     }
 
     // The row of pic that stands for a packet: that with its APID before that with none.
@@ -115,11 +148,7 @@ impl Ident {
         ensures { option_copied result ≡ Spec.criterion self.now.pics packet.now }
     {
         let (service, subtype) = types(packet, header.secondary);
-        let own = self.row_of_pic(CriterionKey {
-            service,
-            subtype,
-            apid: Some(header.apid),
-        });
+        let own = self.own_row(service, subtype, header.apid);
         if own.is_some() {
             return own;
         }

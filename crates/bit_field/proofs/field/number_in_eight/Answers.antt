@@ -1,5 +1,4 @@
 use Rattle.std.proofs.Common.{◌≡◌, ◌+◌, ◌-◌, ◌*◌, ◌/◌, ◌%◌, ◌^◌, ℕ, ◌∙◌, sym, ap, arith}
-use Rattle.byteorder.specs.Endian.{big_number}
 use Rattle.mib_model.specs.Bits.{bits}
 use Rattle.bit_field.proofs.BitFacts.{bits-inside, bits-aligned, one-shifted}
 use Rattle.bit_field.proofs.field.number_in_eight.Goals as goal

@@ -1,4 +1,4 @@
-use Rattle.std.proofs.Common.{length, take, arith, length-take}
+use Rattle.std.proofs.Common.{arith, length-take}
 use Rattle.packet_feed.proofs.Cutting.{took_rest}
 use Rattle.packet_feed.proofs.feed.Feed.next.Goals as goal
 
