@@ -1,8 +1,9 @@
 -- Rows of structures and parameters: sameness, and what is found of them.
-use Rattle.std.proofs.Common.{◌≡◌, ℤ, pos, Bool, true, false, cond, ◌&&◌, not, List, Option, Some, None, option_map, refl, ap}
+use Rattle.std.proofs.Common.{◌≡◌, ℕ, ℤ, ◌+◌, ◌<◌, pos, Bool, true, false, cond, ◌&&◌, not, List, length, take, get_or, Option, Some, None, option_map, if◌then◌else◌, refl, ap, ◌∙◌}
 use Rattle.std.specs.List.{find}
-use Rattle.std.specs.Option.{option_eq}
+use Rattle.std.specs.Option.{option_eq, option_or}
 use Rattle.std.specs.Ordering.{int_eq}
+use Rattle.first_rows.proofs.FindFacts.{find-more}
 use Rattle.row_laws.proofs.SameFacts.{same_values-Decides}
 use Rattle.mib_model.specs.declared.database.Database.{Database}
 use Rattle.mib_model.specs.declared.rows.PcfRow.{PcfRow}
@@ -14,7 +15,7 @@ use Rattle.mib_model.specs.Plans.{type_item}
 use Rattle.mib_model.specs.SameRows.{same_pcf, same_vpd}
 use Rattle.mib_model.specs.Structures.{deduced, is_deduced}
 use Rattle.struct_plan.specs.Slices.{deduced_item}
-use Rattle.structure_set.specs.Sets.{number_of}
+use Rattle.structure_set.specs.Sets.{item_numbered, number_of}
 
 -- rows that are the same are equal
 pub equal-rows : (x y : VpdRow) → same_vpd x y ≡ true → x ≡ y
@@ -32,8 +33,22 @@ numbered : (pid : ℤ) (b : Bool) (o : Option ℤ) → option_eq int_eq (cond b 
 numbered pid true o = refl
 numbered pid false o = refl
 
--- the parameter of a deduced value is the first of its number
-pub deduced-found : (db : Database) (pid : ℤ) → option_map type_item (find (λ row. option_eq int_eq (number_of row) (Some pid)) db.pcf) ≡ deduced_item db pid
+-- the type item of a deduced value's parameter is that of the first parameter of its number
+pub deduced-found : (db : Database) (pid : ℤ) → item_numbered db.pcf pid ≡ deduced_item db pid
 unfolding deduced
 deduced-found db pid =
     ap (option_map type_item) (find-agree (λ row. option_eq int_eq (number_of row) (Some pid)) _ (λ row. numbered pid (is_measured row && not (is_deduced row)) (option_map pos row.pid)) db.pcf)
+
+-- the type item of one parameter more, where none was found before it
+item-or : (found : Option PcfRow) (b : Bool) (row : PcfRow)
+    → option_map type_item (option_or found (if b then Some row else None)) ≡ option_or (option_map type_item found) (if b then Some (type_item row) else None)
+item-or None true row = refl
+item-or None false row = refl
+item-or (Some other) b row = refl
+
+-- one parameter more
+pub item-more : (pid : ℤ) (pcfs : List PcfRow) (i : ℕ) (row : PcfRow) → i < length pcfs → row ≡ get_or pcfs i row
+    → item_numbered (take (i + 1) pcfs) pid ≡ option_or (item_numbered (take i pcfs) pid) (if option_eq int_eq (number_of row) (Some pid) then Some (type_item row) else None)
+item-more pid pcfs i row below is =
+    let p : PcfRow → Bool = λ r. option_eq int_eq (number_of r) (Some pid) in
+    ap (option_map type_item) (find-more p pcfs i row below is) ∙ item-or (find p (take i pcfs)) (p row) row

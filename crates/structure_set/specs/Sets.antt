@@ -1,8 +1,12 @@
 -- The structures of a database beside those of a base. [SCOS-2000 Database Import ICD, vpd and pcf; this profile.]
 use Rattle.std.specs.Prelude.{◌≡◌, ℕ, ℤ, pos, Bool, false, List, Option, Some, None, map, filter, option_map, ◌&&◌, not, if◌then◌else◌}
+use Rattle.std.specs.List.{find}
+use Rattle.std.specs.Option.{option_eq}
+use Rattle.std.specs.Ordering.{int_eq}
 use Rattle.mib_model.specs.declared.database.Database.{Database}
 use Rattle.mib_model.specs.declared.plan.Slice.{Slice}
 use Rattle.mib_model.specs.declared.plan.Slice.TheVariants as slice
+use Rattle.mib_model.specs.declared.plan.TypeItem.{TypeItem}
 use Rattle.mib_model.specs.declared.rows.PcfRow.{PcfRow}
 use Rattle.mib_model.specs.Parameters.{is_measured}
 use Rattle.mib_model.specs.Plans.{distinct, type_item}
@@ -38,6 +42,10 @@ new_structures base db = filter (λ tpsd. is_new base db (pos tpsd)) (distinct (
 -- the number by which a deduced value finds a parameter: that of a measured parameter, not deduced itself, that has one
 abbrev pub number_of : PcfRow → Option ℤ
 number_of row = if is_measured row && not (is_deduced row) then option_map pos row.pid else None
+
+-- the type item of the first parameter that a deduced value finds by this number
+abbrev pub item_numbered : List PcfRow → ℤ → Option TypeItem
+item_numbered pcfs pid = option_map type_item (find (λ row. option_eq int_eq (number_of row) (Some pid)) pcfs)
 
 -- databases whose structures are the same: those with the same rows of structures, and the same type items
 abbrev pub AreStructuredAlike : Database → Database → Type 0

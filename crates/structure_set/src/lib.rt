@@ -9,6 +9,7 @@
 mod alike;
 mod before;
 mod building;
+mod deduced;
 mod parameters;
 mod set;
 mod sources;

@@ -2,7 +2,6 @@ ghost use Rattle.std.specs.Prelude.{◌≡◌, ◌+◌, ◌≤◌, ℤ, IfOk, On
 ghost use Rattle.std.specs.Arc.{arc_value};
 ghost use Rattle.std.specs.Option.{option_copied};
 ghost use Rattle.mib_model.specs.Database.{no_rows};
-ghost use Rattle.mib_model.specs.Plans.{type_item};
 ghost use Rattle.struct_plan.specs.Slices.{deduced_item, structure_found};
 ghost use Rattle.structure_set.specs.Building.{structure_at};
 ghost use Rattle.structure_set.specs.Sets.{new_structures};
@@ -11,11 +10,10 @@ ghost use Rattle.mib_model.specs.declared.limits.TheConstants.{HELD_MOST};
 use crate::alike::are_structured_alike;
 use crate::before::Before;
 use crate::building::{Building, build};
+use crate::deduced::Deduced;
 use crate::parameters::same_parameters;
 use crate::sources::Sources;
-use crate::ways::ByNumber;
-use first_rows::FirstRows;
-use mib_model::{PcfRow, Steps, TypeItem};
+use mib_model::{Steps, TypeItem};
 use mib_tables::Book;
 use std::alloc::{AllocError, Global};
 use std::collections::HashMap;
@@ -24,12 +22,11 @@ use std::snapshot::Snapshot;
 use std::sync::Arc;
 use std::sync::ledger::Ledger;
 use struct_plan::Structure;
-use type_items::item_of;
 
 /// The structures and the deduced parameters of a database, compiled. Contracts see the database.
 pub struct StructureSet {
     structures: Arc<HashMap<i128, Arc<Structure>>>,
-    deduced: Arc<FirstRows<ByNumber>>,
+    deduced: Arc<Deduced>,
     book: Snapshot<Book>,
 }
 
@@ -72,14 +69,14 @@ fn deduced_of(
     base: &StructureSet,
     old: &Book,
     book: &Book,
-) -> Result<Arc<FirstRows<ByNumber>>, AllocError>
+) -> Result<Arc<Deduced>, AllocError>
     requires { base.now ≡ old.now }
     ensures { IfOk result (λ deduced. arc_value deduced ≡ book.now.pcf) }
 {
     if same_parameters(old.pcf(), book.pcf()) {
         return Arc::try_clone(&base.deduced);
     }
-    Ok(Arc::new(alloc, FirstRows::new(alloc, book.pcf())?)?)
+    Ok(Arc::new(alloc, Deduced::new(alloc, book.pcf())?)?)
 }
 
 // Structures by TPSD, and how many of them were compiled, not shared.
@@ -146,7 +143,7 @@ impl StructureSet {
     {
         Ok(StructureSet {
             structures: Arc::new(alloc, HashMap::new(alloc))?,
-            deduced: Arc::new(alloc, FirstRows::new(alloc, &[])?)?,
+            deduced: Arc::new(alloc, Deduced::new(alloc, &[])?)?,
             book: Snapshot::of(&Book::empty(alloc)),
         })
     }
@@ -167,11 +164,11 @@ impl StructureSet {
         ensures few { IfOk result (λ made. made.compiled ≤ HELD_MOST) }
         ensures steps { OnOk result (steps.new ≡ steps.old + length (new_structures base.now book.now)) }
     {
-        let deduced = deduced_of(alloc, base, old, book)?;
         let Plans {
             structures,
             compiled,
         } = plans_of(alloc, base, old, book, steps)?;
+        let deduced = deduced_of(alloc, base, old, book)?;
         let set = StructureSet {
             structures,
             deduced,
@@ -197,9 +194,9 @@ impl StructureSet {
         }
     }
 
-    // The parameter of a deduced value.
-    fn deduced_row(&self, pid: &i128) -> Option<&PcfRow>
-        ensures { option_map type_item (option_copied result) ≡ deduced_item self.now pid.now }
+    // The type item of the parameter of a deduced value.
+    fn deduced_by(&self, pid: &i128) -> Option<TypeItem>
+        ensures { result ≡ deduced_item self.now pid.now }
     {
         self.deduced.find(pid)
     }
@@ -208,6 +205,6 @@ impl StructureSet {
     pub fn deduced(&self, pid: i128) -> Option<TypeItem>
         ensures { result ≡ deduced_item self.now pid }
     {
-        Some(item_of(self.deduced_row(&pid)?))
+        self.deduced_by(&pid)
     }
 }

@@ -1,6 +1,6 @@
 // The keys by which rows are found.
 use first_rows::By;
-use mib_model::{PcfRow, VpdRow};
+use mib_model::VpdRow;
 
 /// Rows of structures by TPSD.
 #[derive(Drop)]
@@ -17,26 +17,5 @@ impl By for ByStructure {
 
     fn key(row: &VpdRow) -> Option<i128> {
         Some(i128::from(row.tpsd))
-    }
-}
-
-/// Measured parameters that aren't deduced, by PCF_PID.
-#[derive(Drop)]
-pub struct ByNumber;
-
-impl By for ByNumber {
-    ghost use Rattle.structure_set.specs.Sets.{number_of};
-
-    type Row = PcfRow;
-
-    type Key = i128;
-
-    ghost key_of = { number_of };
-
-    fn key(row: &PcfRow) -> Option<i128> {
-        if !row.is_measured() || row.is_deduced() {
-            return None;
-        }
-        Some(i128::from(row.pid?))
     }
 }
