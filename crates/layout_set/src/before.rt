@@ -56,7 +56,7 @@ pub fn same_places(old: &[PlfRow], new: &[PlfRow]) -> bool
 pub struct Before<'a> {
     set: &'a LayoutSet,
     packets: FirstRows<ByLaidOut>,
-    sources: Sources,
+    sources: Sources<'a>,
 }
 
 /// By hand, so that whoever lets one go proves one call.
@@ -83,7 +83,7 @@ impl<'a> Model for Before<'a> {
 
 impl<'a> Before<'a> {
     /// A set, and the book that it is of. An error is want of memory.
-    pub fn new(alloc: Global, set: &'a LayoutSet, book: &Book) -> Result<Before<'a>, AllocError>
+    pub fn new(alloc: Global, set: &'a LayoutSet, book: &'a Book) -> Result<Before<'a>, AllocError>
         requires { set.now ≡ book.now }
         ensures { IfOk result (λ before. before ≡ book.now) }
     {
@@ -118,11 +118,11 @@ impl<'a> Before<'a> {
         let Some(packet) = self.packet(&row.spid) else {
             return Ok(false);
         };
-        let before = self.sources.places(packet.spid);
-        if !same_packet(packet, row) || !same_places(before, places) {
+        let before = self.sources.places(alloc, packet.spid)?;
+        if !same_packet(packet, row) || !same_places(&before, places) {
             return Ok(false);
         }
-        let held = self.sources.items(alloc, before)?;
+        let held = self.sources.items(alloc, &before)?;
         Ok(same_items(&held, items))
     }
 

@@ -33,7 +33,7 @@ pub struct Building {
 fn plan_for<L: Ledger>(
     alloc: Global,
     before: &Before<'_>,
-    new: &Sources,
+    new: &Sources<'_>,
     row: &PidRow,
     steps: &mut Steps<L>,
 ) -> Result<Plan, AllocError>
@@ -41,15 +41,15 @@ fn plan_for<L: Ledger>(
     ensures is_new { IfOk result (λ plan. plan.is_new ≡ not (has_same (layout_of before.now row.now.spid) (layout_slice new.now row.now))) }
     ensures steps { OnOk result (steps.new ≡ steps.old + one_if (not (has_same (layout_of before.now row.now.spid) (layout_slice new.now row.now)))) }
 {
-    let places = new.places(row.spid);
-    let items = new.items(alloc, places)?;
-    if let Some(layout) = before.shared(alloc, row, places, &items)? {
+    let places = new.places(alloc, row.spid)?;
+    let items = new.items(alloc, &places)?;
+    if let Some(layout) = before.shared(alloc, row, &places, &items)? {
         return Ok(Plan {
             layout,
             is_new: false,
         });
     }
-    let layout = Arc::new(alloc, Layout::compile(alloc, row, places, &items, steps)?)?;
+    let layout = Arc::new(alloc, Layout::compile(alloc, row, &places, &items, steps)?)?;
     Ok(Plan {
         layout,
         is_new: true,
@@ -62,7 +62,7 @@ impl Building {
         &mut self,
         alloc: Global,
         before: &Before<'_>,
-        new: &Sources,
+        new: &Sources<'_>,
         row: &PidRow,
         steps: &mut Steps<L>,
     ) -> Result<(), AllocError>
@@ -88,7 +88,7 @@ impl Building {
 pub fn build<L: Ledger>(
     alloc: Global,
     before: &Before<'_>,
-    new: &Sources,
+    new: &Sources<'_>,
     rows: &[PidRow],
     steps: &mut Steps<L>,
 ) -> Result<Building, AllocError>

@@ -9,6 +9,7 @@
 mod alike;
 mod before;
 mod building;
+mod places;
 mod set;
 mod sources;
 mod ways;

@@ -2,24 +2,23 @@
 ghost use Rattle.std.specs.Prelude.{◌≡◌, IfOk, map};
 ghost use Rattle.mib_model.specs.Plans.{layout_rows, type_items};
 
-use crate::ways::ByPacket;
+use crate::places::Places;
 use mib_model::{PlfRow, TypeItem};
 use mib_tables::Book;
-use row_groups::RowGroups;
 use std::alloc::{AllocError, Global};
 use std::marker::Model;
 use std::snapshot::Snapshot;
 use type_items::TypeItems;
 
 /// The places of a book's parameters, and their type items. Contracts see the book's database.
-pub struct Sources {
-    places: RowGroups<ByPacket>,
+pub struct Sources<'a> {
+    places: Places<'a>,
     items: TypeItems,
     book: Snapshot<Book>,
 }
 
 /// By hand, so that whoever lets one go proves one call.
-impl Drop for Sources {
+impl Drop for Sources<'_> {
     fn drop(self) {
         let Sources {
             places: _places,
@@ -29,7 +28,7 @@ impl Drop for Sources {
     }
 }
 
-impl Model for Sources {
+impl<'a> Model for Sources<'a> {
     ghost use Rattle.std.specs.Prelude.{◌≡◌};
     ghost use Rattle.mib_model.specs.declared.database.Database.{Database};
 
@@ -40,23 +39,23 @@ impl Model for Sources {
     ghost invariant = { λ sources. (sources.places ≡ sources.book.value.plf) × (sources.items ≡ sources.book.value.pcf) };
 }
 
-impl Sources {
+impl<'a> Sources<'a> {
     /// Those of a book. An error is want of memory.
-    pub fn new(alloc: Global, book: &Book) -> Result<Sources, AllocError>
+    pub fn new(alloc: Global, book: &'a Book) -> Result<Sources<'a>, AllocError>
         ensures { IfOk result (λ sources. sources ≡ book.now) }
     {
         Ok(Sources {
-            places: RowGroups::new(alloc, book.plf())?,
+            places: Places::new(alloc, book.plf())?,
             items: TypeItems::new(alloc, book.pcf())?,
             book: Snapshot::of(book),
         })
     }
 
-    /// The places of a packet's parameters, in file order.
-    pub fn places(&self, spid: u32) -> &[PlfRow]
-        ensures { result.now ≡ layout_rows self.now spid }
+    /// The places of a packet's parameters, in file order. An error is want of memory.
+    pub fn places(&self, alloc: Global, spid: u32) -> Result<Vec<PlfRow>, AllocError>
+        ensures { IfOk result (λ places. places.items ≡ layout_rows self.now spid) }
     {
-        self.places.of(&spid)
+        self.places.of(alloc, &spid)
     }
 
     /// The type items of the parameters that rows name. An error is want of memory.

@@ -1,6 +1,6 @@
 // The keys by which rows are found.
 use first_rows::By;
-use mib_model::{PidRow, PlfRow};
+use mib_model::PidRow;
 
 /// Packets of fixed layout by SPID.
 #[derive(Drop)]
@@ -21,23 +21,5 @@ impl By for ByLaidOut {
         } else {
             None
         }
-    }
-}
-
-/// Places of parameters by the packet's SPID.
-#[derive(Drop)]
-pub struct ByPacket;
-
-impl By for ByPacket {
-    ghost use Rattle.std.specs.Prelude.{Some};
-
-    type Row = PlfRow;
-
-    type Key = u32;
-
-    ghost key_of = { λ row. Some row.spid };
-
-    fn key(row: &PlfRow) -> Option<u32> {
-        Some(row.spid)
     }
 }
