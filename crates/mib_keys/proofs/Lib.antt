@@ -8,4 +8,5 @@ mod GroupFacts
 mod SweepFacts
 mod FlawFacts
 mod KeptFacts
+pub mod KnownFacts
 mod EqualFacts

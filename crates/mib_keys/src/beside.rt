@@ -63,12 +63,13 @@ fn new_flaw(
 fn first_flaw_beside(
     alloc: Global,
     base: &Book,
+    same: TableSet,
     book: &Book,
 ) -> Result<Option<MibFault>, AllocError>
-    requires { IsSound base.now }
+    requires sound { IsSound base.now }
+    requires same { AreSameIn same base.now book.now }
     ensures { IfOk result (λ flaw. flaw ≡ first_flaw book.now) }
 {
-    let same = same_tables(base, book);
     if same.pcf {
         new_flaw(alloc, base, same, book)
     } else {
@@ -76,14 +77,28 @@ fn first_flaw_beside(
     }
 }
 
-/// Whether a book is sound, as `sound` tells it. Tables that have no flaw in a sound base, and read the same rows here, are
-/// not tested again.
+/// Whether a book is sound, as `sound` tells it, where tables are known that have the same rows in a sound base. Tables
+/// that have no flaw there, and read the same rows here, are not tested again.
+pub fn sound_with(
+    alloc: Global,
+    base: &Book,
+    same: TableSet,
+    book: &Book,
+) -> Result<(), SoundFault>
+    requires sound { IsSound base.now }
+    requires same { AreSameIn same base.now book.now }
+    ensures { Gives result book.now }
+{
+    match first_flaw_beside(alloc, base, same, book)? {
+        None => Ok(()),
+        Some(fault) => Err(SoundFault::Mib(fault)),
+    }
+}
+
+/// Whether a book is sound, as `sound_with` tells it of all tables that have the same rows in a sound base.
 pub fn sound_beside(alloc: Global, base: &Book, book: &Book) -> Result<(), SoundFault>
     requires { IsSound base.now }
     ensures { Gives result book.now }
 {
-    match first_flaw_beside(alloc, base, book)? {
-        None => Ok(()),
-        Some(fault) => Err(SoundFault::Mib(fault)),
-    }
+    sound_with(alloc, base, same_tables(base, book), book)
 }
