@@ -1,12 +1,14 @@
 -- Where all tables that plans of parameters depend on are the same, no plan is new.
-use Rattle.std.proofs.Common.{◌≡◌, ◌∙◌, ℕ, zero, suc, ◌<◌, true, false, Bool, not, List, [], ◌∷◌, length, get_or, map, filter, refl, sym, ap, arith}
+use Rattle.std.proofs.Common.{◌≡◌, ◌∙◌, ℕ, zero, suc, ◌<◌, true, false, Bool, not, List, [], ◌∷◌, length, get_or, map, filter, refl, sym, ap, subst, arith}
 use Rattle.edition_plans.specs.Params.{param_slices}
 use Rattle.mib_keys.specs.Kept.{AreSameIn}
 use Rattle.mib_model.specs.declared.database.Database.{Database}
+use Rattle.mib_model.specs.Soundness.{IsSound}
 use Rattle.mib_tables.specs.declared.table_set.TableSet.{TableSet}
 use Rattle.param_plan.specs.Names.{Ascend}
 use Rattle.param_plan.specs.Slices.{ParamSlice}
 use Rattle.param_set.proofs.BesideFacts.{by-parts, equal-checks, equal-curves, equal-limits, equal-selections, new-others, slices-kept, slices-now}
+use Rattle.param_set.proofs.UniqueFacts.{slices-ascend}
 use Rattle.param_set.specs.Beside.{AreAllKept, AreKept, is_other, now_of}
 use Rattle.param_set.specs.Sharing.{is_new}
 
@@ -53,3 +55,9 @@ module _ (set : TableSet) (all : AreAllKept set) (old new : Database) (same : Ar
       ap (λ (slices : List ParamSlice). length (filter (is_new (param_slices old)) slices)) (sym (slices-now set old new same all.pcf))
       ∙ new-others new (param_slices old) ascend
       ∙ ap length (none-left (is_other new) (param_slices old) (λ i slice below is. not-other set all slice new (slices-kept set old new same i slice below is)))
+
+  -- no slice is new beside those of the old database
+  pub none-beside : (base : List ParamSlice) → base ≡ param_slices old → IsSound new → length (filter (is_new base) (param_slices new)) ≡ 0
+  none-beside base is sound =
+      ap (λ (slices : List ParamSlice). length (filter (is_new slices) (param_slices new))) is
+      ∙ none-new (subst Ascend (sym slices-same) (slices-ascend new sound))

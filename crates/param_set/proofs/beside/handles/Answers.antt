@@ -4,4 +4,4 @@ use Rattle.param_set.proofs.BesideFacts.{images-all}
 use Rattle.param_set.proofs.beside.handles.Goals as goal
 
 pub returns : goal.returns
-returns c = c.loop-plan.invariant ∙ images-all arc_value c.plans.result.now c.args.base.now c.plans.ensures.plans c.loop-plan.plan-index c.loop-plan-test.false
+returns c = c.loop-plan.invariant ∙ images-all arc_value c.plans-plans.result.now c.args.base.now c.plans-plans.ensures.plans c.loop-plan.plan-index c.loop-plan-test.false
