@@ -106,7 +106,9 @@ impl Edition {
         ensures plans { IfOk result (λ amended. amended.plans ≡ length (touched base.now book.now)) }
         ensures steps { OnOk result (steps.new ≡ steps.old + length (touched base.now book.now)) }
     {
-        let Made { sets, compiled } = PlanSets::new(alloc, &base.sets, &base.book, same, book, steps)?;
+        let Made { sets, compiled } = PlanSets::new(
+            alloc, &base.sets, &base.book, same, book, steps,
+        )?;
         let made = ident_beside(alloc, &base.ident, &base.book, book, steps)?;
         let plans = compiled + made.compiled;
         let titles = FirstRows::new(alloc, book.tpcf())?;

@@ -83,12 +83,7 @@ fn first_flaw_beside(
 
 /// Whether a book is sound, as `sound` tells it, where tables are known that have the same rows in a sound base. Tables
 /// that have no flaw there, and read the same here, are not tested again.
-pub fn sound_with(
-    alloc: Global,
-    base: &Book,
-    same: TableSet,
-    book: &Book,
-) -> Result<(), SoundFault>
+pub fn sound_with(alloc: Global, base: &Book, same: TableSet, book: &Book) -> Result<(), SoundFault>
     requires sound { IsSound base.now }
     requires same { AreSameIn same base.now book.now }
     ensures { Gives result book.now }
