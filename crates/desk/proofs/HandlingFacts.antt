@@ -57,18 +57,6 @@ handled-one request s before after e a on given t is grows ends = record {
   is_done = inl (subst (λ w. Follows w ((e, a) ∷ []) (Some (Plain given)) t) (sym is) (refl, subst (λ w. Follows w [] (Some (Plain given)) t) (sym ends) (refl, refl, refl)));
 }
 
--- a state with an equal base
-pub on-base : (request : Request) (old : DeskState) (before after : RegisterHistory) (given : Option Reply) (draft base : Database) → base ≡ old.base
-    → Handles request old before after given (record old { draft = draft }) → Handles request old before after given (record { draft = draft; base = base; edition = old.edition })
-on-base request old before after given draft base is h = subst (λ (b : Database). Handles request old before after given (record { draft = draft; base = b; edition = old.edition })) (sym is) h
-
--- a state with an equal draft and an equal base
-pub on-state : (request : Request) (old : DeskState) (before after : RegisterHistory) (given : Option Reply) (draft base own_draft own_base : Database) (e : ℕ) → own_draft ≡ draft → own_base ≡ base
-    → Handles request old before after given (record { draft = draft; base = base; edition = e }) → Handles request old before after given (record { draft = own_draft; base = own_base; edition = e })
-on-state request old before after given draft base own_draft own_base e drafted based h =
-    subst (λ (d : Database). Handles request old before after given (record { draft = d; base = own_base; edition = e })) (sym drafted)
-    (subst (λ (b : Database). Handles request old before after given (record { draft = draft; base = b; edition = e })) (sym based) h)
-
 pub handled-want : (request : Request) (s : DeskState) (own : RegisterHistory) → may_want request ≡ true → Handles request s own own (Some reply.Want) s
 handled-want request s own may = record {
   calls = [];

@@ -1,4 +1,3 @@
-pub mod Drafts
 pub mod State
 pub mod Handling
 pub mod Saving

@@ -62,8 +62,11 @@ impl Desk {
         ensures handles { (own : RegisterHistory) → Handles Spec.Drop (desk_of self.old) own own (Some result) (desk_of self.new) }
         ensures editions { editions_of self.new ≡ editions_of self.old }
     {
-        match self.draft.restore() {
-            Ok(()) => Reply::Dropped,
+        match self.base.book().copy() {
+            Ok(draft) => {
+                self.draft = draft;
+                Reply::Dropped
+            }
             Err(_) => Reply::Want,
         }
     }

@@ -6,7 +6,6 @@
 #![tactic(auto)]
 
 mod desk;
-mod draft;
 mod edits;
 mod saving;
 mod using;

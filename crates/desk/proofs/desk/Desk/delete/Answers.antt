@@ -1,8 +1,6 @@
-use Rattle.std.proofs.Common.{Err, Some, sym}
-use Rattle.mib_model.specs.DeskLines as Spec
-use Rattle.mib_model.specs.declared.reply.Reply.TheVariants as reply
+use Rattle.std.proofs.Common.{Err, sym}
 use Rattle.desk.specs.State.{desk_of}
-use Rattle.desk.proofs.HandlingFacts.{on-base, told-fault, delete-bad, delete-done, delete-none}
+use Rattle.desk.proofs.HandlingFacts.{told-fault, delete-bad, delete-done, delete-none}
 use Rattle.desk.proofs.desk.Desk.delete.Goals as goal
 
 pub returns-in-Err-Mib-clause-handles : goal.returns-in-Err-Mib-clause-handles
@@ -10,8 +8,8 @@ returns-in-Err-Mib-clause-handles c = λ own. delete-bad (desk_of c.args.self.no
 
 pub returns-in-Ok-del-clause-handles : goal.returns-in-Ok-del-clause-handles
 returns-in-Ok-del-clause-handles c =
-    λ own. on-base (Spec.Delete c.args.table c.args.key.now) (desk_of c.args.self.now) own own (Some reply.Deleted) c.del.new.self.tables c.del.new.self.base c.in-Ok-del.ensures.base (delete-done (desk_of c.args.self.now) c.args.table c.args.key.now c.in-Ok.key c.del.new.self.tables own c.in-Ok.ensures (sym c.in-Ok-del.ensures.held) c.in-Ok-del.ensures.rows)
+    λ own. delete-done (desk_of c.args.self.now) c.args.table c.args.key.now c.in-Ok.key c.del.new.self own c.in-Ok.ensures (sym c.in-Ok-del.ensures.held) c.in-Ok-del.ensures.rows
 
 pub returns-in-Err-NoRow-clause-handles : goal.returns-in-Err-NoRow-clause-handles
 returns-in-Err-NoRow-clause-handles c =
-    λ own. on-base (Spec.Delete c.args.table c.args.key.now) (desk_of c.args.self.now) own own (Some reply.NoRow) c.del.new.self.tables c.del.new.self.base c.in-Err-NoRow.ensures.base (delete-none (desk_of c.args.self.now) c.args.table c.args.key.now c.in-Ok.key c.del.new.self.tables own c.in-Ok.ensures (sym (c.in-Err-NoRow.ensures.missing (λ i. Err (c.in-Err-NoRow.field-0-is i)))) c.in-Err-NoRow.ensures.kept)
+    λ own. delete-none (desk_of c.args.self.now) c.args.table c.args.key.now c.in-Ok.key c.del.new.self own c.in-Ok.ensures (sym (c.in-Err-NoRow.ensures.missing (λ i. Err (c.in-Err-NoRow.field-0-is i)))) c.in-Err-NoRow.ensures.kept

@@ -1,22 +1,18 @@
-use Rattle.std.proofs.Common.{sym}
-use Rattle.std.specs.Arc.{arc_value}
-use Rattle.mib_model.specs.DeskLines as Spec
+use Rattle.std.proofs.Common.{◌∙◌, ap, length}
+use Rattle.mib_model.specs.declared.database.Database.{Database}
+use Rattle.mib_model.specs.Touched.{touched}
 use Rattle.turn_cell.specs.Seats.{own_moves}
 use Rattle.desk.specs.State.{desk_of}
-use Rattle.desk.proofs.HandlingFacts.{on-state, save-none, save-added, save-full}
+use Rattle.desk.proofs.HandlingFacts.{save-none, save-added, save-full}
 use Rattle.desk.proofs.desk.Desk.save.Goals as goal
 
 pub returns-in-Err-clause-handles : goal.returns-in-Err-clause-handles
 returns-in-Err-clause-handles g c = save-none (desk_of c.args.self.now) (own_moves c.args.seat.now) c.in-Err.reply c.in-Err.ensures.ready
 
-pub rebase-requires : goal.rebase-requires
-rebase-requires g c = c.in-Ok.ensures.ready.1.base
-
 pub returns-in-Ok-add-clause-handles : goal.returns-in-Ok-add-clause-handles
 returns-in-Ok-add-clause-handles g c =
     let ready = c.in-Ok.ensures.ready in
-    on-state Spec.Save (desk_of c.args.self.now) _ _ _ c.args.self.now.draft.tables (arc_value c.in-Ok.ready.base) c.rebase.new.self.tables c.rebase.new.self.base c.in-Ok-add.edition c.rebase.ensures.tables c.rebase.ensures.base
-    (save-added (desk_of c.args.self.now) (own_moves c.args.seat.now) _ _ _ c.in-Ok-add.edition c.in-Ok.ready.plans ready.0 ready.1.payload ready.1.base ready.1.count c.in-Ok-add.ensures.adds.own)
+    save-added (desk_of c.args.self.now) (own_moves c.args.seat.now) _ _ _ c.in-Ok-add.edition c.in-Ok.ready.plans ready.0 ready.1.payload ready.1.base (ready.1.count ∙ ap (λ (b : Database). length (touched b c.args.self.now.draft)) c.deref.ensures) c.in-Ok-add.ensures.adds.own
 
 pub returns-in-Err-Full-clause-handles : goal.returns-in-Err-Full-clause-handles
 returns-in-Err-Full-clause-handles g c =
