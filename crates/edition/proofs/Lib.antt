@@ -2,3 +2,4 @@ pub mod RowFacts
 pub mod CountFacts
 pub mod NamedPlans
 pub mod TouchedFacts
+mod AlikeFacts

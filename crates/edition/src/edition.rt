@@ -3,6 +3,7 @@ ghost use Rattle.std.specs.List.{find};
 ghost use Rattle.std.specs.Option.{option_copied};
 ghost use Rattle.edition.specs.Faults.{Refuses};
 ghost use Rattle.edition_plans.specs.Layouts.{layout_of, HasPlaces};
+ghost use Rattle.mib_keys.specs.Kept.{AreSameIn};
 ghost use Rattle.mib_model.specs.Plans.{plans};
 ghost use Rattle.mib_model.specs.Soundness.{IsSound};
 ghost use Rattle.mib_model.specs.Touched.{touched};
@@ -16,9 +17,9 @@ use edition_plans::Plans;
 use first_rows::FirstRows;
 use ident_plan::Ident;
 use layout_plan::Layout;
-use mib_keys::{sound, sound_beside};
+use mib_keys::{same_beside, same_tables, sound, sound_with};
 use mib_model::{Rows, Steps, Text, TypeItem};
-use mib_tables::Book;
+use mib_tables::{Book, TableSet};
 use param_plan::Params;
 use std::alloc::{AllocError, Global};
 use std::marker::Model;
@@ -95,15 +96,19 @@ impl Edition {
     fn beside<L: Ledger>(
         alloc: Global,
         base: &Edition,
+        same: TableSet,
         book: &Book,
         steps: &mut Steps<L>,
     ) -> Result<Amended, AllocError>
-        requires { IsSound book.now }
+        requires sound { IsSound book.now }
+        requires same { AreSameIn same base.now book.now }
         ensures edition { IfOk result (λ amended. amended.edition ≡ book.now) }
         ensures plans { IfOk result (λ amended. amended.plans ≡ length (touched base.now book.now)) }
         ensures steps { OnOk result (steps.new ≡ steps.old + length (touched base.now book.now)) }
     {
-        let Made { sets, compiled } = PlanSets::new(alloc, &base.sets, &base.book, book, steps)?;
+        let Made { sets, compiled } = PlanSets::new(
+            alloc, &base.sets, &base.book, same, book, steps,
+        )?;
         let made = ident_beside(alloc, &base.ident, &base.book, book, steps)?;
         let plans = compiled + made.compiled;
         let titles = FirstRows::new(alloc, book.tpcf())?;
@@ -130,6 +135,27 @@ impl Edition {
         Ok(Edition::of_sound(alloc, book, steps)?)
     }
 
+    /// Compiles a book beside a base, as `amend` does, where tables are known that have the same rows in both: only the
+    /// others are compared.
+    pub fn amend_with<L: Ledger>(
+        alloc: Global,
+        base: &Edition,
+        known: TableSet,
+        book: &Book,
+        steps: &mut Steps<L>,
+    ) -> Result<Amended, SaveFault>
+        requires { AreSameIn known base.now book.now }
+        ensures edition { IfOk result (λ amended. amended.edition ≡ book.now) }
+        ensures plans { IfOk result (λ amended. amended.plans ≡ length (touched base.now book.now)) }
+        ensures sound { OnOk result (IsSound book.now) }
+        ensures refused { IfErr result (Refuses book.now) }
+        ensures steps { OnOk result (steps.new ≡ steps.old + length (touched base.now book.now)) }
+    {
+        let same = same_beside(known, &base.book, book)?;
+        sound_with(alloc, &base.book, same, book)?;
+        Ok(Edition::beside(alloc, base, same, book, steps)?)
+    }
+
     /// Compiles a book beside a base: a plan that the base has of the same rows is shared with it, each other is compiled.
     /// It is refused where the book isn't sound.
     pub fn amend<L: Ledger>(
@@ -144,8 +170,8 @@ impl Edition {
         ensures refused { IfErr result (Refuses book.now) }
         ensures steps { OnOk result (steps.new ≡ steps.old + length (touched base.now book.now)) }
     {
-        sound_beside(alloc, &base.book, book)?;
-        Ok(Edition::beside(alloc, base, book, steps)?)
+        let known = same_tables(&base.book, book);
+        Edition::amend_with(alloc, base, known, book, steps)
     }
 
     /// Its tables, which are sound.

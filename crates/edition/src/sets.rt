@@ -1,16 +1,20 @@
 // The plans of parameters, layouts and structures.
-ghost use Rattle.std.specs.Prelude.{◌≡◌, ◌+◌, ◌*◌, ◌≤◌, IfOk, OnOk};
+ghost use Rattle.std.specs.Prelude.{◌≡◌, ◌+◌, ◌*◌, ◌≤◌, IfOk, IsTrue, OnOk, length, true};
 ghost use Rattle.edition.specs.Editions.{count_sets};
 ghost use Rattle.edition_plans.specs.Params.{param_slices};
+ghost use Rattle.layout_set.specs.Sets.{new_layouts};
+ghost use Rattle.mib_keys.specs.Kept.{AreSameIn};
 ghost use Rattle.mib_model.specs.Database.{no_rows};
 ghost use Rattle.mib_model.specs.Soundness.{IsSound};
 ghost use Rattle.mib_model.specs.declared.limits.TheConstants.{HELD_MOST};
+ghost use Rattle.structure_set.specs.Sets.{new_structures};
 
 use layout_set::LayoutSet;
+use mib_keys::same_tables;
 use mib_model::Steps;
-use mib_tables::Book;
+use mib_tables::{Book, TableSet};
 use param_plan::Params;
-use param_set::params_beside;
+use param_set::params_with;
 use std::alloc::{AllocError, Global};
 use std::marker::Model;
 use std::sync::ledger::Ledger;
@@ -53,6 +57,65 @@ pub struct Made {
     pub compiled: u32,
 }
 
+// Whether all tables that layouts depend on are known to be the same.
+fn are_layouts_known(same: TableSet) -> bool
+    ensures { IsTrue result → (same.pid ≡ true) × (same.plf ≡ true) × (same.pcf ≡ true) }
+{
+    same.pid && same.plf && same.pcf
+}
+
+// The layouts of a sound book beside another: all are shared at once where the tables are known to be the same.
+fn layouts_with<L: Ledger>(
+    alloc: Global,
+    base: &LayoutSet,
+    old: &Book,
+    same: TableSet,
+    book: &Book,
+    steps: &mut Steps<L>,
+) -> Result<layout_set::Made, AllocError>
+    requires base { base.now ≡ old.now }
+    requires sound { IsSound book.now }
+    requires same { AreSameIn same old.now book.now }
+    ensures set { IfOk result (λ made. made.set ≡ book.now) }
+    ensures compiled { IfOk result (λ made. made.compiled ≡ length (new_layouts base.now book.now)) }
+    ensures few { IfOk result (λ made. made.compiled ≤ HELD_MOST) }
+    ensures steps { OnOk result (steps.new ≡ steps.old + length (new_layouts base.now book.now)) }
+{
+    if are_layouts_known(same) {
+        return base.kept(book);
+    }
+    LayoutSet::new(alloc, base, old, book, steps)
+}
+
+// Whether all tables that structures depend on are known to be the same.
+fn are_structures_known(same: TableSet) -> bool
+    ensures { IsTrue result → (same.vpd ≡ true) × (same.pcf ≡ true) }
+{
+    same.vpd && same.pcf
+}
+
+// The structures of a book beside another: all are shared at once where the tables are known to be the same.
+fn structures_with<L: Ledger>(
+    alloc: Global,
+    base: &StructureSet,
+    old: &Book,
+    same: TableSet,
+    book: &Book,
+    steps: &mut Steps<L>,
+) -> Result<structure_set::Made, AllocError>
+    requires base { base.now ≡ old.now }
+    requires same { AreSameIn same old.now book.now }
+    ensures set { IfOk result (λ made. made.set ≡ book.now) }
+    ensures compiled { IfOk result (λ made. made.compiled ≡ length (new_structures base.now book.now)) }
+    ensures few { IfOk result (λ made. made.compiled ≤ HELD_MOST) }
+    ensures steps { OnOk result (steps.new ≡ steps.old + length (new_structures base.now book.now)) }
+{
+    if are_structures_known(same) {
+        return base.kept(book);
+    }
+    StructureSet::new(alloc, base, old, book, steps)
+}
+
 impl PlanSets {
     #[tactic(auto, unfolding(edition_plans::specs::Params::param_slices, mib_model::specs::Orders::sorted_by))]
     /// Those of a database without rows. An error is want of memory.
@@ -66,24 +129,27 @@ impl PlanSets {
         })
     }
 
-    /// Those of a sound book, beside those of another: a plan of the same rows is shared. An error is want of memory.
+    /// Those of a sound book, beside those of another, with which it has tables in common: a plan of the same rows is
+    /// shared. An error is want of memory.
     pub fn new<L: Ledger>(
         alloc: Global,
         base: &PlanSets,
         old: &Book,
+        same: TableSet,
         book: &Book,
         steps: &mut Steps<L>,
     ) -> Result<Made, AllocError>
         requires base { base.now ≡ old.now }
         requires sound { IsSound book.now }
+        requires same { AreSameIn same old.now book.now }
         ensures sets { IfOk result (λ made. made.sets ≡ book.now) }
         ensures compiled { IfOk result (λ made. made.compiled ≡ count_sets base.now book.now) }
         ensures few { IfOk result (λ made. made.compiled ≤ 3 * HELD_MOST) }
         ensures steps { OnOk result (steps.new ≡ steps.old + count_sets base.now book.now) }
     {
-        let params = params_beside(alloc, &base.params, old, book, steps)?;
-        let layouts = LayoutSet::new(alloc, &base.layouts, old, book, steps)?;
-        let structures = StructureSet::new(alloc, &base.structures, old, book, steps)?;
+        let params = params_with(alloc, &base.params, old, same, book, steps)?;
+        let layouts = layouts_with(alloc, &base.layouts, old, same, book, steps)?;
+        let structures = structures_with(alloc, &base.structures, old, same, book, steps)?;
         let compiled = params.compiled + layouts.compiled + structures.compiled;
         let sets = PlanSets {
             params: params.params,
@@ -105,7 +171,8 @@ impl PlanSets {
     {
         let nothing = PlanSets::empty(alloc)?;
         let no_book = Book::empty(alloc);
-        let made = PlanSets::new(alloc, &nothing, &no_book, book, steps)?;
+        let same = same_tables(&no_book, book);
+        let made = PlanSets::new(alloc, &nothing, &no_book, same, book, steps)?;
         Ok(made.sets)
     }
 

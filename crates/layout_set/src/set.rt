@@ -81,6 +81,21 @@ impl LayoutSet {
         })
     }
 
+    /// The set of a sound book that has the packets, places and type items of this one: all layouts are shared. An error is
+    /// want of memory.
+    pub fn kept(&self, book: &Book) -> Result<Made, AllocError>
+        requires alike { AreLaidAlike self.now book.now }
+        requires sound { IsSound book.now }
+        ensures set { IfOk result (λ made. made.set ≡ book.now) }
+        ensures compiled { IfOk result (λ made. made.compiled ≡ length (new_layouts self.now book.now)) }
+        ensures few { IfOk result (λ made. made.compiled ≤ HELD_MOST) }
+    {
+        Ok(Made {
+            set: self.taken_over(book)?,
+            compiled: 0,
+        })
+    }
+
     // The set of a sound book beside another, of which each layout is looked at.
     fn beside<L: Ledger>(
         alloc: Global,

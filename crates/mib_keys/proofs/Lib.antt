@@ -9,4 +9,5 @@ mod SweepFacts
 mod FlawFacts
 mod KeptFacts
 mod ReadFacts
+pub mod KnownFacts
 mod EqualFacts

@@ -1,8 +1,9 @@
 -- Which tables the flaws of a table depend on. [SCOS-2000 Database Import ICD, references between the tables; this profile.]
-use Rattle.std.specs.Prelude.{◌≡◌, Bool, true, ◌&&◌}
+use Rattle.std.specs.Prelude.{◌≡◌, Bool, true, ◌&&◌, not}
 use Rattle.mib_model.specs.declared.database.Database.{Database}
 use Rattle.mib_model.specs.declared.kind.Kind.{Kind}
 use Rattle.mib_model.specs.declared.kind.Kind.TheVariants as kind
+use Rattle.mib_model.specs.Drafts.{same_kind}
 use Rattle.mib_tables.specs.declared.table_set.TableSet.{TableSet}
 
 -- the tables of a set have the same rows in both databases
@@ -40,3 +41,43 @@ covers set kind.Mcf = set.mcf
 covers set kind.Lgf = set.lgf
 covers set kind.Ocf = set.ocf && set.pcf
 covers set kind.Ocp = set.ocp && set.ocf && set.pcf
+
+-- the tables that a set hasn't
+abbrev pub others : TableSet → TableSet
+others set = record {
+  pcf = not set.pcf;
+  pid = not set.pid;
+  pic = not set.pic;
+  tpcf = not set.tpcf;
+  plf = not set.plf;
+  vpd = not set.vpd;
+  cur = not set.cur;
+  caf = not set.caf;
+  cap = not set.cap;
+  txf = not set.txf;
+  txp = not set.txp;
+  mcf = not set.mcf;
+  lgf = not set.lgf;
+  ocf = not set.ocf;
+  ocp = not set.ocp;
+}
+
+-- the tables of a set but for one
+abbrev pub without : TableSet → Kind → TableSet
+without set table = record {
+  pcf = not (same_kind kind.Pcf table) && set.pcf;
+  pid = not (same_kind kind.Pid table) && set.pid;
+  pic = not (same_kind kind.Pic table) && set.pic;
+  tpcf = not (same_kind kind.Tpcf table) && set.tpcf;
+  plf = not (same_kind kind.Plf table) && set.plf;
+  vpd = not (same_kind kind.Vpd table) && set.vpd;
+  cur = not (same_kind kind.Cur table) && set.cur;
+  caf = not (same_kind kind.Caf table) && set.caf;
+  cap = not (same_kind kind.Cap table) && set.cap;
+  txf = not (same_kind kind.Txf table) && set.txf;
+  txp = not (same_kind kind.Txp table) && set.txp;
+  mcf = not (same_kind kind.Mcf table) && set.mcf;
+  lgf = not (same_kind kind.Lgf table) && set.lgf;
+  ocf = not (same_kind kind.Ocf table) && set.ocf;
+  ocp = not (same_kind kind.Ocp table) && set.ocp;
+}

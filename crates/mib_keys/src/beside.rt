@@ -7,7 +7,7 @@ ghost use Rattle.mib_model.specs.Points.{first_of};
 ghost use Rattle.mib_model.specs.Soundness.{IsSound, first_flaw, flaws_of};
 
 use crate::fault::SoundFault;
-use crate::kept::{covers, tables_read};
+use crate::kept::{covers, same_tables, tables_read};
 use crate::lookups::Lookups;
 use crate::read::alike_tables;
 use crate::soundness::{first_flaw, kind_flaw};
@@ -66,12 +66,14 @@ fn new_flaw(
 fn first_flaw_beside(
     alloc: Global,
     base: &Book,
+    same: TableSet,
     book: &Book,
 ) -> Result<Option<MibFault>, AllocError>
-    requires { IsSound base.now }
+    requires sound { IsSound base.now }
+    requires same { AreSameIn same base.now book.now }
     ensures { IfOk result (λ flaw. flaw ≡ first_flaw book.now) }
 {
-    let alike = alike_tables(alloc, base, book)?;
+    let alike = alike_tables(alloc, same, base, book)?;
     if alike.pcf {
         new_flaw(alloc, base, alike, book)
     } else {
@@ -79,14 +81,23 @@ fn first_flaw_beside(
     }
 }
 
-/// Whether a book is sound, as `sound` tells it. Tables that have no flaw in a sound base, and read the same here, are not
-/// tested again.
+/// Whether a book is sound, as `sound` tells it, where tables are known that have the same rows in a sound base. Tables
+/// that have no flaw there, and read the same here, are not tested again.
+pub fn sound_with(alloc: Global, base: &Book, same: TableSet, book: &Book) -> Result<(), SoundFault>
+    requires sound { IsSound base.now }
+    requires same { AreSameIn same base.now book.now }
+    ensures { Gives result book.now }
+{
+    match first_flaw_beside(alloc, base, same, book)? {
+        None => Ok(()),
+        Some(fault) => Err(SoundFault::Mib(fault)),
+    }
+}
+
+/// Whether a book is sound, as `sound_with` tells it of all tables that have the same rows in a sound base.
 pub fn sound_beside(alloc: Global, base: &Book, book: &Book) -> Result<(), SoundFault>
     requires { IsSound base.now }
     ensures { Gives result book.now }
 {
-    match first_flaw_beside(alloc, base, book)? {
-        None => Ok(()),
-        Some(fault) => Err(SoundFault::Mib(fault)),
-    }
+    sound_with(alloc, base, same_tables(base, book), book)
 }

@@ -13,6 +13,7 @@ mod groups;
 mod index;
 mod kept;
 mod keys;
+mod known;
 mod lookups;
 mod points;
 mod read;
@@ -22,7 +23,8 @@ mod structures;
 mod tables;
 mod types;
 
-pub use beside::sound_beside;
+pub use beside::{sound_beside, sound_with};
 pub use fault::SoundFault;
 pub use kept::same_tables;
+pub use known::{all_tables, same_beside, without};
 pub use soundness::sound;

@@ -3,7 +3,6 @@ ghost use Rattle.std.specs.Prelude.{◌≡◌, IfOk, IsTrue, map, true};
 ghost use Rattle.mib_keys.specs.Kept.{AreSameIn};
 ghost use Rattle.mib_keys.specs.Read.{cap_read, mcf_read, ocf_read, ocp_read, pcf_read, read_of};
 
-use crate::kept::same_tables;
 use mib_model::{Bound, CapRow, Dec, McfRow, OcfRow, OcpRow, PcfRow, TableRow};
 use mib_tables::{Book, TableSet};
 use std::alloc::{AllocError, Global};
@@ -144,11 +143,17 @@ fn are_alike<R: Read>(alloc: Global, same: bool, old: &[R], new: &[R]) -> Result
     are_read_alike(alloc, old, new)
 }
 
-/// The tables of which soundness reads the same in two books. An error is want of memory.
-pub fn alike_tables(alloc: Global, old: &Book, new: &Book) -> Result<TableSet, AllocError>
+/// The tables of which soundness reads the same in two books, of which tables are known that have the same rows. An error is
+/// want of memory.
+pub fn alike_tables(
+    alloc: Global,
+    same: TableSet,
+    old: &Book,
+    new: &Book,
+) -> Result<TableSet, AllocError>
+    requires { AreSameIn same old.now new.now }
     ensures { IfOk result (λ alike. AreSameIn alike (read_of old.now) (read_of new.now)) }
 {
-    let same = same_tables(old, new);
     Ok(TableSet {
         pcf: are_alike(alloc, same.pcf, old.pcf(), new.pcf())?,
         cap: are_alike(alloc, same.cap, old.cap(), new.cap())?,

@@ -6,3 +6,4 @@ pub mod SharingFacts
 pub mod UniqueFacts
 pub mod PlanFacts
 pub mod BesideFacts
+mod SharedFacts

@@ -13,6 +13,14 @@ use Rattle.param_plan.specs.Slices.{ParamSlice, as_slice, slice_for}
 abbrev pub are_curves_kept : TableSet → Bool
 are_curves_kept set = set.cur && set.caf && set.cap && set.txf && set.txp && set.mcf && set.lgf
 
+-- a set has all tables that plans of parameters depend on
+pub record AreAllKept (set : TableSet) : Type 0 where
+  pub pcf : set.pcf ≡ true
+  pub cur : set.cur ≡ true
+  pub curves : are_curves_kept set ≡ true
+  pub ocf : set.ocf ≡ true
+  pub ocp : set.ocp ≡ true
+
 -- what a slice has of the tables of a set is what its parameter has of them in a database
 pub record AreKept (set : TableSet) (slice : ParamSlice) (db : Database) : Type 0 where
   pub curs : set.cur ≡ true → slice.curs ≡ selections db slice.pcf.name

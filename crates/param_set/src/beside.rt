@@ -1,5 +1,5 @@
 // The plans of parameters beside those of a base that has the same parameters.
-ghost use Rattle.std.specs.Prelude.{◌≡◌, ◌+◌, ◌≤◌, ◌<◌, ℕ, true, map, filter, length, option_map, slice_index_or, IfOk, OnOk};
+ghost use Rattle.std.specs.Prelude.{◌≡◌, ◌+◌, ◌≤◌, ◌<◌, ℕ, IsTrue, true, map, filter, length, option_map, slice_index_or, IfOk, OnOk};
 ghost use Rattle.std.specs.Arc.{arc_value};
 ghost use Rattle.std.specs.Cmp.Lexicographic.{pointwise};
 ghost use Rattle.std.specs.Option.{option_eq};
@@ -14,7 +14,7 @@ ghost use Rattle.mib_model.specs.Soundness.{IsSound};
 ghost use Rattle.mib_model.specs.Touched.{same_curve, same_slice};
 ghost use Rattle.mib_model.specs.declared.limits.TheConstants.{HELD_MOST};
 ghost use Rattle.param_plan.specs.Slices.{ParamSlice, as_slice, slice_of, slice_for};
-ghost use Rattle.param_set.specs.Beside.{AreKept, are_curves_kept, is_other, now_of, one_if};
+ghost use Rattle.param_set.specs.Beside.{AreAllKept, AreKept, are_curves_kept, is_other, now_of, one_if};
 ghost use Rattle.param_set.specs.Sharing.{is_new};
 
 use crate::same::{same_curs, same_curves, same_ocf, same_ocps};
@@ -181,9 +181,79 @@ fn taken_over<L: Ledger>(
     Ok(Made { params, compiled })
 }
 
-/// The plans of the parameters of a sound book, as `params_of` gives them, beside those of another book. Where both have the
-/// same parameters, no rows are gathered for a plan that is shared. An error is want of memory, after the steps of what was
-/// compiled.
+// Whether all tables that plans of parameters depend on are known to be the same.
+fn are_all_kept(same: TableSet) -> bool
+    ensures { IsTrue result → AreAllKept same }
+{
+    same.pcf && same.cur && are_curves_kept(same) && same.ocf && same.ocp
+}
+
+// Handles of the plans of a base.
+fn handles(alloc: Global, base: &Params) -> Result<Vec<Arc<Param>>, AllocError>
+    ensures { IfOk result (λ handles. map arc_value handles.items ≡ base.now) }
+{
+    let plans = base.plans();
+    let mut handles = Vec::with_capacity(alloc, plans.len())?;
+    for plan in plans {
+        handles.push(plan.clone()?)?;
+    }
+    Ok(handles)
+}
+
+// The plans of a book that has all that plans of parameters depend on of a base.
+fn shared(
+    alloc: Global,
+    base: &Params,
+    old: &Book,
+    same: TableSet,
+    book: &Book,
+) -> Result<Made, AllocError>
+    requires base { base.now ≡ param_slices old.now }
+    requires sound { IsSound book.now }
+    requires same { AreSameIn same old.now book.now }
+    requires kept { AreAllKept same }
+    ensures params { IfOk result (λ made. made.params ≡ param_slices book.now) }
+    ensures compiled { IfOk result (λ made. made.compiled ≡ length (filter (is_new base.now) (param_slices book.now))) }
+    ensures few { IfOk result (λ made. made.compiled ≤ HELD_MOST) }
+    ensures none { length (filter (is_new base.now) (param_slices book.now)) ≡ 0 }
+{
+    let handles = handles(alloc, base)?;
+    Ok(Made {
+        params: Params::new(handles),
+        compiled: 0,
+    })
+}
+
+/// The plans of the parameters of a sound book, as `params_of` gives them, beside those of another book, where tables are
+/// known that have the same rows in both. Where both have the same parameters, no rows are gathered for a plan that is
+/// shared. An error is want of memory, after the steps of what was compiled.
+pub fn params_with<L: Ledger>(
+    alloc: Global,
+    base: &Params,
+    old: &Book,
+    same: TableSet,
+    book: &Book,
+    steps: &mut Steps<L>,
+) -> Result<Made, AllocError>
+    requires base { base.now ≡ param_slices old.now }
+    requires sound { IsSound book.now }
+    requires same { AreSameIn same old.now book.now }
+    ensures params { IfOk result (λ made. made.params ≡ param_slices book.now) }
+    ensures compiled { IfOk result (λ made. made.compiled ≡ length (filter (is_new base.now) (param_slices book.now))) }
+    ensures few { IfOk result (λ made. made.compiled ≤ HELD_MOST) }
+    ensures steps { OnOk result (steps.new ≡ steps.old + length (filter (is_new base.now) (param_slices book.now))) }
+{
+    if are_all_kept(same) {
+        return shared(alloc, base, old, same, book);
+    }
+    if same.pcf {
+        taken_over(alloc, base, old, same, book, steps)
+    } else {
+        params_of(alloc, base, book, steps)
+    }
+}
+
+/// The plans of the parameters of a sound book beside those of another, as `params_with` gives them.
 pub fn params_beside<L: Ledger>(
     alloc: Global,
     base: &Params,
@@ -198,10 +268,5 @@ pub fn params_beside<L: Ledger>(
     ensures few { IfOk result (λ made. made.compiled ≤ HELD_MOST) }
     ensures steps { OnOk result (steps.new ≡ steps.old + length (filter (is_new base.now) (param_slices book.now))) }
 {
-    let same = same_tables(old, book);
-    if same.pcf {
-        taken_over(alloc, base, old, same, book, steps)
-    } else {
-        params_of(alloc, base, book, steps)
-    }
+    params_with(alloc, base, old, same_tables(old, book), book, steps)
 }

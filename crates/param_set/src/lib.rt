@@ -17,7 +17,7 @@ mod set;
 mod sources;
 mod ways;
 
-pub use beside::params_beside;
+pub use beside::{params_beside, params_with};
 pub use laws::{
     all_plans_are_new_to_nothing, new_plans_are_touched, param_slices_are_of_the_database,
     param_slices_have_the_planned_names,

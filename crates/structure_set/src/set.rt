@@ -4,7 +4,7 @@ ghost use Rattle.std.specs.Option.{option_copied};
 ghost use Rattle.mib_model.specs.Database.{no_rows};
 ghost use Rattle.struct_plan.specs.Slices.{deduced_item, structure_found};
 ghost use Rattle.structure_set.specs.Building.{structure_at};
-ghost use Rattle.structure_set.specs.Sets.{new_structures};
+ghost use Rattle.structure_set.specs.Sets.{AreStructuredAlike, new_structures};
 ghost use Rattle.mib_model.specs.declared.limits.TheConstants.{HELD_MOST};
 
 use crate::alike::are_structured_alike;
@@ -146,6 +146,23 @@ impl StructureSet {
             deduced: Arc::new(alloc, Deduced::new(alloc, &[])?)?,
             book: Snapshot::of(&Book::empty(alloc)),
         })
+    }
+
+    /// The set of a book that has the rows of structures and the parameters of this one: all is shared. An error is want of
+    /// memory.
+    pub fn kept(&self, book: &Book) -> Result<Made, AllocError>
+        requires alike { AreStructuredAlike self.now book.now }
+        requires parameters { self.now.pcf ≡ book.now.pcf }
+        ensures set { IfOk result (λ made. made.set ≡ book.now) }
+        ensures compiled { IfOk result (λ made. made.compiled ≡ length (new_structures self.now book.now)) }
+        ensures few { IfOk result (λ made. made.compiled ≤ HELD_MOST) }
+    {
+        let set = StructureSet {
+            structures: Arc::try_clone(&self.structures)?,
+            deduced: Arc::try_clone(&self.deduced)?,
+            book: Snapshot::of(book),
+        };
+        Ok(Made { set, compiled: 0 })
     }
 
     /// The set of a book, beside the set of another: a structure that this has of the same rows and type items is shared

@@ -11,10 +11,11 @@ use Rattle.param_set.specs.Sharing.{is_new}
 use Rattle.structure_set.specs.Sets.{new_structures}
 use Rattle.edition.proofs.sets.PlanSets.new.Goals as goal
 
-pub params_beside-requires : goal.params_beside-requires
-params_beside-requires g c = record {
+pub params_with-requires : goal.params_with-requires
+params_with-requires g c = record {
   base = c.base.invariant.0 ∙ ap param_slices (c.base.view_is ∙ c.requires.base);
   sound = c.requires.sound;
+  same = c.requires.same;
 }
 
 pub returns : goal.returns
