@@ -1,49 +1,37 @@
-ghost use Rattle.std.specs.Prelude.{◌≡◌, ◌++◌, ◌∷◌, [], IfOk, OnOk, map};
+ghost use Rattle.std.specs.Prelude.{◌≡◌, ◌++◌, ◌∷◌, [], ℕ, List, Some, None, IfOk, OnOk, map, if◌then◌else◌};
+ghost use Rattle.std.specs.HashMap.{get};
+ghost use Rattle.std.specs.Option.{option_or};
+ghost use Rattle.std.specs.Str.{bytes_eq};
 ghost use Rattle.mib_model.specs.Parameters as Spec;
 ghost use Rattle.mib_model.specs.Plans.{type_item};
 ghost use Rattle.type_items.specs.Items as Items;
 
 use crate::named::Named;
-use first_rows::{By, FirstRows, Seen};
+use first_rows::Seen;
 use mib_model::{Endian, Name, PcfRow, TypeItem};
 use std::alloc::{AllocError, Global};
+use std::collections::HashMap;
 use std::marker::Model;
-
-// Type items by the names of their parameters.
-#[derive(Drop)]
-struct ByName;
-
-impl By for ByName {
-    ghost use Rattle.std.specs.Prelude.{Some};
-
-    type Row = TypeItem;
-
-    type Key = Name;
-
-    ghost key_of = { λ item. Some item.name };
-
-    fn key(item: &TypeItem) -> Option<Name> {
-        Some(item.name)
-    }
-}
 
 /// The type items of parameters, found by their names. Contracts see the rows of the parameters.
 #[derive(Drop)]
 pub struct TypeItems {
-    items: FirstRows<ByName>,
+    items: HashMap<Name, TypeItem>,
     parameters: Seen<PcfRow>,
 }
 
 impl Model for TypeItems {
-    ghost use Rattle.std.specs.Prelude.{◌≡◌, List, map};
+    ghost use Rattle.std.specs.Prelude.{◌≡◌, ℕ, List};
+    ghost use Rattle.std.specs.HashMap.{get};
+    ghost use Rattle.std.specs.Str.{bytes_eq};
     ghost use Rattle.mib_model.specs.declared.rows.PcfRow.{PcfRow};
-    ghost use Rattle.mib_model.specs.Plans.{type_item};
+    ghost use Rattle.type_items.specs.Items.{item_of};
 
     ghost Value = { List PcfRow };
 
     ghost view = { λ all. all.parameters };
 
-    ghost invariant = { λ all. all.items ≡ map type_item all.parameters };
+    ghost invariant = { λ all. (name : List ℕ) → get bytes_eq all.items name ≡ item_of all.parameters name };
 }
 
 // The octet order that a letter asks for.
@@ -67,11 +55,27 @@ pub fn item_of(row: &PcfRow) -> TypeItem
     }
 }
 
-// The type items of parameters.
-fn items_of(alloc: Global, parameters: &[PcfRow]) -> Result<Vec<TypeItem>, AllocError>
-    ensures { IfOk result (λ items. items.items ≡ map type_item parameters.now) }
+// Notes the type item of a parameter whose name has none yet.
+fn note(items: &mut HashMap<Name, TypeItem>, row: &PcfRow) -> Result<(), AllocError>
+    ensures { OnOk result ((name : List ℕ) → get bytes_eq items.new name ≡ option_or (get bytes_eq items.old name)
+        (if bytes_eq row.now.name name then Some (type_item row.now) else None)) }
 {
-    parameters.iter().map(item_of).collect(alloc)
+    let name = row.name;
+    if !items.contains_key(&name) {
+        items.insert(name, item_of(row))?;
+    }
+    Ok(())
+}
+
+// The type item of the first parameter of each name.
+fn firsts(alloc: Global, parameters: &[PcfRow]) -> Result<HashMap<Name, TypeItem>, AllocError>
+    ensures { IfOk result (λ items. (name : List ℕ) → get bytes_eq items name ≡ Items.item_of parameters.now name) }
+{
+    let mut items = HashMap::with_capacity(alloc, parameters.len())?;
+    for row in parameters {
+        note(&mut items, row)?;
+    }
+    Ok(items)
 }
 
 impl TypeItems {
@@ -79,9 +83,8 @@ impl TypeItems {
     pub fn new(alloc: Global, parameters: &[PcfRow]) -> Result<TypeItems, AllocError>
         ensures { IfOk result (λ items. items ≡ parameters.now) }
     {
-        let items = items_of(alloc, parameters)?;
         Ok(TypeItems {
-            items: FirstRows::new(alloc, &items)?,
+            items: firsts(alloc, parameters)?,
             parameters: Seen::of(alloc, parameters)?,
         })
     }
@@ -90,7 +93,7 @@ impl TypeItems {
     pub fn find(&self, name: &Name) -> Option<TypeItem>
         ensures { result ≡ Items.item_of self.now name.now }
     {
-        self.items.find(name).copied()
+        self.items.get(name).copied()
     }
 
     // Puts that of the parameter of a name behind the others, if there is one.
