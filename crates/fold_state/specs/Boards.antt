@@ -8,6 +8,10 @@ use Rattle.std.specs.declared.sync.Arc.{Arc}
 use Rattle.std.proofs.Common.{Global}
 use Rattle.fold_state.specs.declared.slot.Slot.{Slot}
 use Rattle.mib_model.specs.declared.database.Database.{Database}
+use Rattle.mib_model.specs.Alarms.{Watch}
+use Rattle.mib_model.specs.Checks.{Sample}
+use Rattle.mib_model.specs.declared.check.Change.{Change}
+use Rattle.mib_model.specs.Finish.{kept_after}
 use Rattle.mib_model.specs.Kept.{Kept, Memory, nothing_kept}
 use Rattle.mib_model.specs.Orders.{sorted_by}
 use Rattle.mib_model.specs.Plans.{has_plan, may_precede}
@@ -30,6 +34,10 @@ kept_as slot = record {
   run = slot.alarm.1;
   previous = number_if slot.has_previous slot.previous.count;
 }
+
+-- what is kept and told of a parameter after a sample, where its alarm took a step
+abbrev pub stepped : Kept → Sample → Watch × Option Change → Kept × Option Change
+stepped kept sample step = (kept_after kept sample step.0, step.1)
 
 -- the name of a slot
 abbrev pub slot_name : Slot → List ℕ

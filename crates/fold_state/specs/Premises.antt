@@ -1,5 +1,5 @@
 -- What is promised of the values of a packet, and of plans. [This profile.]
-use Rattle.std.specs.Prelude.{◌≡◌, ◌≤ℤ◌, ℕ, Bool, ◌&&◌, List, ◌++◌, Option, Some, None, option_and_then, if◌then◌else◌, IsSome}
+use Rattle.std.specs.Prelude.{◌≡◌, ◌<◌, ◌≤ℤ◌, ℕ, Bool, ◌&&◌, List, ◌++◌, Option, Some, None, option_and_then, if◌then◌else◌, IsSome, get_or, length}
 use Rattle.std.specs.Cmp.Lexicographic.{pointwise}
 use Rattle.std.specs.List.{All, find, flat_map}
 use Rattle.std.specs.Str.{bytes_eq}
@@ -28,6 +28,11 @@ IsRaw v = (least_raw ≤ℤ v.raw) × (v.raw ≤ℤ greatest_raw)
 -- a board has a slot for a name
 abbrev pub HasSlot : Slots → List ℕ → Type 0
 HasSlot board name = IsSome (place_of board name)
+
+-- places are those of the names of the first so many values, as far as there are places
+abbrev pub AreSeated : Slots → List Value → ℕ → List ℕ → Type 0
+AreSeated board values count seats =
+    (k : ℕ) (v : Value) → k < count → k < length seats → place_of board (get_or values k v).name ≡ Some (get_or seats k 0)
 
 -- the slice of a parameter that has a plan
 abbrev pub planned : Database → PcfRow → Option ParamSlice

@@ -1,4 +1,7 @@
-ghost use Rattle.std.specs.Prelude.{◌≡◌, ◌<◌, [], List, ℕ, Some, get_or, length, map, true, IfOk, IsTrue};
+ghost use Rattle.std.specs.Prelude.{◌≡◌, ◌<◌, [], List, ℕ, Some, get_or, length, map, nat_lt, true, IfOk, IsTrue};
+ghost use Rattle.check_plan.specs.Samples.{sample_of};
+ghost use Rattle.mib_model.specs.Alarms.{alarm};
+ghost use Rattle.mib_model.specs.Finish.{with_alarm};
 ghost use Rattle.mib_model.specs.Kept as Spec;
 ghost use Rattle.mib_model.specs.Kept.{has_number};
 ghost use Rattle.mib_model.specs.declared.packet.Value.{Value};
@@ -7,11 +10,13 @@ ghost use Rattle.fold_state.specs.Boards.{kept_as, memory_of, place_of, plan_nam
 use crate::ahead::read_ahead;
 use crate::guesses::Guesses;
 use crate::slot::Slot;
-use check_plan::Holds;
-use mib_model::{MadeFor, Name};
+use bit_field::MOST_VALUES;
+use check_plan::{Holds, Sample};
+use mib_model::{Change, Class, MadeFor, Name};
 use param_plan::{Param, Params};
 use std::alloc::{AllocError, Global};
 use std::marker::Model;
+use std::mem;
 use std::sync::Arc;
 
 // From so many plans on they don't all lie in the processor's cache, and are read ahead.
@@ -22,6 +27,8 @@ const FAR: usize = 1_024;
 pub struct Board {
     slots: Vec<Slot>,
     guesses: Guesses,
+    // Where the places of a packet's values are noted. It says nothing between two packets.
+    seats: Vec<usize>,
     // Made of what was read ahead; it says nothing.
     ahead: usize,
 }
@@ -32,6 +39,7 @@ impl Drop for Board {
         let Board {
             slots: _slots,
             guesses: _guesses,
+            seats: _seats,
             ahead: _,
         } = self;
     }
@@ -71,6 +79,7 @@ impl Board {
         Ok(Board {
             slots,
             guesses,
+            seats: vec![in alloc; 0; MOST_VALUES as usize]?,
             ahead: 0,
         })
     }
@@ -83,6 +92,7 @@ impl Board {
         Board {
             slots: Vec::new(alloc),
             guesses: Guesses::empty(alloc),
+            seats: Vec::new(alloc),
             ahead: 0,
         }
     }
@@ -160,6 +170,28 @@ impl Board {
         at
     }
 
+    /// Takes the seats out, so that they can be noted beside the slots.
+    pub(crate) fn take_seats(&mut self) -> Vec<usize>
+        ensures { self.new ≡ self.old }
+    {
+        let none = Vec::new(*self.seats.allocator());
+        mem::replace(&mut self.seats, none)
+    }
+
+    /// Gives the seats back.
+    pub(crate) fn give_seats(&mut self, seats: Vec<usize>)
+        ensures { self.new ≡ self.old }
+    {
+        self.seats = seats;
+    }
+
+    /// Whether there is a slot at a place.
+    pub(crate) fn has_seat(&self, at: usize) -> bool
+        ensures { result ≡ nat_lt at (length self.now.names) }
+    {
+        at < self.slots.len()
+    }
+
     /// What is kept at a place.
     pub(crate) fn slot(&self, at: usize) -> &Slot
         requires { at < length self.now.names }
@@ -176,6 +208,24 @@ impl Board {
             → memory_of self.new ≡ Spec.entered (memory_of self.old) v }
     {
         self.slots[at].enter(raw);
+    }
+
+    /// Takes a step of the alarm of the name at a place, after a sample of a class where so many in a row are spoken of, and
+    /// gives what is told of it.
+    pub(crate) fn step(
+        &mut self,
+        at: usize,
+        class: Class,
+        repeats: u8,
+        sample: Sample,
+    ) -> Option<Change>
+        requires { at < length self.old.names }
+        ensures names { self.new.names ≡ self.old.names }
+        ensures stepped { (name : List ℕ) → place_of self.old name ≡ Some at
+            → (memory_of self.new, result) ≡ with_alarm (memory_of self.old) name (sample_of sample.entry)
+            (alarm ((memory_of self.old name).spoken, (memory_of self.old name).run) class repeats) }
+    {
+        self.slots[at].step(class, repeats, sample)
     }
 
     /// Keeps something else at a place.

@@ -36,12 +36,8 @@ impl Board {
         ensures checked { (name : List ℕ) → place_of self.old name ≡ Some at
             → (memory_of self.new, result) ≡ checked_in (memory_of self.old) name checks.now (sample_of sample.entry) }
     {
-        let mut slot = *self.slot(at);
-        let class = checks.class_of(sample, slot.previous(), self);
-        let change = slot.alarm.step(class, checks.nbchck());
-        slot.check(sample);
-        self.set_slot(at, slot);
-        change
+        let class = checks.class_of(sample, self.slot(at).previous(), self);
+        self.step(at, class, checks.nbchck(), sample)
     }
 
     /// Checks a value of the name at a place by its plan, where it has a number and the plan has a check.

@@ -1,8 +1,8 @@
-ghost use Rattle.std.specs.Prelude.{◌≡◌, ◌≤◌, ◌<◌, ◌+◌, ◌*◌, ◌++◌, List, ℕ, Some, length, option_map, take, true};
+ghost use Rattle.std.specs.Prelude.{◌≡◌, ◌≤◌, ◌<◌, ◌+◌, ◌*◌, ◌++◌, List, ℕ, Some, length, get_or, option_map, take, true};
 ghost use Rattle.std.specs.List.{All, flat_map};
 ghost use Rattle.std.specs.Option.{option_copied};
 ghost use Rattle.fold_state.specs.Boards.{memory_of, place_of, plan_names};
-ghost use Rattle.fold_state.specs.Premises.{AreFinished, Fits, HasSlot, IsFinished, IsParamsOf, IsRaw, IsSliceOf};
+ghost use Rattle.fold_state.specs.Premises.{AreFinished, AreSeated, Fits, HasSlot, IsFinished, IsParamsOf, IsRaw, IsSliceOf};
 ghost use Rattle.mib_model.specs.AlarmTexts.{change_text_of};
 ghost use Rattle.mib_model.specs.Bits.{is_inside};
 ghost use Rattle.mib_model.specs.CalibrationViews.{calibrated_as};
@@ -87,30 +87,29 @@ impl Board {
     fn finish_by<'a>(
         &mut self,
         params: &'a Params,
-        place: Option<usize>,
+        seat: usize,
         value: &Value,
     ) -> (Tail<'a>, Option<Change>)
-        requires place { place ≡ place_of self.old value.now.name }
         ensures names { self.new.names ≡ self.old.names }
-        ensures finished { (db : Database) → IsParamsOf db params.now → self.old.names ≡ plan_names params.now → HasSlot self.old value.now.name →
-            IsRaw value.now
+        ensures finished { (db : Database) → IsParamsOf db params.now → self.old.names ≡ plan_names params.now
+            → place_of self.old value.now.name ≡ Some seat → IsRaw value.now
             → (memory_of self.new, record { value = value.now; tail = tail_as result.0; change = result.1 }) ≡ Spec.finished db (memory_of self.old) value.now }
     {
-        let Some(at) = place else {
-            return (Tail::Plain, None);
-        };
         let plans = params.plans();
-        if at >= plans.len() {
+        if seat >= plans.len() {
             return (Tail::Plain, None);
         }
-        self.finish_at(at, &plans[at], value)
+        if !self.has_seat(seat) {
+            return (Tail::Plain, None);
+        }
+        self.finish_at(seat, &plans[seat], value)
     }
 
-    // Finishes a value, whose place is looked for where a guess says, and appends its line and that of what its check tells.
+    // Finishes a value, whose place is this, and appends its line and that of what its check tells.
     fn finish_value(
         &mut self,
         params: &Params,
-        near: usize,
+        seat: usize,
         value: &Value,
         packet: &[u8],
         out: &mut Lines,
@@ -118,22 +117,35 @@ impl Board {
         requires inside { is_inside packet.now value.now.at value.now.shape.width ≡ true }
         requires room { length out.old + VALUE_ROOM + LINE_MOST ≤ LINES_ROOM }
         ensures names { self.new.names ≡ self.old.names }
-        ensures finished { (db : Database) → IsParamsOf db params.now → self.old.names ≡ plan_names params.now → HasSlot self.old value.now.name →
-            IsRaw value.now
+        ensures finished { (db : Database) → IsParamsOf db params.now → self.old.names ≡ plan_names params.now
+            → place_of self.old value.now.name ≡ Some seat → IsRaw value.now
             → IsFinished db packet.now value.now (memory_of self.old) (memory_of self.new) out.old out.new }
         ensures room { length out.new ≤ length out.old + (VALUE_ROOM + NOTE_ROOM) }
     {
-        let place = self.place_near(near, &value.name);
-        let (tail, change) = self.finish_by(params, place, value);
+        let (tail, change) = self.finish_by(params, seat, value);
         value_line(value, packet, &tail, out);
         add_change(value, change, out);
     }
 
-    // Finishes values in their order, and appends their lines. The guesses of their places begin here.
+    // The place of the k-th value, which is noted where there are seats enough.
+    fn seat_of(&self, seats: &[usize], k: usize, value: &Value) -> usize
+        ensures { (k < length seats.now → place_of self.now value.now.name ≡ Some (get_or seats.now k 0)) → HasSlot self.now value.now.name
+            → place_of self.now value.now.name ≡ Some result }
+    {
+        if k < seats.len() {
+            return seats[k];
+        }
+        match self.place(&value.name) {
+            Some(at) => at,
+            None => usize::MAX,
+        }
+    }
+
+    // Finishes values in their order, whose places were noted, and appends their lines.
     fn finish_all(
         &mut self,
         params: &Params,
-        first: usize,
+        seats: &[usize],
         values: &[Value],
         packet: &[u8],
         out: &mut Lines,
@@ -142,14 +154,14 @@ impl Board {
         requires inside { All (λ v. is_inside packet.now v.at v.shape.width ≡ true) values.now }
         requires room { length out.old + most_values * (VALUE_ROOM + NOTE_ROOM) + LINE_MOST ≤ LINES_ROOM }
         ensures names { self.new.names ≡ self.old.names }
-        ensures finished { (db : Database) → Fits db params.now self.old values.now
+        ensures finished { (db : Database) → Fits db params.now self.old values.now → AreSeated self.old values.now (length values.now) seats.now
             → AreFinished db packet.now values.now (memory_of self.old) (memory_of self.new) out.old out.new }
         ensures room { length out.new ≤ length out.old + most_values * (VALUE_ROOM + NOTE_ROOM) }
     {
-        let mut near = first;
-        for value in values {
-            self.finish_value(params, near, value, packet, out);
-            near = near.saturating_add(1);
+        for k in 0..values.len() {
+            let value = &values[k];
+            let seat = self.seat_of(seats, k, value);
+            self.finish_value(params, seat, value, packet, out);
         }
     }
 
@@ -183,8 +195,10 @@ impl Board {
     {
         head_line(seen.number, seen.header, seen.found, seen.title, out);
         let first = self.begin(params, seen);
-        self.enter_all(seen.values, first);
-        self.finish_all(params, first, seen.values, seen.packet, out);
+        let mut seats = self.take_seats();
+        self.enter_all(seen.values, first, &mut seats);
+        self.finish_all(params, &seats, seen.values, seen.packet, out);
+        self.give_seats(seats);
         ended_line(seen.ended, out);
     }
 }

@@ -3,11 +3,12 @@ ghost use Rattle.std.specs.Prelude.{◌≡◌, Some, option_map};
 ghost use Rattle.std.specs.Option.{option_eq};
 ghost use Rattle.std.specs.Ordering.{int_eq};
 ghost use Rattle.check_plan.specs.Samples.{count_of, sample_of};
+ghost use Rattle.mib_model.specs.Alarms.{alarm};
 ghost use Rattle.mib_model.specs.Finish.{previous_after};
-ghost use Rattle.fold_state.specs.Boards.{kept_as, vacant};
+ghost use Rattle.fold_state.specs.Boards.{kept_as, stepped, vacant};
 
 use check_plan::{Alarm, Sample};
-use mib_model::{Eng, Name};
+use mib_model::{Change, Class, Eng, Name};
 
 /// What is kept of the parameter of a name: its latest raw number and its last checked number, where there are such, and its
 /// alarm. The name lies beside them, and they have few octets, since those of many parameters are asked for in any order.
@@ -79,9 +80,24 @@ impl Slot {
         }
     }
 
-    /// Keeps a checked number, where a sample is one.
-    pub fn check(&mut self, sample: Sample)
-        ensures { kept_as self.new ≡ (record (kept_as self.old) { previous = previous_after (sample_of sample.entry) (kept_as self.old).previous }) }
+    /// Takes a step of the alarm after a sample of a class, where so many in a row are spoken of, keeps the sample, and gives
+    /// what is told of it.
+    #[inline(always)]
+    pub fn step(&mut self, class: Class, repeats: u8, sample: Sample) -> Option<Change>
+        ensures kept { (kept_as self.new, result) ≡ stepped (kept_as self.old) (sample_of sample.entry)
+            (alarm ((kept_as self.old).spoken, (kept_as self.old).run) class repeats) }
+        ensures name { self.new.name ≡ self.old.name }
+    {
+        let change = self.alarm.step(class, repeats);
+        self.check(sample);
+        change
+    }
+
+    // Keeps a checked number, where a sample is one.
+    fn check(&mut self, sample: Sample)
+        ensures kept { kept_as self.new ≡ (record (kept_as self.old) { previous = previous_after (sample_of sample.entry) (kept_as self.old).previous }) }
+        ensures name { self.new.name ≡ self.old.name }
+        ensures alarm { self.new.alarm ≡ self.old.alarm }
     {
         if let Sample::Number(number) = sample {
             self.previous = number;
