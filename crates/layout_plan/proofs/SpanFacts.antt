@@ -9,7 +9,7 @@ use Rattle.bit_field.specs.declared.values.Values.{Values}
 use Rattle.bit_field.specs.Taken.{taken}
 use Rattle.layout_plan.specs.declared.span.Span.{Span}
 use Rattle.layout_plan.specs.Readings.{Reads, whole_read}
-use Rattle.layout_plan.specs.Spans.{place_in, first_places, span_places, spans_places}
+use Rattle.layout_plan.specs.Spans.{first_of, place_in, first_places, span_places, spans_places}
 
 -- no places
 pub reads-none : (packet : List ℕ) (values : Values) → Reads packet [] None values values
@@ -38,7 +38,7 @@ span_places-split span k few =
     ap split (sym (take-map-range_with_len (place_in span) 0 span.count k few)) ∙ take-append-drop k (span_places span)
 
 -- what stands at a place of its own is the next of a span
-pub reads-next : (packet : List ℕ) (span : Span) (k at : ℕ) (ended : Option Ended) (old middle new : Values) → Reads packet (first_places span k) None old middle → at ≡ span.at + k * span.step → Reads packet (record { name = span.name; at = at; shape = span.shape } ∷ []) ended middle new → Reads packet (first_places span (k + 1)) ended old new
+pub reads-next : (packet : List ℕ) (span : Span) (k at : ℕ) (ended : Option Ended) (old middle new : Values) → Reads packet (first_places span k) None old middle → at ≡ first_of span + k * span.step → Reads packet (record { name = span.name; at = at; shape = span.shape } ∷ []) ended middle new → Reads packet (first_places span (k + 1)) ended old new
 reads-next packet span k at ended old middle new before is here =
     let read : List Place → Type 0 = λ places. Reads packet places ended old new in
     let placed : ℕ → Type 0 = λ n. Reads packet (record { name = span.name; at = n; shape = span.shape } ∷ []) ended middle new in

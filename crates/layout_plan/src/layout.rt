@@ -1,11 +1,10 @@
-ghost use Rattle.std.specs.Prelude.{◌≡◌, ◌≤◌, ◌<◌, ◌+◌, ◌*◌, ◌^◌, ◌++◌, [], Option, Some, None, option_map, option_and_then, length, IfOk, IfSome, OnOk, OnErr};
-ghost use Rattle.std.specs.List.{All};
+ghost use Rattle.std.specs.Prelude.{◌≡◌, ◌≤◌, ◌+◌, ◌++◌, [], Option, Some, None, option_map, option_and_then, length, IfOk, IfSome, OnOk, OnErr};
 ghost use Rattle.std.specs.Option.{option_copied};
 ghost use Rattle.mib_model.specs.Fixed.{most_values, occurrences, values_at};
 ghost use Rattle.mib_model.specs.Layouts.{item_named, item_encoding, layout_places};
 ghost use Rattle.bit_field.specs.Taken.{taken};
 ghost use Rattle.layout_plan.specs.Readings.{Reads};
-ghost use Rattle.layout_plan.specs.Spans.{span_places, spans_places, IsNear};
+ghost use Rattle.layout_plan.specs.Spans.{span_places, spans_places};
 
 use crate::items::ByName;
 use crate::span::Span;
@@ -28,18 +27,16 @@ pub struct Layout {
 
 impl Model for Layout {
     ghost use Rattle.std.specs.Prelude.{◌≡◌};
-    ghost use Rattle.std.specs.List.{All};
     ghost use Rattle.mib_model.specs.Layouts.{layout_places};
     ghost use Rattle.layout_plan.specs.Slices.{LayoutRows};
     ghost use Rattle.layout_plan.specs.Readings.{Reads};
-    ghost use Rattle.layout_plan.specs.Spans.{spans_places, IsNear};
+    ghost use Rattle.layout_plan.specs.Spans.{spans_places};
 
     ghost Value = { LayoutRows };
 
     ghost view = { λ layout. record { pid = layout.pid.value; plfs = layout.plfs.value.items; types = layout.types.value.items } };
 
-    ghost invariant = { λ layout. (spans_places layout.spans.items ≡ layout_places layout.plfs.value.items layout.types.value.items)
-        × All IsNear layout.spans.items };
+    ghost invariant = { λ layout. spans_places layout.spans.items ≡ layout_places layout.plfs.value.items layout.types.value.items };
 }
 
 // What the bits of a measured parameter's values are, by its type item.
@@ -53,34 +50,24 @@ fn shape_by(item: Option<&TypeItem>) -> Option<Shape>
     shape_of(item.ptc, item.pfc, item.endian)
 }
 
-// The first bit of a place: an octet and a bit in it.
-fn first_bit(octet: u32, bit: u8) -> u64
-    ensures value { result ≡ 8 * octet + bit }
-    ensures near { result < 2 ^ 63 }
-{
-    8 * u64::from(octet) + u64::from(bit)
-}
-
 // The occurrences of a row whose values have this shape.
 fn span_of(row: &PlfRow, shape: Shape) -> Span
-    ensures places { span_places result ≡ occurrences row.now (Some shape) }
-    ensures near { IsNear result }
+    ensures { span_places result ≡ occurrences row.now (Some shape) }
 {
     Span {
-        name: row.name,
-        at: first_bit(row.offby, row.offbi),
+        octet: row.offby,
         step: row.lgocc,
         count: row.nbocc,
         shape,
+        bit: row.offbi,
+        name: row.name,
     }
 }
 
 // Adds the occurrences of a row, if its parameter has values.
 fn add_row(spans: &mut Vec<Span>, row: &PlfRow, types: &FirstRows<ByName>) -> Result<(), AllocError>
-    requires { All IsNear spans.old.items }
-    ensures places { OnOk result (spans_places spans.new.items ≡ spans_places spans.old.items
+    ensures { OnOk result (spans_places spans.new.items ≡ spans_places spans.old.items
         ++ occurrences row.now (option_and_then item_encoding (item_named types.now row.now.name))) }
-    ensures near { OnOk result (All IsNear spans.new.items) }
 {
     match shape_by(types.find(&row.name)) {
         Some(shape) => spans.push(span_of(row, shape))?,
@@ -95,8 +82,7 @@ fn spans_of(
     plfs: &[PlfRow],
     types: &FirstRows<ByName>,
 ) -> Result<Vec<Span>, AllocError>
-    ensures places { IfOk result (λ spans. spans_places spans.items ≡ layout_places plfs.now types.now) }
-    ensures near { IfOk result (λ spans. All IsNear spans.items) }
+    ensures { IfOk result (λ spans. spans_places spans.items ≡ layout_places plfs.now types.now) }
 {
     let mut spans = Vec::with_capacity(alloc, plfs.len())?;
     for row in plfs {
@@ -109,7 +95,6 @@ fn spans_of(
 fn read_spans(spans: &[Span], packet: &[u8], values: &mut Values) -> Option<Ended>
     requires slots { length values.old.slots.now ≡ most_values }
     requires used { values.old.used ≤ most_values }
-    requires near { All IsNear spans.now }
     ensures reads { Reads packet.now (spans_places spans.now) result values.old values.new }
     ensures slots { length values.new.slots.now ≡ most_values }
     ensures used { values.new.used ≤ most_values }

@@ -13,7 +13,7 @@ use type_items::TypeItems;
 /// The places of a book's parameters, and their type items. Contracts see the book's database.
 pub struct Sources<'a> {
     places: Places<'a>,
-    items: TypeItems,
+    items: TypeItems<'a>,
     book: Snapshot<Book>,
 }
 

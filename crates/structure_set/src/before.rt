@@ -35,7 +35,7 @@ pub fn same_rows(old: &[VpdRow], new: &[VpdRow]) -> bool
 /// A base, with the rows that its structures were compiled of. Contracts see its database.
 pub struct Before<'a> {
     set: &'a StructureSet,
-    sources: Sources,
+    sources: Sources<'a>,
 }
 
 /// By hand, so that whoever lets one go proves one call.
@@ -61,7 +61,11 @@ impl<'a> Model for Before<'a> {
 
 impl<'a> Before<'a> {
     /// A set, and the book that it is of. An error is want of memory.
-    pub fn new(alloc: Global, set: &'a StructureSet, book: &Book) -> Result<Before<'a>, AllocError>
+    pub fn new(
+        alloc: Global,
+        set: &'a StructureSet,
+        book: &'a Book,
+    ) -> Result<Before<'a>, AllocError>
         requires { set.now ≡ book.now }
         ensures { IfOk result (λ before. before ≡ book.now) }
     {

@@ -34,7 +34,7 @@ pub struct Building {
 fn plan_for<L: Ledger>(
     alloc: Global,
     before: &Before<'_>,
-    new: &Sources,
+    new: &Sources<'_>,
     tpsd: i128,
     steps: &mut Steps<L>,
 ) -> Result<Plan, AllocError>
@@ -63,7 +63,7 @@ impl Building {
         &mut self,
         alloc: Global,
         before: &Before<'_>,
-        new: &Sources,
+        new: &Sources<'_>,
         tpsd: u32,
         steps: &mut Steps<L>,
     ) -> Result<(), AllocError>
@@ -88,7 +88,7 @@ impl Building {
 pub fn build<L: Ledger>(
     alloc: Global,
     before: &Before<'_>,
-    new: &Sources,
+    new: &Sources<'_>,
     rows: &[VpdRow],
     steps: &mut Steps<L>,
 ) -> Result<Building, AllocError>

@@ -62,7 +62,7 @@ fn note(items: &mut HashMap<i128, TypeItem>, row: &PcfRow) -> Result<(), AllocEr
 fn firsts(alloc: Global, parameters: &[PcfRow]) -> Result<HashMap<i128, TypeItem>, AllocError>
     ensures { IfOk result (λ items. (pid : ℤ) → get int_eq items pid ≡ item_numbered parameters.now pid) }
 {
-    let mut items = HashMap::with_capacity(alloc, parameters.len())?;
+    let mut items = HashMap::new(alloc);
     for row in parameters {
         note(&mut items, row)?;
     }

@@ -15,14 +15,14 @@ use std::snapshot::Snapshot;
 use type_items::TypeItems;
 
 /// The rows of a book's structures by POS, and the type items of its parameters. Contracts see the book's database.
-pub struct Sources {
+pub struct Sources<'a> {
     rows: RowGroups<ByStructure>,
-    items: TypeItems,
+    items: TypeItems<'a>,
     book: Snapshot<Book>,
 }
 
 /// By hand, so that whoever lets one go proves one call.
-impl Drop for Sources {
+impl Drop for Sources<'_> {
     fn drop(self) {
         let Sources {
             rows: _rows,
@@ -32,7 +32,7 @@ impl Drop for Sources {
     }
 }
 
-impl Model for Sources {
+impl<'a> Model for Sources<'a> {
     ghost use Rattle.std.specs.Prelude.{◌≡◌, ℤ, pos, Some, filter};
     ghost use Rattle.std.specs.Option.{option_eq};
     ghost use Rattle.std.specs.Ordering.{int_eq};
@@ -57,9 +57,9 @@ fn by_pos(alloc: Global, rows: &[VpdRow]) -> Result<Vec<VpdRow>, AllocError>
     Ok(sorted)
 }
 
-impl Sources {
+impl<'a> Sources<'a> {
     /// Those of a book. An error is want of memory.
-    pub fn new(alloc: Global, book: &Book) -> Result<Sources, AllocError>
+    pub fn new(alloc: Global, book: &'a Book) -> Result<Sources<'a>, AllocError>
         ensures { IfOk result (λ sources. sources ≡ book.now) }
     {
         let sorted = by_pos(alloc, book.vpd())?;

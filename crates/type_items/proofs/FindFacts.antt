@@ -1,10 +1,8 @@
 -- The type item of a name among the type items of parameters.
-use Rattle.std.proofs.Common.{◌≡◌, ℕ, ◌+◌, ◌<◌, Bool, true, false, List, [], ◌∷◌, length, take, get_or, map, Option, Some, None, refl, ap, ◌∙◌, if◌then◌else◌}
+use Rattle.std.proofs.Common.{◌≡◌, ℕ, Bool, true, false, List, [], ◌∷◌, map, Option, Some, refl, if◌then◌else◌}
 use Rattle.std.specs.Prelude.{option_and_then}
 use Rattle.std.specs.List.{find}
-use Rattle.std.specs.Option.{option_or}
 use Rattle.std.specs.Str.{bytes_eq}
-use Rattle.first_rows.proofs.FindFacts.{find-more}
 use Rattle.mib_model.specs.declared.plan.TypeItem.{TypeItem}
 use Rattle.mib_model.specs.declared.rows.PcfRow.{PcfRow}
 use Rattle.mib_model.specs.Plans.{type_item}
@@ -20,17 +18,3 @@ one-more false row item rest is = is
 pub find-item : (name : List ℕ) (pcfs : List PcfRow) → find (λ (item : TypeItem). bytes_eq item.name name) (map type_item pcfs) ≡ item_of pcfs name
 find-item name [] = refl
 find-item name (row ∷ pcfs) = one-more (bytes_eq row.name name) row _ _ (find-item name pcfs)
-
--- the type item of one parameter more, where none was found before it
-item-or : (found : Option PcfRow) (b : Bool) (row : PcfRow)
-    → option_and_then (λ r. Some (type_item r)) (option_or found (if b then Some row else None)) ≡ option_or (option_and_then (λ r. Some (type_item r)) found) (if b then Some (type_item row) else None)
-item-or None true row = refl
-item-or None false row = refl
-item-or (Some other) b row = refl
-
--- one parameter more
-pub item-more : (name : List ℕ) (pcfs : List PcfRow) (i : ℕ) (row : PcfRow) → i < length pcfs → row ≡ get_or pcfs i row
-    → item_of (take (i + 1) pcfs) name ≡ option_or (item_of (take i pcfs) name) (if bytes_eq row.name name then Some (type_item row) else None)
-item-more name pcfs i row below is =
-    let p : PcfRow → Bool = λ r. bytes_eq r.name name in
-    ap (option_and_then (λ (r : PcfRow). Some (type_item r))) (find-more p pcfs i row below is) ∙ item-or (find p (take i pcfs)) (p row) row

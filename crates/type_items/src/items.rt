@@ -3,35 +3,67 @@ ghost use Rattle.std.specs.HashMap.{get};
 ghost use Rattle.std.specs.Option.{option_or};
 ghost use Rattle.std.specs.Str.{bytes_eq};
 ghost use Rattle.mib_model.specs.Parameters as Spec;
+ghost use Rattle.mib_model.specs.Parameters.{parameter};
 ghost use Rattle.mib_model.specs.Plans.{type_item};
 ghost use Rattle.type_items.specs.Items as Items;
 
 use crate::named::Named;
-use first_rows::Seen;
 use mib_model::{Endian, Name, PcfRow, TypeItem};
 use std::alloc::{AllocError, Global};
 use std::collections::HashMap;
 use std::marker::Model;
 
-/// The type items of parameters, found by their names. Contracts see the rows of the parameters.
+// A parameter, where it stands. Contracts see its row.
 #[derive(Drop)]
-pub struct TypeItems {
-    items: HashMap<Name, TypeItem>,
-    parameters: Seen<PcfRow>,
+struct Standing<'a> {
+    row: &'a PcfRow,
 }
 
-impl Model for TypeItems {
+impl<'a> Model for Standing<'a> {
+    ghost use Rattle.mib_model.specs.declared.rows.PcfRow.{PcfRow};
+
+    ghost Value = { PcfRow };
+
+    ghost view = { λ parameter. parameter.row.now };
+}
+
+impl<'a> Standing<'a> {
+    // What a plan depends on of it.
+    fn item(&self) -> TypeItem
+        ensures { result ≡ type_item self.now }
+    {
+        item_of(self.row)
+    }
+}
+
+/// Parameters where they stand, found by their names, for their type items. Contracts see the rows of the parameters.
+pub struct TypeItems<'a> {
+    firsts: HashMap<Name, Standing<'a>>,
+    parameters: &'a [PcfRow],
+}
+
+/// By hand, so that whoever lets one go proves one call.
+impl Drop for TypeItems<'_> {
+    fn drop(self) {
+        let TypeItems {
+            firsts: _firsts,
+            parameters: _,
+        } = self;
+    }
+}
+
+impl<'a> Model for TypeItems<'a> {
     ghost use Rattle.std.specs.Prelude.{◌≡◌, ℕ, List};
     ghost use Rattle.std.specs.HashMap.{get};
     ghost use Rattle.std.specs.Str.{bytes_eq};
+    ghost use Rattle.mib_model.specs.Parameters.{parameter};
     ghost use Rattle.mib_model.specs.declared.rows.PcfRow.{PcfRow};
-    ghost use Rattle.type_items.specs.Items.{item_of};
 
     ghost Value = { List PcfRow };
 
-    ghost view = { λ all. all.parameters };
+    ghost view = { λ all. all.parameters.now };
 
-    ghost invariant = { λ all. (name : List ℕ) → get bytes_eq all.items name ≡ item_of all.parameters name };
+    ghost invariant = { λ all. (name : List ℕ) → get bytes_eq all.firsts name ≡ parameter all.parameters.now name };
 }
 
 // The octet order that a letter asks for.
@@ -55,37 +87,40 @@ pub fn item_of(row: &PcfRow) -> TypeItem
     }
 }
 
-// Notes the type item of a parameter whose name has none yet.
-fn note(items: &mut HashMap<Name, TypeItem>, row: &PcfRow) -> Result<(), AllocError>
-    ensures { OnOk result ((name : List ℕ) → get bytes_eq items.new name ≡ option_or (get bytes_eq items.old name)
-        (if bytes_eq row.now.name name then Some (type_item row.now) else None)) }
+// Notes a parameter whose name has none yet.
+fn note<'a>(firsts: &mut HashMap<Name, Standing<'a>>, row: &'a PcfRow) -> Result<(), AllocError>
+    ensures { OnOk result ((name : List ℕ) → get bytes_eq firsts.new name ≡ option_or (get bytes_eq firsts.old name)
+        (if bytes_eq row.now.name name then Some row.now else None)) }
 {
     let name = row.name;
-    if !items.contains_key(&name) {
-        items.insert(name, item_of(row))?;
+    if !firsts.contains_key(&name) {
+        firsts.insert(name, Standing { row })?;
     }
     Ok(())
 }
 
-// The type item of the first parameter of each name.
-fn firsts(alloc: Global, parameters: &[PcfRow]) -> Result<HashMap<Name, TypeItem>, AllocError>
-    ensures { IfOk result (λ items. (name : List ℕ) → get bytes_eq items name ≡ Items.item_of parameters.now name) }
+// The first parameter of each name.
+fn firsts<'a>(
+    alloc: Global,
+    parameters: &'a [PcfRow],
+) -> Result<HashMap<Name, Standing<'a>>, AllocError>
+    ensures { IfOk result (λ firsts. (name : List ℕ) → get bytes_eq firsts name ≡ parameter parameters.now name) }
 {
-    let mut items = HashMap::with_capacity(alloc, parameters.len())?;
+    let mut firsts = HashMap::with_capacity(alloc, parameters.len())?;
     for row in parameters {
-        note(&mut items, row)?;
+        note(&mut firsts, row)?;
     }
-    Ok(items)
+    Ok(firsts)
 }
 
-impl TypeItems {
+impl<'a> TypeItems<'a> {
     /// Those of some parameters. An error is want of memory.
-    pub fn new(alloc: Global, parameters: &[PcfRow]) -> Result<TypeItems, AllocError>
+    pub fn new(alloc: Global, parameters: &'a [PcfRow]) -> Result<TypeItems<'a>, AllocError>
         ensures { IfOk result (λ items. items ≡ parameters.now) }
     {
         Ok(TypeItems {
-            items: firsts(alloc, parameters)?,
-            parameters: Seen::of(alloc, parameters)?,
+            firsts: firsts(alloc, parameters)?,
+            parameters,
         })
     }
 
@@ -93,7 +128,7 @@ impl TypeItems {
     pub fn find(&self, name: &Name) -> Option<TypeItem>
         ensures { result ≡ Items.item_of self.now name.now }
     {
-        self.items.get(name).copied()
+        Some(self.firsts.get(name)?.item())
     }
 
     // Puts that of the parameter of a name behind the others, if there is one.

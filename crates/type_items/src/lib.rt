@@ -3,7 +3,7 @@
 //! `TypeItems` gives what layouts and structures depend on of the parameters that their rows name: for a row or for all
 //! rows of a plan, with one probe a name. `same_items` tells whether two lists of them are equal, as a plan is kept
 //! where they are, and `same_types` whether those of two lists of parameters are. It rests on mib_model for definitions and
-//! types and on first_rows for rows by their keys.
+//! types; its proof cites a law of first_rows.
 #![tactic(auto)]
 
 mod alike;

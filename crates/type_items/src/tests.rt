@@ -41,7 +41,8 @@ fn row(name: Name, pos: u16) -> VpdRow {
 fn a_name_without_a_parameter_has_no_type_item(rt: HostRuntime) -> Result<(), Fail> {
     let a = name(&rt, b"A");
     let b = name(&rt, b"B");
-    let items = TypeItems::new(rt.alloc(), &[parameter(a, 12), parameter(a, 4)])?;
+    let parameters = [parameter(a, 12), parameter(a, 4)];
+    let items = TypeItems::new(rt.alloc(), &parameters)?;
     let found = items.of_rows(rt.alloc(), &[row(b, 1), row(a, 2)])?;
     let first = item_of(&parameter(a, 12));
     assert_eq!(&rt; found.len(), 1);
