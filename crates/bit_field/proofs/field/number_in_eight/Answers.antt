@@ -1,4 +1,4 @@
-use Rattle.std.proofs.Common.{◌≡◌, ◌<◌, ◌-◌, ◌*◌, ◌/◌, ◌%◌, ◌^◌, ℕ, ◌∙◌, ap, sym, subst, arith}
+use Rattle.std.proofs.Common.{◌<◌, ◌-◌, ◌*◌, ◌/◌, ◌%◌, ◌^◌, ℕ, ◌∙◌, ap, sym, subst, arith}
 use Rattle.bit_field.proofs.BitFacts.{bits-below, bits-moved}
 use Rattle.bit_field.proofs.field.number_in_eight.Goals as goal
 
