@@ -3,12 +3,20 @@ use Rattle.std.proofs.Common.{◌≡◌, ℕ, zero, suc, ◌+◌, ◌*◌, ◌/�
 use Rattle.std.proofs.Math.Numerals.{add-one}
 use Rattle.std.proofs.Math.Nat.{pow-succ', mul-le-mul_right, pow-le-pow_right, add_comm}
 use Rattle.std.proofs.lemmas.Nat.{shl_whole}
-use Rattle.mib_model.specs.Bits.{bits, little_bits}
-use Rattle.bit_field.proofs.BitFacts.{bits-drop, octets_power}
+use Rattle.mib_model.specs.declared.shape.Order.{Order}
+use Rattle.mib_model.specs.declared.shape.Order.TheVariants.{Big, Little}
+use Rattle.mib_model.specs.Bits.{bits, little_bits, field_number}
+use Rattle.bit_field.proofs.BitFacts.{bits-drop, bits-none, octets_power}
 
 pub little-none : (octets : List ℕ) (at : ℕ) → 0 ≡ little_bits octets at 0
 unfolding little_bits
 little-none octets at = refl
+
+-- a field without bits
+pub field-none : (order : Order) (octets : List ℕ) (at width : ℕ) → width ≡ 0 → 0 ≡ field_number order octets at width
+unfolding little_bits
+field-none Big octets at width none = bits-none octets at width none
+field-none Little octets at width none = rw none refl
 
 -- an octet at its weight
 pub octet_shifted : (octet i : ℕ) → octet < 2 ^ 8 → i < 8 → octet * 2 ^ (8 * i) % 2 ^ 64 ≡ octet * 256 ^ i

@@ -1,15 +1,28 @@
 // Numbers of fields.
-ghost use Rattle.std.specs.Prelude.{◌≡◌, ◌<◌, ◌≤◌, ◌+◌, ◌*◌, ◌/◌, ◌%◌, ◌^◌, ◌-ℤ◌, pos, length, Some, None, IfSome, if◌then◌else◌};
+ghost use Rattle.std.specs.Prelude.{◌≡◌, ◌<◌, ◌≤◌, ◌+◌, ◌*◌, ◌/◌, ◌%◌, ◌^◌, ◌-◌, ◌-ℤ◌, pos, nat_le, length, Some, None, IfSome, if◌then◌else◌};
 ghost use Rattle.mib_model.specs.Bits as Spec;
 ghost use Rattle.mib_model.specs.Bits.{bits, signed_number};
 
 use byteorder::{BigEndian, ByteOrder};
 
-/// Whether so many bits from a place on are in the octets.
-pub fn is_inside(octets: &[u8], at: u64, width: u16) -> bool
+// Whether bits that end so far behind a place that no word tells it are in the octets.
+#[cold]
+#[inline(never)]
+fn is_far_inside(octets: &[u8], at: u64, width: u16) -> bool
     ensures { result ≡ Spec.is_inside octets.now at width }
 {
     u128::from(at) + u128::from(width) <= 8 * octets.len() as u128
+}
+
+/// Whether so many bits from a place on are in the octets.
+#[inline(always)]
+pub fn is_inside(octets: &[u8], at: u64, width: u16) -> bool
+    ensures { result ≡ Spec.is_inside octets.now at width }
+{
+    match at.checked_add(u64::from(width) + 7) {
+        Some(end) => end / 8 <= octets.len() as u64,
+        None => is_far_inside(octets, at, width),
+    }
 }
 
 // The field of so many bits before the last bits of a number.
@@ -23,7 +36,7 @@ fn field_of(whole: u128, rest: u8, width: u8) -> u64
     ((whole >> rest) % (1 << width)) as u64
 }
 
-// The number of 1 to 64 bits behind the first bits of an octet, in the eight octets that are read as one.
+// The number of 1 to 64 bits behind some bits, in the eight octets that are read as one.
 #[inline(always)]
 fn number_in_eight(octets: &[u8], skip: u8, width: u8) -> u64
     requires some { 0 < width }
@@ -32,12 +45,7 @@ fn number_in_eight(octets: &[u8], skip: u8, width: u8) -> u64
     ensures value { result ≡ bits octets.now skip width }
     ensures within { result < 2 ^ width }
 {
-    let eight = BigEndian::read_u64(octets);
-    if width == 64 {
-        return eight;
-    }
-    let rest = 64 - (skip + width);
-    (eight >> rest) % (1 << width)
+    BigEndian::read_u64(octets) << skip >> (64 - width)
 }
 
 // The number of 1 to 64 bits behind the first bits of an octet, 7 at most, in as few octets as hold it.
@@ -57,53 +65,24 @@ fn number_in_few(octets: &[u8], skip: u8, width: u8) -> u64
     field_of(whole, 8 * count - bits, width)
 }
 
-// The number of 1 to 64 bits behind the first bits of an octet, 7 at most.
-pub fn number_behind(octets: &[u8], skip: u8, width: u8) -> u64
-    requires skip { skip < 8 }
+/// The number of 1 to 64 bits at a place, in the eight octets from its first on, or in the last eight where fewer are left.
+#[inline(always)]
+pub fn number_from(octets: &[u8], at: u64, width: u8) -> u64
     requires some { 0 < width }
     requires width { width ≤ 64 }
-    requires inside { skip + width ≤ 8 * length octets.now }
-    ensures value { result ≡ bits octets.now skip width }
+    requires inside { at + width ≤ 8 * length octets.now }
+    ensures value { result ≡ bits octets.now at width }
     ensures within { result < 2 ^ width }
 {
-    if octets.len() >= 8 && skip + width <= 64 {
-        number_in_eight(octets, skip, width)
-    } else {
-        number_in_few(octets, skip, width)
-    }
-}
-
-// The number of 1, 2, 4 or 8 whole octets.
-#[inline(always)]
-fn aligned(octets: &[u8], width: u8) -> Option<u64>
-    requires { width ≤ 8 * length octets.now }
-    ensures value { IfSome result (λ n. n ≡ bits octets.now 0 width) }
-{
-    match width {
-        8 => Some(u64::from(octets[0])),
-        16 => Some(u64::from(BigEndian::read_u16(octets))),
-        32 => Some(u64::from(BigEndian::read_u32(octets))),
-        64 => Some(BigEndian::read_u64(octets)),
-        _ => None,
-    }
-}
-
-// The number of 1 to 64 bits behind the first bits of an octet, 7 at most, by one read where they are 1, 2, 4 or 8 octets.
-#[inline(always)]
-fn number_from(octets: &[u8], skip: u8, width: u8) -> u64
-    requires skip { skip < 8 }
-    requires some { 0 < width }
-    requires width { width ≤ 64 }
-    requires inside { skip + width ≤ 8 * length octets.now }
-    ensures value { result ≡ bits octets.now skip width }
-    ensures within { result < 2 ^ width }
-{
-    if skip == 0 {
-        if let Some(number) = aligned(octets, width) {
-            return number;
+    let octet = (at / 8) as usize;
+    if octets.len() >= 8 {
+        let first = octet.min(octets.len() - 8);
+        let skip = at - 8 * first as u64;
+        if skip + u64::from(width) <= 64 {
+            return number_in_eight(&octets[first..], skip as u8, width);
         }
     }
-    number_behind(octets, skip, width)
+    number_in_few(&octets[octet..], (at % 8) as u8, width)
 }
 
 /// The number of at most 64 bits at a place, which are in the octets, the most significant first.
@@ -117,7 +96,7 @@ pub fn number_at(octets: &[u8], at: u64, width: u8) -> u64
     if width == 0 {
         return 0;
     }
-    number_from(&octets[(at / 8) as usize..], (at % 8) as u8, width)
+    number_from(octets, at, width)
 }
 
 /// The number in so many bits from a place on, 64 at most, the most significant first (CCSDS 133.0-B and
@@ -133,17 +112,19 @@ pub fn unsigned(octets: &[u8], at: u64, width: u8) -> Option<u64>
     }
 }
 
-// A number less twice the half of its range.
-fn below_zero(number: u64, half: u64) -> i64
-    requires half { half ≤ 2 ^ 63 }
-    requires low { half ≤ number }
-    requires high { number < 2 * half }
-    ensures { result ≡ pos number -ℤ pos (2 * half) }
+// The first bit of a number of 1 to 64 bits, at its weight.
+#[inline(always)]
+fn first_bit(number: u64, width: u8) -> u64
+    requires some { 0 < width }
+    requires width { width ≤ 64 }
+    requires number { number < 2 ^ width }
+    ensures { result ≡ (if nat_le (2 ^ (width - 1)) number then 2 ^ (width - 1) else 0) }
 {
-    (i128::from(number) - 2 * i128::from(half)) as i64
+    number >> (width - 1) << (width - 1)
 }
 
 // The two's complement of a number of 1 to 64 bits.
+#[inline(always)]
 #[tactic(auto, using(crate::proofs::BitFacts::halves))]
 pub fn complement(number: u64, width: u8) -> i64
     requires some { 0 < width }
@@ -151,12 +132,7 @@ pub fn complement(number: u64, width: u8) -> i64
     requires number { number < 2 ^ width }
     ensures { result ≡ signed_number width number }
 {
-    let half = 1_u64 << (width - 1);
-    if number < half {
-        number as i64
-    } else {
-        below_zero(number, half)
-    }
+    (i128::from(number) - 2 * i128::from(first_bit(number, width))) as i64
 }
 
 /// The two's complement of so many bits from a place on, 1 to 64, the most significant first. There is none exactly

@@ -1,8 +1,8 @@
 //! Numbers at any bit of a packet, and the values of parameters.
 //!
-//! `unsigned` reads a field of 1, 2, 4 or 8 whole octets as one number, and any other out of the eight octets from its
-//! first on, or of the nine at most that hold it, by one call of `byteorder`, one shift and one remainder. So a field of
-//! any width at any bit takes a constant number of steps, and none goes over bits. A field of the
+//! `unsigned` reads a field out of the eight octets from its first on, or out of the last eight where fewer are left, as
+//! one number, and where these don't hold it out of the nine at most that do, by one call of `byteorder` and two shifts.
+//! So a field of any width at any bit takes a constant number of steps, and none goes over bits. A field of the
 //! order `Little` is put together from its octets, eight at most. It rests on `mib_model` for definitions and types,
 //! which it passes on, and on `byteorder`, and takes no memory.
 #![tactic(auto)]

@@ -6,7 +6,7 @@ ghost use Rattle.mib_model.specs.Bits.{bits, little_bits, signed_number};
 ghost use Rattle.mib_model.specs.Fixed.{value_at};
 ghost use Rattle.bit_field.specs.Numbers.{has_number};
 
-use crate::field::{complement, is_inside, number_at, number_behind};
+use crate::field::{complement, is_inside, number_from};
 use mib_model::{Name, Order, Shape, Sort, Value};
 
 // The number in so many octets behind the first bits of an octet, the least significant first.
@@ -20,7 +20,7 @@ fn little_behind(octets: &[u8], skip: u8, count: u8) -> u64
 {
     let mut value = 0;
     for i in 0..count {
-        value += number_behind(&octets[usize::from(i)..], skip, 8) << (8 * i);
+        value += number_from(&octets[usize::from(i)..], u64::from(skip), 8) << (8 * i);
     }
     value
 }
@@ -35,9 +35,10 @@ fn little_at(octets: &[u8], at: u64, count: u8) -> u64
     little_behind(&octets[(at / 8) as usize..], (at % 8) as u8, count)
 }
 
-// The unsigned number of a field, 64 bits at most, and whole octets where the order is `Little`.
+// The unsigned number of a field of 1 to 64 bits, and whole octets where the order is `Little`.
 #[inline(always)]
 fn field_number(octets: &[u8], at: u64, width: u8, order: Order) -> u64
+    requires some { 0 < width }
     requires width { width ≤ 64 }
     requires octets { order ≡ Order.Little → width ≡ 8 * (width / 8) }
     requires inside { at + width ≤ 8 * length octets.now }
@@ -45,9 +46,22 @@ fn field_number(octets: &[u8], at: u64, width: u8, order: Order) -> u64
     ensures within { result < 2 ^ width }
 {
     match order {
-        Order::Big => number_at(octets, at, width),
+        Order::Big => number_from(octets, at, width),
         Order::Little => little_at(octets, at, width / 8),
     }
+}
+
+// The unsigned number of a field, 64 bits at most, and whole octets where the order is `Little`.
+fn short_number(octets: &[u8], at: u64, width: u8, order: Order) -> u64
+    requires width { width ≤ 64 }
+    requires octets { order ≡ Order.Little → width ≡ 8 * (width / 8) }
+    requires inside { at + width ≤ 8 * length octets.now }
+    ensures { result ≡ Spec.field_number order octets.now at width }
+{
+    if width == 0 {
+        return 0;
+    }
+    field_number(octets, at, width, order)
 }
 
 // The width of a shape of at most 64 bits.
@@ -99,7 +113,7 @@ pub fn number(octets: &[u8], at: u64, shape: Shape) -> Option<u64>
 {
     if is_inside(octets, at, shape.width()) {
         let width = short_width(shape);
-        Some(field_number(octets, at, width, shape.order()))
+        Some(short_number(octets, at, width, shape.order()))
     } else {
         None
     }

@@ -27,7 +27,11 @@ impl Values<'_> {
         if self.used == MOST_VALUES {
             return false;
         }
-        self.slots[self.used as usize] = v;
+        let slot = &mut self.slots[self.used as usize];
+        slot.name = v.name;
+        slot.shape = v.shape;
+        slot.at = v.at;
+        slot.raw = v.raw;
         self.used += 1;
         true
     }

@@ -1,4 +1,4 @@
-ghost use Rattle.std.specs.Prelude.{◌≡◌, ◌+◌, ◌*◌, ◌≤◌, ◌<ℤ◌, ◌==◌, ◌&&◌, negsuc, pos, ℕ, length, Option, IfOk, IfSome, OnOk, OnErr, IsTrue, Some, None, true, false};
+ghost use Rattle.std.specs.Prelude.{◌≡◌, ◌+◌, ◌*◌, ◌≤◌, ◌<ℤ◌, ◌==◌, ◌&&◌, negsuc, pos, ℕ, length, Option, IfOk, IfSome, OnOk, OnErr, IsTrue, Some, None, true, false, if◌then◌else◌};
 ghost use Rattle.std.specs.List.{find, list_any};
 ghost use Rattle.std.specs.Option.{option_copied, option_or};
 ghost use Rattle.mib_model.specs.Headers.{header_of};
@@ -7,6 +7,7 @@ ghost use Rattle.ident_plan.specs.Rows.{has_apid};
 ghost use Rattle.mib_model.specs.Match.{service_of, subtype_of, lacks_service, is_criterion, found_with, match_by};
 
 use crate::keys::{ByCriterion, ByPacket, CriterionKey, PacketKey};
+use crate::kin::{Kin, kin_at, kins_of};
 use bit_field::unsigned;
 use first_rows::FirstRows;
 use mib_model::{BadWhy, Found, Header, IDLE_APID, PicRow, PidRow, Steps};
@@ -21,18 +22,21 @@ pub struct Ident {
     pics: FirstRows<ByCriterion>,
     // Whether a row of pic is of an APID of its own.
     has_own: bool,
+    // The rows of pid of each APID, where they are none or one.
+    kins: Vec<Kin>,
 }
 
 impl Model for Ident {
     ghost use Rattle.std.specs.Prelude.{◌≡◌};
     ghost use Rattle.std.specs.List.{list_any};
+    ghost use Rattle.ident_plan.specs.Kins.{AreKins};
     ghost use Rattle.ident_plan.specs.Rows.{IdentRows, has_apid};
 
     ghost Value = { IdentRows };
 
     ghost view = { λ ident. record { pids = ident.pids; pics = ident.pics } };
 
-    ghost invariant = { λ ident. ident.has_own ≡ list_any has_apid ident.pics };
+    ghost invariant = { λ ident. (ident.has_own ≡ list_any has_apid ident.pics) × AreKins ident.pids ident.kins.items };
 }
 
 // The service type and the subtype: octets 7 and 8 behind a secondary header, else 0 (ECSS-E-70-41A, telemetry packet
@@ -89,6 +93,24 @@ fn found_by(row: Option<&PidRow>, service: u8, subtype: u8) -> Found
     }
 }
 
+// Whether a row of the key's APID has the rest of the key.
+fn agrees(row: &PidRow, key: &PacketKey) -> bool
+    ensures { result ≡ ((row.now.service == key.now.service) && (row.now.subtype == key.now.subtype)
+        && (row.now.pi1_val == key.now.pi1_val) && (row.now.pi2_val == key.now.pi2_val)) }
+{
+    row.service == key.service
+        && row.subtype == key.subtype
+        && row.pi1_val == key.pi1_val
+        && row.pi2_val == key.pi2_val
+}
+
+// A row where a condition holds.
+fn row_if(row: &PidRow, holds: bool) -> Option<&PidRow>
+    ensures { option_copied result ≡ (if holds then Some row.now else None) }
+{
+    if holds { Some(row) } else { None }
+}
+
 // Whether a row of pic is of an APID of its own.
 fn have_apids(pics: &[PicRow]) -> bool
     ensures { result ≡ list_any has_apid pics.now }
@@ -109,6 +131,7 @@ impl Ident {
         ensures refused { OnErr result (steps.new ≡ steps.old) }
     {
         let has_own = have_apids(pics);
+        let kins = kins_of(alloc, pids)?;
         let pids = FirstRows::new(alloc, pids)?;
         let pics = FirstRows::new(alloc, pics)?;
         steps.tick();
@@ -116,6 +139,7 @@ impl Ident {
             pids,
             pics,
             has_own,
+            kins,
         })
     }
 
@@ -164,7 +188,11 @@ impl Ident {
         ensures { option_copied result ≡ find (λ row. (row.apid == key.apid) && (row.service == key.service)
             && (row.subtype == key.subtype) && (row.pi1_val == key.pi1_val) && (row.pi2_val == key.pi2_val)) self.now.pids }
     {
-        self.pids.find(&key)
+        match kin_at(&self.kins, key.apid) {
+            Some(Kin::Empty) => None,
+            Some(Kin::One(row)) => row_if(row, agrees(row, &key)),
+            _ => self.pids.find(&key),
+        }
     }
 
     // What a packet is with these discriminants.

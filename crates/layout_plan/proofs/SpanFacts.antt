@@ -44,6 +44,13 @@ reads-next packet span k at ended old middle new before is here =
     let placed : ℕ → Type 0 = λ n. Reads packet (record { name = span.name; at = n; shape = span.shape } ∷ []) ended middle new in
     subst read (sym (first_places-more span k)) (reads-append packet (first_places span k) (place_in span k ∷ []) ended old middle new before (subst placed is here))
 
+-- what stands at the only place of a span
+pub reads-only : (packet : List ℕ) (span : Span) (at : ℕ) (ended : Option Ended) (old new : Values) → span.count ≡ 1 → at ≡ first_of span → Reads packet (record { name = span.name; at = at; shape = span.shape } ∷ []) ended old new → Reads packet (span_places span) ended old new
+reads-only packet span at ended old new one is here =
+    let read : ℕ → Type 0 = λ count. Reads packet (first_places span count) ended old new in
+    let first : at ≡ first_of span + 0 * span.step = omega (arith, is) in
+    subst read (sym one) (reads-next packet span 0 at ended old old new (reads-none packet old) first here)
+
 -- an end within a span is that of the span
 pub reads-span : (packet : List ℕ) (span : Span) (k : ℕ) (ended : Ended) (old new : Values) → k ≤ span.count → Reads packet (first_places span k) (Some ended) old new → Reads packet (span_places span) (Some ended) old new
 reads-span packet span k ended old new few reads =

@@ -1,3 +1,4 @@
 pub mod Slices
 pub mod Readings
 pub mod Spans
+pub mod Stops

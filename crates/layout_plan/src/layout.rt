@@ -101,8 +101,8 @@ fn read_spans(spans: &[Span], packet: &[u8], values: &mut Values) -> Option<Ende
     ensures borrow { values.new.slots.ghost_name ≡ values.old.slots.ghost_name }
 {
     for span in spans {
-        if let Some(ended) = span.read(packet, values) {
-            return Some(ended);
+        if let Some(stop) = span.read(packet, values) {
+            return Some(stop.ended(span.name));
         }
     }
     None

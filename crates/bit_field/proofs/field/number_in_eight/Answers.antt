@@ -1,17 +1,9 @@
-use Rattle.std.proofs.Common.{◌≡◌, ◌+◌, ◌-◌, ◌*◌, ◌/◌, ◌%◌, ◌^◌, ℕ, ◌∙◌, sym, ap, arith}
-use Rattle.mib_model.specs.Bits.{bits}
-use Rattle.bit_field.proofs.BitFacts.{bits-inside, bits-aligned, one-shifted}
+use Rattle.std.proofs.Common.{◌<◌, ◌-◌, ◌*◌, ◌/◌, ◌%◌, ◌^◌, ℕ, ◌∙◌, ap, sym, subst, arith}
+use Rattle.bit_field.proofs.BitFacts.{bits-below, bits-moved}
 use Rattle.bit_field.proofs.field.number_in_eight.Goals as goal
 
-pub returns-then-width-eq64-clause-value : goal.returns-then-width-eq64-clause-value
-returns-then-width-eq64-clause-value c =
-    let first : c.args.skip ≡ 0 = omega arith in
-    c.read_u64-eight.ensures ∙ bits-aligned c.args.octets.now 8 (λ k. omega (arith, c.type_inv.octets k))
-    ∙ ap (λ (w : ℕ). bits c.args.octets.now 0 w) (sym c.if-width-eq64.true) ∙ ap (λ (at : ℕ). bits c.args.octets.now at c.args.width) (sym first)
-
 pub returns-clause-value : goal.returns-clause-value
-returns-clause-value c =
-    let whole : c.args.skip + c.args.width + (64 - (c.args.skip + c.args.width)) ≡ 8 * 8 = omega arith in
-    ap (λ (m : ℕ). c.read_u64-eight.result / 2 ^ (64 - (c.args.skip + c.args.width)) % m) (one-shifted c.args.width (omega arith))
-    ∙ (rw c.read_u64-eight.ensures
-    (bits-inside c.args.octets.now c.args.skip c.args.width (64 - (c.args.skip + c.args.width)) 8 whole (λ k. omega (arith, c.type_inv.octets k))))
+returns-clause-value c = ap (λ (n : ℕ). n * 2 ^ c.args.skip % 2 ^ 64 / 2 ^ (64 - c.args.width)) c.read_u64.ensures ∙ bits-moved c.args.octets.now c.args.skip c.args.width c.requires.near (λ k. omega (arith, c.type_inv.octets k))
+
+pub returns-clause-within : goal.returns-clause-within
+returns-clause-within c = subst (λ (n : ℕ). n < 2 ^ c.args.width) (sym (returns-clause-value c)) (bits-below c.args.octets.now c.args.skip c.args.width)

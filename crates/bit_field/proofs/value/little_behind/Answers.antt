@@ -8,14 +8,14 @@ loop-i-init c = record { value = little-none c.args.octets.now c.args.skip; with
 
 pub overflow_add-value : goal.overflow_add-value
 overflow_add-value c =
-    let fits = little-fits_all c.loop-i.value c.number_behind.result c.loop-i.i c.loop-i.invariant.within c.number_behind.ensures.within (omega arith) in
-    rw (octet_shifted c.number_behind.result c.loop-i.i c.number_behind.ensures.within (omega arith)) (omega (arith, fits))
+    let fits = little-fits_all c.loop-i.value c.number_from.result c.loop-i.i c.loop-i.invariant.within c.number_from.ensures.within (omega arith) in
+    rw (octet_shifted c.number_from.result c.loop-i.i c.number_from.ensures.within (omega arith)) (omega (arith, fits))
 
 pub loop-i-preserved : goal.loop-i-preserved
 loop-i-preserved c =
-    let octet = rw (c.from.ensures, take_rest) at c.number_behind.ensures.value in
-    let shifted = octet_shifted c.number_behind.result c.loop-i.i c.number_behind.ensures.within (omega arith) in
+    let octet = rw (c.from.ensures, c.from-in-loop-i.ensures, take_rest) at c.number_from.ensures.value in
+    let shifted = octet_shifted c.number_from.result c.loop-i.i c.number_from.ensures.within (omega arith) in
     record {
-      value = rw (shifted, c.loop-i.invariant.value) (little-more c.args.octets.now c.args.skip c.loop-i.i c.number_behind.result octet);
-      within = rw shifted (little-fits c.loop-i.value c.number_behind.result c.loop-i.i c.loop-i.invariant.within c.number_behind.ensures.within);
+      value = rw (shifted, c.loop-i.invariant.value) (little-more c.args.octets.now c.args.skip c.loop-i.i c.number_from.result octet);
+      within = rw shifted (little-fits c.loop-i.value c.number_from.result c.loop-i.i c.loop-i.invariant.within c.number_from.ensures.within);
     }

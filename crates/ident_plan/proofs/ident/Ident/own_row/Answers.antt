@@ -7,4 +7,4 @@ use Rattle.ident_plan.proofs.ident.Ident.own_row.Goals as goal
 pub returns-then-not-self : goal.returns-then-not-self
 returns-then-not-self c =
     sym (none_own c.args.self.now.pics c.args.service c.args.subtype c.args.apid
-    (ap (λ (rows : IdentRows). list_any has_apid rows.pics) (sym c.self.view_is) ∙ sym c.self.invariant ∙ c.if-not-self.true))
+    (ap (λ (rows : IdentRows). list_any has_apid rows.pics) (sym c.self.view_is) ∙ sym c.self.invariant.0 ∙ c.if-not-self.true))

@@ -2,7 +2,7 @@ use Rattle.std.proofs.Common.{◌≡◌, ◌≤◌, length, None}
 use Rattle.mib_model.specs.Fixed.{most_values}
 use Rattle.layout_plan.specs.Readings.{Reads}
 use Rattle.layout_plan.specs.Spans.{first_places}
-use Rattle.layout_plan.proofs.span.Span.read.Given as goal
+use Rattle.layout_plan.proofs.span.Span.read_each.Given as goal
 
 abbrev pub invariant-loop-k : goal.invariant-loop-k
 invariant-loop-k l = record {
