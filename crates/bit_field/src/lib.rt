@@ -19,6 +19,3 @@ pub use laws::bits_are_a_sum;
 pub use mib_model::{Ended, Endian, MOST_VALUES, Order, Shape, Sort, Value};
 pub use value::{number, take};
 pub use values::Values;
-
-#[cfg(test)]
-mod tests;

@@ -26,6 +26,3 @@ pub use polynomial::{PolyCurve, poly};
 pub use read::read_dec;
 pub use spaces::trim;
 pub use whole::{decimal_whole, whole_number};
-
-#[cfg(test)]
-mod tests;

@@ -24,6 +24,3 @@ pub use finishing::{finish_batch, free_rooms};
 pub use room::Room;
 pub use run::{decode_run, hand_on_before_wait, write_cut};
 pub use stock::{Home, Stock};
-
-#[cfg(test)]
-mod tests;

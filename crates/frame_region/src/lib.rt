@@ -10,6 +10,3 @@ mod region;
 
 pub use piece::Piece;
 pub use region::Region;
-
-#[cfg(test)]
-mod tests;

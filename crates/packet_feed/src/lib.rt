@@ -12,6 +12,3 @@ mod next;
 pub use feed::{Feed, PACKET_SIZE, cut_is_unique};
 pub use mib_model::Header;
 pub use next::Next;
-
-#[cfg(test)]
-mod tests;

@@ -28,8 +28,3 @@ pub use record::{change_line, cut_line, edition_line, ended_line, head_line};
 pub use reply::reply_line;
 pub use tail::Tail;
 pub use value::value_line;
-
-#[cfg(test)]
-mod line_tests;
-#[cfg(test)]
-mod tests;

@@ -7,8 +7,6 @@
 
 mod load_fault;
 mod loading;
-#[cfg(test)]
-mod tests;
 mod text_file;
 
 pub use load_fault::LoadFault;

@@ -17,6 +17,3 @@ pub use counts::Counts;
 pub use feed::{PACKETS, drill_feed, feed_is_cut};
 pub use replay::Replay;
 pub use tables::{KINDS, PARAMETERS, drill_tables, tables_are_sound};
-
-#[cfg(test)]
-mod tests;

@@ -25,6 +25,3 @@ pub use std_sink::StdSink;
 /// The object outside failed.
 #[derive(Clone, Copy, Debug, PartialEq, Eq)]
 pub struct Failed;
-
-#[cfg(test)]
-mod tests;

@@ -1,7 +1,7 @@
 use denote.Param.Send.{IsSync, sendable}
 use Rattle.decode_session.proofs.SharedPlans.{ident-sync, params-sync}
-use Rattle.decode_session.proofs.tests.run.Goals as goal
-use Rattle.decode_session.specs.contracts.tests.Bare as Bare
+use Rattle.run_tests.proofs.runs.run.Goals as goal
+use Rattle.run_tests.specs.contracts.runs.Bare as Bare
 
 bare-sync : IsSync Bare.the_row
 bare-sync = search (ident-sync, params-sync, sendable) depth 20

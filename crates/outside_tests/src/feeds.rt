@@ -1,6 +1,7 @@
+// Packets cut out of a feed.
 ghost use Rattle.std.specs.Prelude.{◌≡◌, ◌≤◌, IfOk, vec_len};
 
-use super::*;
+use packet_feed::{Feed, Next, PACKET_SIZE};
 use std::test::Fail;
 use tm_io::{MemFile, MemShelf, Shelf};
 

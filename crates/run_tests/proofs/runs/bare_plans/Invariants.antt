@@ -1,4 +1,4 @@
-use Rattle.decode_session.proofs.tests.bare_plans.Given as goal
+use Rattle.run_tests.proofs.runs.bare_plans.Given as goal
 
 abbrev pub ghosts-ident_with : goal.ghosts-ident_with
 ghosts-ident_with a = record { name = a.blank.name; parts = a.blank.parts }

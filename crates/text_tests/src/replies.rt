@@ -1,5 +1,6 @@
-use super::*;
+// Lines of replies and of exit codes.
 use mib_model::{Code, Input, Kind, Line, MibCode, MibFault, Misuse, Reply};
+use record_text::{code_line, reply_line};
 use std::process::Abort;
 
 fn fault(code: MibCode, column: u8, first: u32) -> MibFault {

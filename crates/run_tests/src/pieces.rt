@@ -1,7 +1,7 @@
 //! Pieces that are written, moved to threads and given back.
 ghost use Rattle.std.specs.Prelude.{◌≡◌, ◌+◌, ◌<◌, length};
 
-use crate::{Piece, Region};
+use frame_region::{Piece, Region};
 use std::process::Abort;
 use std::test::Fail;
 use std::thread;

@@ -1,5 +1,6 @@
-use crate::{LoadFault, load};
+// Tables loaded from a folder.
 use mib_model::{Kind, MibCode, MibFault, TABLE_MOST};
+use session::{LoadFault, load};
 use std::alloc::Global;
 use std::test::Fail;
 use tm_io::{MemFile, MemShelf};

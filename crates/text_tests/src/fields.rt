@@ -1,4 +1,5 @@
-use crate::{
+// Numbers at any bit of a packet, and values by their types.
+use bit_field::{
     Endian, MOST_VALUES, Order, Sort, Value, Values, number, shape_of, signed, take, unsigned,
 };
 use mib_model::Name;
@@ -37,35 +38,44 @@ fn every_field_is_what_its_bits_are_one_by_one(rt: HostRuntime) {
     }
 }
 
+fn has(rt: &impl Abort, at: u64, width: u8, value: Option<u64>) {
+    assert!(rt; width <= 64);
+    assert_eq!(rt; unsigned(&PACKET, at, width), value);
+}
+
 #[test]
 fn fields_have_the_numbers_of_an_outside_program(rt: HostRuntime) {
-    assert_eq!(rt; unsigned(&PACKET, 0, 8), Some(165));
-    assert_eq!(rt; unsigned(&PACKET, 5, 64), Some(12_229_879_950_346_773_421));
-    assert_eq!(rt; unsigned(&PACKET, 7, 64), Some(12_026_031_653_967_990_454));
-    assert_eq!(rt; unsigned(&PACKET, 121, 64), Some(6_751_525_307_074_713_138));
-    assert_eq!(rt;
-        unsigned(&PACKET, 128, 64),
-        Some(15_645_011_914_923_907_441)
-    );
-    assert_eq!(rt; unsigned(&PACKET, 129, 64), None);
-    assert_eq!(rt; unsigned(&PACKET, 192, 0), Some(0));
-    assert_eq!(rt; unsigned(&PACKET, 193, 0), None);
-    assert_eq!(rt; unsigned(&PACKET, u64::MAX, 64), None);
+    has(&rt, 0, 8, Some(165));
+    has(&rt, 5, 64, Some(12_229_879_950_346_773_421));
+    has(&rt, 7, 64, Some(12_026_031_653_967_990_454));
+    has(&rt, 121, 64, Some(6_751_525_307_074_713_138));
+    has(&rt, 128, 64, Some(15_645_011_914_923_907_441));
+    has(&rt, 129, 64, None);
+    has(&rt, 192, 0, Some(0));
+    has(&rt, 193, 0, None);
+    has(&rt, u64::MAX, 64, None);
+}
+
+// The least and the most number of 64 bits.
+const ENDS: [u8; 16] = [
+    0x80, 0, 0, 0, 0, 0, 0, 0, 0x7f, 0xff, 0xff, 0xff, 0xff, 0xff, 0xff, 0xff,
+];
+
+fn reaches(rt: &impl Abort, at: u64, width: u8, value: Option<i64>) {
+    assert!(rt; 0 < width && width <= 64);
+    assert_eq!(rt; signed(&ENDS, at, width), value);
 }
 
 #[test]
 fn signed_fields_reach_both_ends(rt: HostRuntime) {
-    let ends = [
-        0x80, 0, 0, 0, 0, 0, 0, 0, 0x7f, 0xff, 0xff, 0xff, 0xff, 0xff, 0xff, 0xff,
-    ];
-    assert_eq!(rt; signed(&ends, 0, 64), Some(i64::MIN));
-    assert_eq!(rt; signed(&ends, 64, 64), Some(i64::MAX));
-    assert_eq!(rt; signed(&ends, 65, 63), Some(-1));
-    assert_eq!(rt; signed(&ends, 0, 1), Some(-1));
-    assert_eq!(rt; signed(&ends, 1, 1), Some(0));
-    assert_eq!(rt; signed(&ends, 0, 8), Some(-128));
-    assert_eq!(rt; signed(&ends, 64, 8), Some(127));
-    assert_eq!(rt; signed(&ends, 65, 64), None);
+    reaches(&rt, 0, 64, Some(i64::MIN));
+    reaches(&rt, 64, 64, Some(i64::MAX));
+    reaches(&rt, 65, 63, Some(-1));
+    reaches(&rt, 0, 1, Some(-1));
+    reaches(&rt, 1, 1, Some(0));
+    reaches(&rt, 0, 8, Some(-128));
+    reaches(&rt, 64, 8, Some(127));
+    reaches(&rt, 65, 64, None);
 }
 
 fn takes(rt: &impl Abort, ptc: u8, pfc: u16, endian: Endian, at: u64, raw: Option<i128>) {
@@ -110,9 +120,9 @@ fn shapes_are_those_of_the_table_of_types(rt: HostRuntime) {
     assert_eq!(rt; time.sort(), Sort::Cuc { coarse: 4, fine: 3 });
     assert_eq!(rt; time.width(), 56);
     assert_eq!(rt; time.order(), Order::Big);
-    assert!(rt; shape_of(3, 3, Endian::L).is_none());
-    assert!(rt; shape_of(3, 17, Endian::B).is_none());
-    assert!(rt; shape_of(12, 0, Endian::B).is_none());
+    for (ptc, pfc, endian) in [(3, 3, Endian::L), (3, 17, Endian::B), (12, 0, Endian::B)] {
+        assert!(rt; shape_of(ptc, pfc, endian).is_none());
+    }
 }
 
 fn slots_of_a_list() -> usize {

@@ -1,6 +1,7 @@
-use crate::{COUNTED_MOST, Counter, PACKETS, drill_feed, drill_tables};
+// Generated feeds and tables, and the counts of what is printed of them.
 use mib_model::{Kind, PidRow};
 use std::test::Fail;
+use tm_drill::{COUNTED_MOST, Counter, PACKETS, drill_feed, drill_tables};
 use tm_io::{Sink, write_all};
 
 #[test]

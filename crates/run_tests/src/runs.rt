@@ -1,7 +1,7 @@
 //! Whole runs over a database without rows.
 ghost use Rattle.std.specs.Prelude.{◌≡◌, ◌≤◌, [], IfOk};
 
-use super::*;
+use decode_session::{RunEnd, RunFault, Stop, decode_run};
 use edition_plans::{Ident, Layout, Params, Plans, Structure, Structures};
 use mib_model::{Steps, Text, TypeItem};
 use std::alloc::{AllocError, Global};

@@ -1,19 +1,24 @@
-use crate::{
+// Scaled decimals, counts and curves.
+use dec_num::{
     Dec, DecFault, Eng, Over, Point, are_digits, decimal_whole, digits_number, eng_of, interp,
     poly, read_dec, trim, whole_number, write_eng,
 };
 use mib_model::Line;
 use std::process::Abort;
 
+fn reads(rt: &impl Abort, text: &[u8], value: Result<Dec, DecFault>) {
+    assert_eq!(rt; read_dec(text), value);
+}
+
 #[test]
 fn texts_of_the_format_are_read(rt: HostRuntime) {
-    assert_eq!(rt; read_dec(b"1.500000E+01"), Ok(Dec { m: 15, e: 0 }));
-    assert_eq!(rt; read_dec(b".5"), Ok(Dec { m: 5, e: -1 }));
-    assert_eq!(rt; read_dec(b"-0.0"), Ok(Dec { m: 0, e: 0 }));
-    assert_eq!(rt; read_dec(b"100"), Ok(Dec { m: 1, e: 2 }));
-    assert_eq!(rt; read_dec(b"."), Err(DecFault::Form));
-    assert_eq!(rt; read_dec(b"123456789012345678"), Err(DecFault::Digits));
-    assert_eq!(rt; read_dec(b"1E31"), Err(DecFault::Exponent));
+    reads(&rt, b"1.500000E+01", Ok(Dec { m: 15, e: 0 }));
+    reads(&rt, b".5", Ok(Dec { m: 5, e: -1 }));
+    reads(&rt, b"-0.0", Ok(Dec { m: 0, e: 0 }));
+    reads(&rt, b"100", Ok(Dec { m: 1, e: 2 }));
+    reads(&rt, b".", Err(DecFault::Form));
+    reads(&rt, b"123456789012345678", Err(DecFault::Digits));
+    reads(&rt, b"1E31", Err(DecFault::Exponent));
 }
 
 #[test]
@@ -22,24 +27,21 @@ fn digits_are_counted_and_read(rt: HostRuntime) {
     assert_eq!(rt; digits_number(b"7"), 7);
 }
 
+fn rounds(rt: &impl Abort, m: i64, e: i8, count: i128) {
+    assert_eq!(rt; eng_of(Dec { m, e }).count, count);
+}
+
 #[test]
 fn counts_are_rounded_away_from_zero_and_held(rt: HostRuntime) {
-    assert_eq!(rt; eng_of(Dec { m: 15, e: 0 }).count, 15_000_000_000_000);
-    assert_eq!(rt; eng_of(Dec { m: 5, e: -13 }).count, 1);
-    assert_eq!(rt; eng_of(Dec { m: -5, e: -13 }).count, -1);
-    assert_eq!(rt; eng_of(Dec { m: 4, e: -13 }).count, 0);
-    assert_eq!(rt; eng_of(Dec { m: -15, e: -13 }).count, -2);
     let held = 10_000_000_000_000_000_000_000_000_000_000_000_000;
-    assert_eq!(rt; eng_of(Dec { m: 1, e: 25 }).count, held);
-    assert_eq!(rt; eng_of(Dec { m: -1, e: 30 }).count, -held);
-    assert_eq!(rt;
-        eng_of(Dec {
-            m: i64::MIN,
-            e: -128
-        })
-        .count,
-        0
-    );
+    rounds(&rt, 15, 0, 15_000_000_000_000);
+    rounds(&rt, 5, -13, 1);
+    rounds(&rt, -5, -13, -1);
+    rounds(&rt, 4, -13, 0);
+    rounds(&rt, -15, -13, -2);
+    rounds(&rt, 1, 25, held);
+    rounds(&rt, -1, 30, -held);
+    rounds(&rt, i64::MIN, -128, 0);
 }
 
 fn prints(rt: &impl Abort, count: i128, decimals: u8, text: &[u8]) {
@@ -181,22 +183,25 @@ fn polynomials_are_summed_and_bounded(rt: HostRuntime) {
     );
 }
 
+fn is_decimal(rt: &impl Abort, text: &[u8], value: Option<i128>) {
+    assert_eq!(rt; decimal_whole(text), value);
+}
+
+fn is_whole(rt: &impl Abort, radix: u8, text: &[u8], value: Option<i128>) {
+    assert_eq!(rt; whole_number(radix, text), value);
+}
+
 #[test]
 fn whole_numbers_are_read_in_three_radixes(rt: HostRuntime) {
-    assert_eq!(rt; decimal_whole(b" -12.50E+1 "), Some(-125));
-    assert_eq!(rt; decimal_whole(b"1.5"), None);
-    assert_eq!(rt; decimal_whole(b"-9223372036854775808"), None);
-    assert_eq!(rt; whole_number(b'D', b"18446744073709551616"), None);
-    assert_eq!(rt; whole_number(b'H', b"ffFF"), Some(65_535));
-    assert_eq!(rt;
-        whole_number(b'H', b"FFFFFFFFFFFFFFFF"),
-        Some(18_446_744_073_709_551_615)
-    );
-    assert_eq!(rt;
-        whole_number(b'O', b"1777777777777777777777"),
-        Some(18_446_744_073_709_551_615)
-    );
-    assert_eq!(rt; whole_number(b'O', b"2000000000000000000000"), None);
-    assert_eq!(rt; whole_number(b'O', b"8"), None);
+    let most = Some(18_446_744_073_709_551_615);
+    is_decimal(&rt, b" -12.50E+1 ", Some(-125));
+    is_decimal(&rt, b"1.5", None);
+    is_decimal(&rt, b"-9223372036854775808", None);
+    is_whole(&rt, b'D', b"18446744073709551616", None);
+    is_whole(&rt, b'H', b"ffFF", Some(65_535));
+    is_whole(&rt, b'H', b"FFFFFFFFFFFFFFFF", most);
+    is_whole(&rt, b'O', b"1777777777777777777777", most);
+    is_whole(&rt, b'O', b"2000000000000000000000", None);
+    is_whole(&rt, b'O', b"8", None);
     assert_eq!(rt; trim(b"  a b "), b"a b".as_slice());
 }

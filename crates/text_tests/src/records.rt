@@ -1,8 +1,8 @@
-use super::*;
+// Lines of packets' records.
 use bit_field::{shape_of, take};
-use mib_model::{
-    BadWhy, Cal, Change, Class, Code, Ended, Endian, Eng, Found, Header, Input, Kind, Line,
-    MibCode, MibFault, Misuse, Name, Reply, Text, Value,
+use mib_model::{BadWhy, Cal, Change, Class, Ended, Endian, Eng, Found, Header, Name, Text, Value};
+use record_text::{
+    Lines, Tail, change_line, cut_line, edition_line, ended_line, head_line, value_line,
 };
 use std::process::Abort;
 use std::test::Fail;
