@@ -1,3 +1,4 @@
+pub mod SlopeFacts
 mod NumberTests
 mod OrderFacts
 pub mod FindFacts

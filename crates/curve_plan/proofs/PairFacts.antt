@@ -1,10 +1,12 @@
 -- The two points that a raw number is taken by, of points that climb.
-use Rattle.std.proofs.Common.{◌≡◌, ℕ, zero, suc, ◌+◌, ◌-◌, ◌<◌, ◌≤◌, min, ℤ, ◌<ℤ◌, Bool, true, false, List, [], ◌∷◌, Option, Some, None, filter, length, get_or, int_le, refl, ap, ◌∙◌, arith}
+use Rattle.std.proofs.Common.{◌≡◌, ℕ, zero, suc, ◌+◌, ◌-◌, ◌<◌, ◌≤◌, min, ℤ, ◌<ℤ◌, Bool, true, false, List, [], ◌∷◌, ◌++◌, Option, Some, None, IfSome, filter, length, get_or, int_le, refl, ap, add-one, ◌∙◌, arith}
 use Rattle.std.specs.List.{AllByRecursion, last_or}
 use Rattle.std.specs.List.Sorted.{IsPartitionPoint, IsPartitionedBy}
 use Rattle.dec_num.specs.declared.curve.Point.{Point}
 use Rattle.mib_model.specs.Points.{Knot, neighbours, pair_for}
-use Rattle.curve_plan.specs.Knots.{knot_at, knots_at, Climbs}
+use Rattle.curve_plan.specs.declared.slope.Slope.{Slope}
+use Rattle.curve_plan.specs.Slopes.{IsSlope}
+use Rattle.curve_plan.specs.Knots.{knot_at, knots_at, Climbs, AreSlopes}
 use Rattle.curve_plan.proofs.NumberTests.{gt-test, le-fails, le-holds, le-past, lt-past}
 
 -- how many pass a test that the first ones alone pass
@@ -111,3 +113,51 @@ module _ (raw : ℤ) where
   pair-none [] few = refl
   pair-none (p ∷ []) few = refl
   pair-none (p ∷ q ∷ more) few = absurd (omega (arith, few))
+
+-- slopes of which none is there yet
+pub no-slopes : (ps : List Point) → AreSlopes (knots_at ps) []
+no-slopes [] = tt
+no-slopes (p ∷ []) = tt
+no-slopes (p ∷ q ∷ more) = tt
+
+-- one slope more
+pub slopes-more : (ps : List Point) (slopes : List (Option Slope)) (slope : Option Slope) (d : Point) → AreSlopes (knots_at ps) slopes → suc (length slopes) < length ps
+    → IfSome slope (IsSlope (knot_at (get_or ps (length slopes) d)) (knot_at (get_or ps (suc (length slopes)) d))) → AreSlopes (knots_at ps) (slopes ++ slope ∷ [])
+slopes-more [] slopes slope d all below is = absurd (omega (arith, below))
+slopes-more (p ∷ []) slopes slope d all below is = absurd (omega (arith, below))
+slopes-more (p ∷ q ∷ more) [] slope d all below is = (is, no-slopes (q ∷ more))
+slopes-more (p ∷ q ∷ more) (s ∷ slopes) slope d all below is = (all.0, slopes-more (q ∷ more) slopes slope d all.1 (omega (arith, below)) is)
+
+-- the slope behind a point is that to the next
+pub slope-at : (ps : List Point) (slopes : List (Option Slope)) (k : ℕ) (d : Point) → AreSlopes (knots_at ps) slopes → suc k < length ps
+    → IfSome (get_or slopes k None) (IsSlope (knot_at (get_or ps k d)) (knot_at (get_or ps (suc k) d)))
+slope-at [] slopes k d all below = absurd (omega (arith, below))
+slope-at (p ∷ []) slopes k d all below = absurd (omega (arith, below))
+slope-at (p ∷ q ∷ more) [] k d all below = tt
+slope-at (p ∷ q ∷ more) (s ∷ slopes) zero d all below = all.0
+slope-at (p ∷ q ∷ more) (s ∷ slopes) (suc k) d all below = slope-at (q ∷ more) slopes k d all.1 (omega (arith, below))
+
+pub climbs-step : (ps : List Point) (k : ℕ) (d : Point) → Climbs (knots_at ps) → k + 1 < length ps → (get_or ps k d).x <ℤ (get_or ps (k + 1) d).x
+climbs-step ps k d up below = rw (add-one k) (climbs-next ps k d up (omega (arith, below)))
+
+pub slope-step : (ps : List Point) (slopes : List (Option Slope)) (k : ℕ) (d : Point) → AreSlopes (knots_at ps) slopes → k + 1 < length ps
+    → IfSome (get_or slopes k None) (IsSlope (knot_at (get_or ps k d)) (knot_at (get_or ps (k + 1) d)))
+slope-step ps slopes k d all below = rw (add-one k) (slope-at ps slopes k d all (omega (arith, below)))
+
+pub ruleset pairs = (climbs-step, slope-step)
+
+pub climbs-before : (ps : List Point) (at : ℕ) (d : Point) → Climbs (knots_at ps) → 0 < at → at < length ps → (get_or ps (at - 1) d).x <ℤ (get_or ps at d).x
+climbs-before ps zero d up some below = absurd (omega (arith, some))
+climbs-before ps (suc k) d up some below = rw (suc-less k) (climbs-next ps k d up below)
+  where
+    suc-less : (k : ℕ) → suc k - 1 ≡ k
+    suc-less k = omega arith
+
+pub slopes-before : (ps : List Point) (slopes more : List (Option Slope)) (slope : Option Slope) (at : ℕ) (d : Point) → AreSlopes (knots_at ps) slopes → length slopes + 1 ≡ at → at < length ps
+    → IfSome slope (IsSlope (knot_at (get_or ps (at - 1) d)) (knot_at (get_or ps at d))) → more ≡ slopes ++ slope ∷ [] → AreSlopes (knots_at ps) more
+slopes-before ps slopes more slope at d all count below is added =
+    let place : at ≡ suc (length slopes) = omega (arith, count) in
+    let before : at - 1 ≡ length slopes = omega (arith, count) in
+    rw added (slopes-more ps slopes slope d all (omega (arith, count, below)) (rw (before, place) at is))
+
+pub ruleset sloped = (climbs-before, slopes-before, no-slopes)

@@ -8,7 +8,7 @@ use Rattle.mib_model.specs.Calibrated.{Calibrated, LogCurve, RealCurve, calibrat
 use Rattle.mib_model.specs.Curves.{calibration}
 use Rattle.mib_model.specs.Points.{neighbours, on_pair, pair_for}
 use Rattle.mib_model.specs.Polynomials.{polynomial}
-use Rattle.curve_plan.specs.Knots.{knots_at, Climbs}
+use Rattle.curve_plan.specs.Knots.{knots_at, Climbs, AreSlopes}
 use Rattle.curve_plan.specs.Ranges.{holds_raw, text_of_range, AreSeparate}
 
 -- what a compiled form makes of a raw number
@@ -19,9 +19,9 @@ given_by (form.Poly coefficients) raw = calibrated (polynomial coefficients raw)
 given_by form.Log raw = LogCurve
 given_by form.Real raw = RealCurve
 
--- points stand in order, and ranges that are said to be separate are so
+-- points stand in order with the slopes between them, and ranges that are said to be separate are so
 abbrev pub IsInOrder : Form → Type 0
-IsInOrder (form.Points curve) = Climbs (knots_at curve.points.items)
+IsInOrder (form.Points curve) = Climbs (knots_at curve.points.items) × AreSlopes (knots_at curve.points.items) curve.slopes.items
 IsInOrder (form.Texts curve) = curve.separate ≡ true → AreSeparate curve.ranges.items
 IsInOrder other = Unit {0}
 

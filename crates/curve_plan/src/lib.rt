@@ -6,9 +6,11 @@
 #![tactic(auto)]
 
 mod curve;
+mod pair;
 mod points;
 mod ranges;
 mod rows;
+mod slope;
 
 pub use curve::Curve;
 pub use mib_model::Cal;

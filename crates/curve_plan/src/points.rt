@@ -1,18 +1,23 @@
 // Curves by points.
-ghost use Rattle.std.specs.Prelude.{◌≡◌, ◌≤ℤ◌, ◌<ℤ◌, option_map, filter_map, IfOk, IfSome};
+ghost use Rattle.std.specs.Prelude.{◌≡◌, ◌≤ℤ◌, ◌<ℤ◌, option_map, filter_map, get_or, None, Some, IfOk, IfSome};
 ghost use Rattle.mib_model.specs.CalibrationViews.{calibrated_as};
 ghost use Rattle.mib_model.specs.Points.{knot_of, knots, neighbours, on_pair, pair_for};
 ghost use Rattle.mib_model.specs.WholeNumbers.{least_raw, greatest_raw};
-ghost use Rattle.curve_plan.specs.Knots.{knot_at, knots_at, pair_at, Climbs, AreApart};
+ghost use Rattle.curve_plan.specs.Knots.{knot_at, knots_at, Climbs, AreApart, AreSlopes};
+ghost use Rattle.curve_plan.specs.Pairs.{pair_at};
+ghost use Rattle.curve_plan.specs.Slopes.{IsSlope};
 
-use dec_num::{Point, eng_of, interp, whole_number};
+use crate::pair::Pair;
+use crate::slope::{Slope, interp_by, slope_of};
+use dec_num::{Point, eng_of, whole_number};
 use mib_model::{CafRow, Cal, CapRow};
 use std::alloc::{AllocError, Global};
 
-/// The points of a curve in order of x, and whether the curve goes on beyond them.
+/// The points of a curve in order of x, the slopes between them, and whether the curve goes on beyond them.
 #[derive(Drop)]
 pub struct PointCurve {
     points: Vec<Point>,
+    slopes: Vec<Option<Slope>>,
     inter: u8,
 }
 
@@ -50,29 +55,61 @@ fn sorted_points(alloc: Global, caf: &CafRow, caps: &[CapRow]) -> Result<Vec<Poi
     Ok(points)
 }
 
-// The two points that a raw number is taken by, where there are two.
-fn pair_of(points: &[Point], raw: i128) -> Option<(Point, Point)>
+// The slope of the line from each point to the next.
+#[tactic(auto, using(crate::proofs::PairFacts::sloped))]
+fn slopes_of(alloc: Global, points: &[Point]) -> Result<Vec<Option<Slope>>, AllocError>
     requires { Climbs (knots_at points.now) }
+    ensures { IfOk result (λ slopes. AreSlopes (knots_at points.now) slopes.items) }
+{
+    let mut slopes = Vec::new(alloc);
+    for at in 1..points.len() {
+        slopes.push(slope_of(points[at - 1], points[at]))?;
+    }
+    Ok(slopes)
+}
+
+// The slope at a place, where there is one.
+fn slope_at(slopes: &[Option<Slope>], at: usize) -> Option<Slope>
+    ensures { result ≡ get_or slopes.now at None }
+{
+    match slopes.get(at) {
+        Some(slope) => *slope,
+        None => None,
+    }
+}
+
+// The two points that a raw number is taken by, where there are two.
+#[tactic(auto, using(crate::proofs::PairFacts::pairs))]
+fn pair_of(points: &[Point], slopes: &[Option<Slope>], raw: i128) -> Option<Pair>
+    requires climbs { Climbs (knots_at points.now) }
+    requires slopes { AreSlopes (knots_at points.now) slopes.now }
     ensures pair { option_map pair_at result ≡ pair_for raw (neighbours (knots_at points.now)) }
-    ensures climbs { IfSome result (λ pair. pair.0.x <ℤ pair.1.x) }
+    ensures order { IfSome result (λ pair. pair.p.x <ℤ pair.q.x) }
+    ensures sloped { IfSome result (λ pair. IfSome pair.slope (IsSlope (knot_at pair.p) (knot_at pair.q))) }
 {
     let last = points.len().checked_sub(2)?;
     let at = points.partition_point(|point| point.x <= raw);
     let first = at.saturating_sub(1).min(last);
-    Some((points[first], points[first + 1]))
+    Some(Pair {
+        p: points[first],
+        q: points[first + 1],
+        slope: slope_at(slopes, first),
+    })
 }
 
 // What two points make of a raw number.
-fn on_line(p: Point, q: Point, inter: u8, raw: i128) -> Cal<'static>
-    requires order { p.x <ℤ q.x }
+fn on_line(pair: Pair, inter: u8, raw: i128) -> Cal<'static>
+    requires order { pair.p.x <ℤ pair.q.x }
+    requires sloped { IfSome pair.slope (IsSlope (knot_at pair.p) (knot_at pair.q)) }
     requires low { least_raw ≤ℤ raw }
     requires high { raw ≤ℤ greatest_raw }
-    ensures { calibrated_as result ≡ on_pair inter raw (option_map pair_at (Some (p, q))) }
+    ensures { calibrated_as result ≡ on_pair inter raw (option_map pair_at (Some pair)) }
 {
+    let Pair { p, q, slope } = pair;
     if (raw < p.x || q.x < raw) && inter != b'P' {
         return Cal::Outside;
     }
-    match interp(p, q, raw) {
+    match interp_by(p, q, slope, raw) {
         Ok(value) => Cal::Value(value),
         Err(_) => Cal::Over,
     }
@@ -81,9 +118,12 @@ fn on_line(p: Point, q: Point, inter: u8, raw: i128) -> Cal<'static>
 impl PointCurve {
     /// A number made of a point in the middle.
     pub fn touch(&self) -> usize {
-        match self.points.get(self.points.len() / 2) {
-            Some(point) => usize::from(point.x < 0),
-            None => 0,
+        let middle = self.slopes.len() / 2;
+        match (self.points.get(middle), self.slopes.get(middle)) {
+            (Some(point), Some(slope)) => {
+                usize::from(point.x < 0) + usize::from(slope.is_some())
+            }
+            _ => 0,
         }
     }
 
@@ -92,11 +132,14 @@ impl PointCurve {
         requires { AreApart (filter_map (knot_of caf.now.radix) caps.now) }
         ensures points { IfOk result (λ curve. knots_at curve.points.items ≡ knots caf.now caps.now) }
         ensures climbs { IfOk result (λ curve. Climbs (knots_at curve.points.items)) }
+        ensures slopes { IfOk result (λ curve. AreSlopes (knots_at curve.points.items) curve.slopes.items) }
         ensures inter { IfOk result (λ curve. curve.inter ≡ caf.now.inter) }
     {
         let points = sorted_points(alloc, caf, caps)?;
+        let slopes = slopes_of(alloc, &points)?;
         Ok(PointCurve {
             points,
+            slopes,
             inter: caf.inter,
         })
     }
@@ -104,12 +147,13 @@ impl PointCurve {
     /// What the curve makes of a raw number.
     pub fn at(&self, raw: i128) -> Cal<'static>
         requires climbs { Climbs (knots_at self.now.points.items) }
+        requires slopes { AreSlopes (knots_at self.now.points.items) self.now.slopes.items }
         requires low { least_raw ≤ℤ raw }
         requires high { raw ≤ℤ greatest_raw }
         ensures { calibrated_as result ≡ on_pair self.now.inter raw (pair_for raw (neighbours (knots_at self.now.points.items))) }
     {
-        match pair_of(&self.points, raw) {
-            Some((p, q)) => on_line(p, q, self.inter, raw),
+        match pair_of(&self.points, &self.slopes, raw) {
+            Some(pair) => on_line(pair, self.inter, raw),
             None => Cal::Outside,
         }
     }

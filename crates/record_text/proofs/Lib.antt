@@ -2,3 +2,4 @@ pub mod OctetFacts
 pub mod PlaceFacts
 pub mod ShapeFacts
 pub mod ShortFacts
+pub mod NearFacts

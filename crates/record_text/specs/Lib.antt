@@ -1,3 +1,4 @@
 pub mod Pages
 pub mod ShortTexts
+pub mod NearTexts
 pub mod TailViews

@@ -11,6 +11,7 @@ mod code;
 mod fault;
 mod field;
 mod lines;
+mod near;
 mod octets;
 mod page;
 mod place;

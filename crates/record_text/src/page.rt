@@ -1,12 +1,14 @@
 // Where the octets of lines are written.
-ghost use Rattle.std.specs.Prelude.{◌≡◌, ◌≤◌, ◌<◌, ◌+◌, ◌/◌, ◌%◌, ◌++◌, [], ◌∷◌, codes, length, decimal, IfOk};
+ghost use Rattle.std.specs.Prelude.{◌≡◌, ◌≤◌, ◌<◌, ◌+◌, ◌/◌, ◌%◌, ◌++◌, [], ◌∷◌, codes, length, take, decimal, IfOk};
 ghost use Rattle.mib_model.specs.Counts.{count_text};
+ghost use Rattle.record_text.specs.NearTexts.{behind_text, near_text};
 ghost use Rattle.record_text.specs.ShortTexts.{digits_of, four_digits};
 ghost use Rattle.record_text.specs.declared.lines.TheConstants.{LINES_ROOM, LINE_MOST};
 ghost use Rattle.record_text.specs.declared.page.TheConstants.{EIGHT_BOUND, TWELVE_BOUND};
 ghost use Rattle.record_text.specs.declared.short_texts.TheConstants.{SHORT_BOUND};
 
 use crate::lines::{LINE_MOST, LINES_ROOM};
+use crate::near::{NearCount, near_count};
 use crate::place::{put, put_text};
 use crate::short::Short;
 use crate::short_texts::{SHORT_BOUND, ShortTexts};
@@ -172,7 +174,21 @@ impl Page {
         self.used = end + 1;
     }
 
-    // Appends the digits of a short text. The octets behind them are written too, and cut off.
+    // Appends the first of four octets. Those behind them are written too, and cut off.
+    #[inline(always)]
+    fn add_first(&mut self, four: &[u8; 4], count: u8)
+        requires few { count ≤ 4 }
+        requires room { length self.old.octets + 4 ≤ self.old.limit }
+        ensures text { self.new.octets ≡ self.old.octets ++ take count four.now }
+        ensures room { length self.new.octets ≤ length self.old.octets + 4 }
+        ensures limit { self.new.limit ≡ self.old.limit }
+    {
+        let end = self.used + usize::from(count);
+        self.add_word(four);
+        self.used = end;
+    }
+
+    // Appends the digits of a short text.
     #[inline(always)]
     fn add_short(&mut self, short: Short)
         requires { length self.old.octets + 4 ≤ self.old.limit }
@@ -180,9 +196,7 @@ impl Page {
         ensures room { length self.new.octets ≤ length self.old.octets + 4 }
         ensures limit { self.new.limit ≡ self.old.limit }
     {
-        let end = self.used + usize::from(short.count);
-        self.add_word(&short.digits);
-        self.used = end;
+        self.add_first(&short.digits, short.count);
     }
 
     // Appends the last eight digits of a number, with zeros in front.
@@ -294,8 +308,46 @@ impl Page {
         self.add(Buffer::new().format(n).as_bytes());
     }
 
-    /// Appends an engineering value with some decimals.
-    pub(crate) fn add_count(&mut self, v: Eng, decimals: u8)
+    // Appends the first of four decimals behind a point.
+    #[inline(always)]
+    #[tactic(auto, using(crate::proofs::NearFacts::behinds))]
+    fn add_behind(&mut self, four: u64, decimals: u8)
+        requires four { four < SHORT_BOUND }
+        requires decimals { decimals ≤ 4 }
+        requires room { length self.old.octets + 5 ≤ self.old.limit }
+        ensures text { self.new.octets ≡ self.old.octets ++ behind_text decimals four }
+        ensures room { length self.new.octets ≤ length self.old.octets + 5 }
+        ensures limit { self.new.limit ≡ self.old.limit }
+    {
+        if decimals == 0 {
+            return;
+        }
+        let short = self.shorts.at(four);
+        self.push(b'.');
+        self.add_first(&short.four, decimals);
+    }
+
+    // Appends an engineering value by its digits.
+    #[inline(always)]
+    fn add_near(&mut self, near: &NearCount, decimals: u8)
+        requires behind { near.now.behind < SHORT_BOUND }
+        requires decimals { decimals ≤ 4 }
+        requires room { length self.old.octets + 60 ≤ self.old.limit }
+        ensures text { self.new.octets ≡ self.old.octets ++ near_text near.now decimals }
+        ensures room { length self.new.octets ≤ length self.old.octets + 60 }
+        ensures limit { self.new.limit ≡ self.old.limit }
+    {
+        if near.minus {
+            self.push(b'-');
+        }
+        self.add_number(near.whole);
+        self.add_behind(near.behind, decimals);
+    }
+
+    // Appends an engineering value whose count or whose decimals are many.
+    #[cold]
+    #[inline(never)]
+    fn add_far(&mut self, v: Eng, decimals: u8)
         requires { length self.old.octets + 60 ≤ self.old.limit }
         ensures text { self.new.octets ≡ self.old.octets ++ count_text v.count decimals }
         ensures room { length self.new.octets ≤ length self.old.octets + 60 }
@@ -306,5 +358,19 @@ impl Page {
         let text = self.number.bytes();
         put_text(&mut self.octets, self.used, text);
         self.used += text.len();
+    }
+
+    /// Appends an engineering value with some decimals.
+    #[inline(always)]
+    pub(crate) fn add_count(&mut self, v: Eng, decimals: u8)
+        requires { length self.old.octets + 60 ≤ self.old.limit }
+        ensures text { self.new.octets ≡ self.old.octets ++ count_text v.count decimals }
+        ensures room { length self.new.octets ≤ length self.old.octets + 60 }
+        ensures limit { self.new.limit ≡ self.old.limit }
+    {
+        match near_count(v, decimals) {
+            Some(near) => self.add_near(&near, decimals),
+            None => self.add_far(v, decimals),
+        }
     }
 }

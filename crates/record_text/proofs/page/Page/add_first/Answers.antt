@@ -2,7 +2,7 @@ use Rattle.std.proofs.Common.{◌≡◌, ◌+◌, length, sym, ap, ◌∙◌, ar
 use Rattle.std.proofs.lemmas.List.{length-take-le}
 use Rattle.record_text.proofs.PlaceFacts.{cut_behind}
 use Rattle.record_text.specs.Pages.{Written}
-use Rattle.record_text.proofs.page.Page.add_short.Goals as goal
+use Rattle.record_text.proofs.page.Page.add_first.Goals as goal
 
 pub returns-clause-text : goal.returns-clause-text
 returns-clause-text c =
@@ -13,4 +13,4 @@ returns-clause-text c =
     let page = c.self-2 in
     let end : page.inside.used ≡ c.self.inside.used + 4 =
     sym (length-take-le page.inside.used page.inside.octets.items (omega arith)) ∙ (rw after (omega (arith, c.add_word.ensures.room))) in
-    rw c.from.ensures (cut_behind page.inside.octets.items c.args.self.now.octets c.args.short.digits c.self.inside.used page.inside.used c.args.short.count (after ∙ c.add_word.ensures.text) used (omega (arith, c.args.short.few)) (omega arith))
+    rw c.from.ensures (cut_behind page.inside.octets.items c.args.self.now.octets c.args.four.now c.self.inside.used page.inside.used c.args.count (after ∙ c.add_word.ensures.text) used (omega (arith, c.requires.few)) (omega arith))
