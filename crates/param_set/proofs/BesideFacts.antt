@@ -1,12 +1,13 @@
 -- Plans of parameters beside those of a base: what is kept is the same, and what differs is new.
-use Rattle.std.proofs.Common.{◌≡◌, ◌∙◌, ℕ, zero, suc, ◌<◌, ◌≤◌, Bool, true, false, ◌&&◌, not, cond, List, [], ◌∷◌, Option, Some, None, length, get_or, take, map, filter, find, refl, sym, ap, subst, arith}
+use Rattle.std.proofs.Common.{◌≡◌, ◌∙◌, ℕ, zero, suc, ◌<◌, ◌≤◌, Bool, true, false, ◌&&◌, ◌||◌, not, cond, if◌then◌else◌, ◌==◌, List, [], ◌∷◌, Option, Some, None, length, get_or, take, map, option_map, unwrap_or, filter, find, refl, sym, ap, subst, arith}
 use Rattle.std.proofs.lemmas.List.{get_or-map, length-map, take_all}
 use Rattle.std.specs.Cmp.{tied_itself}
 use Rattle.std.specs.Cmp.Lexicographic.{nat_list_cmp_total, pointwise}
-use Rattle.std.specs.Option.{option_eq}
+use Rattle.std.specs.List.{list_any}
+use Rattle.std.specs.Option.{option_eq, option_or}
 use Rattle.std.specs.Str.{bytes_eq}
 use Rattle.edition_plans.specs.Params.{param_slices}
-use Rattle.mib_keys.specs.Kept.{AreSameIn}
+use Rattle.mib_model.specs.Carry.{check_of}
 use Rattle.mib_model.specs.Checks.{checks_of}
 use Rattle.mib_model.specs.Columns.{Column, Cells}
 use Rattle.mib_model.specs.Curves.{curve_named, selections}
@@ -14,24 +15,36 @@ use Rattle.mib_model.specs.CurveTables.{caf, caf_cells, cap, cap_cells, lgf, lgf
 use Rattle.mib_model.specs.declared.database.Database.{Database}
 use Rattle.mib_model.specs.declared.plan.CurveRows.{CurveRows}
 use Rattle.mib_model.specs.declared.plan.CurveRows.TheVariants.{Points, Texts, Poly, Log}
+use Rattle.mib_model.specs.declared.rows.CafRow.{CafRow}
+use Rattle.mib_model.specs.declared.rows.CapRow.{CapRow}
 use Rattle.mib_model.specs.declared.rows.CurRow.{CurRow}
-use Rattle.mib_model.specs.declared.rows.OcfRow.{OcfRow}
+use Rattle.mib_model.specs.declared.rows.LgfRow.{LgfRow}
+use Rattle.mib_model.specs.declared.rows.McfRow.{McfRow}
 use Rattle.mib_model.specs.declared.rows.OcpRow.{OcpRow}
 use Rattle.mib_model.specs.declared.rows.PcfRow.{PcfRow}
+use Rattle.mib_model.specs.declared.rows.TxfRow.{TxfRow}
+use Rattle.mib_model.specs.declared.rows.TxpRow.{TxpRow}
+use Rattle.mib_model.specs.Letters.{letter}
 use Rattle.mib_model.specs.Orders.{sorted_by, sorted_by_number}
 use Rattle.mib_model.specs.ParameterTables.{ocf, ocf_cells, ocp, ocp_cells, pcf, pcf_cells}
-use Rattle.mib_model.specs.Plans.{curves_for, has_plan, may_precede}
+use Rattle.mib_model.specs.Plans.{curve_names, curves_for, has_plan, may_precede}
+use Rattle.mib_model.specs.Points.{first_of}
 use Rattle.mib_model.specs.RowTexts.{is_of_states}
 use Rattle.mib_model.specs.Sameness.{same_cells}
 use Rattle.mib_model.specs.SameRows.{same_cap, same_cur, same_ocf, same_ocp, same_pcf, same_txp}
 use Rattle.mib_model.specs.TextTables.{cur, cur_cells, txf, txf_cells, txp, txp_cells}
 use Rattle.mib_model.specs.Touched.{same_curve, same_slice}
-use Rattle.mib_tables.specs.declared.table_set.TableSet.{TableSet}
 use Rattle.param_plan.proofs.NameFacts.{named-found}
 use Rattle.param_plan.specs.Names.{Ascend}
 use Rattle.param_plan.specs.Slices.{ParamSlice, as_slice, slice_for}
+use Rattle.param_set.proofs.AlikeFacts.{found-own, name-now, once-alike, planned-now}
 use Rattle.param_set.proofs.CountFacts.{planned-most}
-use Rattle.param_set.specs.Beside.{AreKept, are_curves_kept, is_other, now_of}
+use Rattle.param_set.proofs.NoteFacts.{any-images}
+use Rattle.param_set.proofs.PlanFacts.{find-first}
+use Rattle.param_set.proofs.UniqueFacts.{Once, named, named-planned, planned-once, planned_rows}
+use Rattle.param_set.specs.Beside.{AreAlike, HasRows, IsKeptBy, has_changed, has_changed_curve, is_other, now_of, row_now}
+use Rattle.param_set.specs.Changed.{AreChanged, AreCurvesKept, AreRowsKept, has_name, takes_any}
+use Rattle.param_set.specs.declared.changed.Changed.{Changed}
 use Rattle.param_set.specs.Sharing.{is_as_before, is_new}
 use Rattle.row_laws.proofs.SameFacts.{same_values-Decides}
 
@@ -54,103 +67,132 @@ own-curve (Texts row rows) = rw (own-cells txf (txf_cells row)) (own-list same_t
 own-curve (Poly row) = own-cells mcf (mcf_cells row)
 own-curve (Log row) = own-cells lgf (lgf_cells row)
 
--- a parameter is the same as itself
-pub own-parameter : (row : PcfRow) → same_pcf row row ≡ true
-own-parameter row = own-cells pcf (pcf_cells row)
-
-pub equal-selections : (xs ys : List CurRow) → xs ≡ ys → true ≡ pointwise same_cur xs ys
-equal-selections xs ys is = sym (own-list same_cur (λ r. own-cells cur (cur_cells r)) xs) ∙ ap (pointwise same_cur xs) is
-
-pub equal-checks : (x y : Option OcfRow) → x ≡ y → true ≡ option_eq same_ocf x y
-equal-checks x y is = sym (own-option same_ocf (λ r. own-cells ocf (ocf_cells r)) x) ∙ ap (option_eq same_ocf x) is
-
-pub equal-limits : (xs ys : List OcpRow) → xs ≡ ys → true ≡ pointwise same_ocp xs ys
-equal-limits xs ys is = sym (own-list same_ocp (λ r. own-cells (ocp (is_of_states r.sort)) (ocp_cells (is_of_states r.sort) r)) xs) ∙ ap (pointwise same_ocp xs) is
-
-pub equal-curves : (xs ys : List (Option CurveRows)) → xs ≡ ys → true ≡ pointwise (option_eq same_curve) xs ys
-equal-curves xs ys is = sym (own-list (option_eq same_curve) (own-option same_curve own-curve) xs) ∙ ap (pointwise (option_eq same_curve) xs) is
-
-last : (a b c d : Bool) → (((a && d) && b) && c) ≡ (((a && b) && c) && d)
-last false b c d = refl
-last true false c false = refl
-last true false c true = refl
-last true true false false = refl
-last true true false true = refl
-last true true true false = refl
-last true true true true = refl
-
--- whether two slices of one parameter are the same, by their parts
-pub by-parts : (old new : ParamSlice) → old.pcf ≡ new.pcf → (curs check limits curves : Bool) → curs ≡ pointwise same_cur old.curs new.curs → check ≡ option_eq same_ocf old.ocf new.ocf
-    → limits ≡ pointwise same_ocp old.ocps new.ocps → curves ≡ pointwise (option_eq same_curve) old.curves new.curves
-    → (curs && check && limits && curves) ≡ same_slice (as_slice old) (as_slice new)
+-- a slice is the same as itself
+pub own-slice : (s : ParamSlice) → same_slice (as_slice s) (as_slice s) ≡ true
 unfolding same_slice
-by-parts old new own curs check limits curves is_curs is_check is_limits is_curves =
-    let parameter : true ≡ same_pcf old.pcf new.pcf = sym (own-parameter old.pcf) ∙ ap (same_pcf old.pcf) own in
-    sym (last curs check limits curves)
-    ∙ (λ i. (((is_curs i && is_curves i) && is_check i) && is_limits i))
-    ∙ ap (λ b. (((b && pointwise same_cur old.curs new.curs) && pointwise (option_eq same_curve) old.curves new.curves) && option_eq same_ocf old.ocf new.ocf) && pointwise same_ocp old.ocps new.ocps) parameter
+own-slice s =
+    rw (
+      own-cells pcf (pcf_cells s.pcf),
+      own-list same_cur (λ r. own-cells cur (cur_cells r)) s.curs,
+      own-list (option_eq same_curve) (own-option same_curve own-curve) s.curves,
+      own-option same_ocf (λ r. own-cells ocf (ocf_cells r)) s.ocf,
+    )
+    (own-list same_ocp (λ r. own-cells (ocp (is_of_states r.sort)) (ocp_cells (is_of_states r.sort) r)) s.ocps)
 
--- ---- what a slice has of tables that are the same
+-- ---- what a slice has of rows that did not change
 
-both : (a b : Bool) → (a && b) ≡ true → (a ≡ true) × (b ≡ true)
-both true b h = (refl, h)
-both false b h = absurd (cc h)
+-- what is found among rows that have the same rows of a name
+same-found : {R : Type 0} (p : R → Bool) (xs ys : List R) → filter p xs ≡ filter p ys → find p xs ≡ find p ys
+same-found p xs ys same = find-first p xs ∙ ap first_of same ∙ sym (find-first p ys)
 
-module _ (set : TableSet) (old new : Database) (same : AreSameIn set old new) where
-  curves-kept : (row : PcfRow) → are_curves_kept set ≡ true → curves_for old row ≡ curves_for new row
-  unfolding selections curve_named
-  curves-kept row h =
-      let six = both (set.cur && set.caf && set.cap && set.txf && set.txp && set.mcf) set.lgf h in
-      let five = both (set.cur && set.caf && set.cap && set.txf && set.txp) set.mcf six.0 in
-      let four = both (set.cur && set.caf && set.cap && set.txf) set.txp five.0 in
-      let three = both (set.cur && set.caf && set.cap) set.txf four.0 in
-      let two = both (set.cur && set.caf) set.cap three.0 in
-      let one = both (set.cur) set.caf two.0 in
-      let curs : old.cur ≡ new.cur = same.cur one.0 in
-      let cafs : old.caf ≡ new.caf = same.caf one.1 in
-      let caps : old.cap ≡ new.cap = same.cap two.1 in
-      let txfs : old.txf ≡ new.txf = same.txf three.1 in
-      let txps : old.txp ≡ new.txp = same.txp four.1 in
-      let mcfs : old.mcf ≡ new.mcf = same.mcf five.1 in
-      let lgfs : old.lgf ≡ new.lgf = same.lgf six.1 in
-      λ i. curves_for (record { pcf = old.pcf; pid = old.pid; pic = old.pic; tpcf = old.tpcf; plf = old.plf; vpd = old.vpd; cur = curs i; caf = cafs i; cap = caps i; txf = txfs i; txp = txps i; mcf = mcfs i; lgf = lgfs i; ocf = old.ocf; ocp = old.ocp }) row
+-- the curve of the rows that are found
+abbrev curve_from : ℕ → Option CafRow → List CapRow → Option TxfRow → List TxpRow → Option McfRow → Option LgfRow → Option CurveRows
+curve_from categ caf caps txf txps mcf lgf =
+    if categ == letter "S" then option_map (λ row. Texts row txps) txf
+    else if categ == letter "T" then None
+    else option_or (option_map (λ row. Points row caps) caf) (option_or (option_map Poly mcf) (option_map Log lgf))
 
-  selections-kept : (name : List ℕ) → set.cur ≡ true → selections old name ≡ selections new name
-  unfolding selections
-  selections-kept name h = ap (λ (rows : List CurRow). sorted_by_number (λ row. row.pos) (filter (λ row. bytes_eq row.pname name) rows)) (same.cur h)
+-- curves of the same rows
+curve-kept : (old new : Database) (name : List ℕ) → AreCurvesKept old new name → (categ : ℕ) → curve_named old categ name ≡ curve_named new categ name
+unfolding curve_named
+curve-kept old new name kept categ =
+    let cafs = same-found (λ (r : CafRow). bytes_eq r.numbr name) old.caf new.caf kept.caf in
+    let txfs = same-found (λ (r : TxfRow). bytes_eq r.numbr name) old.txf new.txf kept.txf in
+    let mcfs = same-found (λ (r : McfRow). bytes_eq r.ident name) old.mcf new.mcf kept.mcf in
+    let lgfs = same-found (λ (r : LgfRow). bytes_eq r.ident name) old.lgf new.lgf kept.lgf in
+    λ i. curve_from categ (cafs i) (kept.cap i) (txfs i) (kept.txp i) (mcfs i) (lgfs i)
 
-  limits-kept : (name : List ℕ) → set.ocp ≡ true → checks_of old name ≡ checks_of new name
-  unfolding checks_of
-  limits-kept name h = ap (λ (rows : List OcpRow). sorted_by_number (λ row. row.pos) (filter (λ row. bytes_eq row.name name) rows)) (same.ocp h)
+either-false : (a b : Bool) → (a || b) ≡ false → (a ≡ false) × (b ≡ false)
+either-false true b none = absurd (cc none)
+either-false false b none = (refl, none)
 
-  row-kept : (row : PcfRow) → AreKept set (slice_for old row) new
-  row-kept row = record {
-    curs = selections-kept row.name;
-    curves = curves-kept row;
-    ocf = λ h. ap (λ (rows : List OcfRow). find (λ r. bytes_eq r.name row.name) rows) (same.ocf h);
-    ocps = limits-kept row.name;
+-- images of names of which none is among some
+kept-images : {Y : Type 0} (f g : List ℕ → Y) (p : List ℕ → Bool) → ((name : List ℕ) → p name ≡ false → f name ≡ g name) → (names : List (List ℕ)) → list_any p names ≡ false → map f names ≡ map g names
+kept-images f g p same [] none = refl
+kept-images f g p same (n ∷ names) none =
+    let parts = either-false (p n) (list_any p names) none in
+    let first : f n ≡ g n = same n parts.0 in
+    let rest : map f names ≡ map g names = kept-images f g p same names parts.1 in
+    λ i. first i ∷ rest i
+
+first-planned : (rows : List PcfRow) (x : PcfRow) → length rows ≤ 1 → first_of (filter has_plan rows) ≡ Some x → first_of rows ≡ Some x
+first-planned [] x few is = is
+first-planned (r ∷ []) x few is = go (has_plan r) is where
+  go : (b : Bool) → first_of (cond b (r ∷ []) []) ≡ Some x → Some r ≡ Some x
+  go true h = h
+  go false h = absurd (cc h)
+first-planned (r ∷ s ∷ rows) x few is = absurd (omega (arith, few))
+
+-- a parameter that has a plan is found by its name
+found-planned : (db : Database) → Once db.pcf → (i : ℕ) (row : PcfRow) → i < length (planned_rows db) → row ≡ get_or (planned_rows db) i row → find (named row.name) db.pcf ≡ Some row
+found-planned db once i row below is =
+    let found : find (named row.name) (planned_rows db) ≡ Some row = found-own (planned_rows db) (planned-once db once) i row below is in
+    find-first (named row.name) db.pcf
+    ∙ first-planned (filter (named row.name) db.pcf) row (once row.name) (ap first_of (sym (named-planned db row.name)) ∙ sym (find-first (named row.name) (planned_rows db)) ∙ found)
+
+-- no name of a curve that a parameter may take is among some
+none-taken : (names : List (List ℕ)) (curtx : Option (List ℕ)) (curs : List CurRow) → takes_any names curtx curs ≡ false → list_any (has_name names) (curve_names curtx curs) ≡ false
+none-taken names (Some name) curs none = rw none refl
+none-taken names None curs none = any-images (has_name names) (λ (cur : CurRow). cur.curve) curs ∙ none
+
+module _ (changed : Changed) (old new : Database) (notes : AreChanged changed old new) (once : Once old.pcf) where
+  rows-kept : (row : PcfRow) → find (named row.name) old.pcf ≡ Some row → has_name changed.parameters.items row.name ≡ false → HasRows (slice_for old row) new
+  unfolding selections checks_of
+  rows-kept row own none =
+      let kept : AreRowsKept old new row.name = notes.parameters row.name none in
+      let found : find (named row.name) new.pcf ≡ Some row = sym (same-found (named row.name) old.pcf new.pcf kept.pcf) ∙ own in
+      record {
+        pcf = ap (λ r. unwrap_or r row) found;
+        curs = ap (sorted_by_number (λ (r : CurRow). r.pos)) kept.cur;
+        ocf = same-found (λ r. bytes_eq r.name row.name) old.ocf new.ocf kept.ocf;
+        ocps = ap (sorted_by_number (λ (r : OcpRow). r.pos)) kept.ocp;
+      }
+
+  curves-kept : (row : PcfRow) → HasRows (slice_for old row) new → takes_any changed.curves.items row.curtx (selections old row.name) ≡ false → curves_for old row ≡ curves_for new row
+  curves-kept row rows none =
+      kept-images (curve_named old row.categ) (curve_named new row.categ) (has_name changed.curves.items) (λ name h. curve-kept old new name (notes.curves name h) row.categ) (curve_names row.curtx (selections old row.name)) (none-taken changed.curves.items row.curtx (selections old row.name) none)
+      ∙ ap (λ (curs : List CurRow). map (curve_named new row.categ) (curve_names row.curtx curs)) rows.curs
+
+  row-kept : (row : PcfRow) → find (named row.name) old.pcf ≡ Some row → IsKeptBy changed (slice_for old row) new
+  row-kept row own = record {
+    rows = rows-kept row own;
+    curves = λ none without. curves-kept row (rows-kept row own none) without;
   }
 
-  rows-kept : (rows : List PcfRow) (i : ℕ) (slice : ParamSlice) → i < length (map (slice_for old) rows) → slice ≡ get_or (map (slice_for old) rows) i slice → AreKept set slice new
-  rows-kept [] i slice below is = absurd (omega (arith, below))
-  rows-kept (row ∷ rows) zero slice below is = subst (λ (s : ParamSlice). AreKept set s new) (sym is) (row-kept row)
-  rows-kept (row ∷ rows) (suc i) slice below is = rows-kept rows i slice (omega (arith, below)) is
+  each-kept : (rows : List PcfRow) → ((i : ℕ) (row : PcfRow) → i < length rows → row ≡ get_or rows i row → find (named row.name) old.pcf ≡ Some row)
+      → (i : ℕ) (slice : ParamSlice) → i < length (map (slice_for old) rows) → slice ≡ get_or (map (slice_for old) rows) i slice → IsKeptBy changed slice new
+  each-kept [] own i slice below is = absurd (omega (arith, below))
+  each-kept (row ∷ rows) own zero slice below is = subst (λ (s : ParamSlice). IsKeptBy changed s new) (sym is) (row-kept row (own zero row (omega arith) refl))
+  each-kept (row ∷ rows) own (suc i) slice below is = each-kept rows (λ k r low at. own (suc k) r (omega (arith, low)) at) i slice (omega (arith, below)) is
 
-  -- each slice of the old database has what the new one has of the tables that are the same
-  pub slices-kept : (i : ℕ) (slice : ParamSlice) → i < length (param_slices old) → slice ≡ get_or (param_slices old) i slice → AreKept set slice new
+  -- what did not change of each slice of the old database is that of its parameter in the new one
+  pub slices-kept : (i : ℕ) (slice : ParamSlice) → i < length (param_slices old) → slice ≡ get_or (param_slices old) i slice → IsKeptBy changed slice new
   unfolding param_slices
-  slices-kept = rows-kept (sorted_by (λ x y. may_precede x.name y.name) (filter has_plan old.pcf))
+  slices-kept = each-kept (planned_rows old) (found-planned old once)
 
-  now-rows : (rows : List PcfRow) → map (now_of new) (map (slice_for old) rows) ≡ map (slice_for new) rows
-  now-rows [] = refl
-  now-rows (row ∷ rows) = ap (λ (slices : List ParamSlice). slice_for new row ∷ slices) (now-rows rows)
+module _ (changed : Changed) (slice : ParamSlice) (db : Database) (kept : IsKeptBy changed slice db) where
+  -- a slice of which nothing changed is that of its parameter
+  pub kept-now : has_changed changed slice ≡ false → has_changed_curve changed slice ≡ false → slice ≡ now_of db slice
+  kept-now none without =
+      let rows = kept.rows none in
+      let curves = kept.curves none without in
+      let row : slice.pcf ≡ row_now db slice.pcf = sym rows.pcf in
+      (λ i. record { pcf = slice.pcf; curs = rows.curs i; curves = curves i; ocf = rows.ocf i; ocps = rows.ocps i }) ∙ ap (slice_for db) row
 
-  -- where the parameters are the same, the slices are those of the old ones' parameters
-  pub slices-now : set.pcf ≡ true → map (now_of new) (param_slices old) ≡ param_slices new
-  unfolding param_slices
-  slices-now h =
-      now-rows (sorted_by (λ x y. may_precede x.name y.name) (filter has_plan old.pcf))
-      ∙ ap (λ (rows : List PcfRow). map (slice_for new) (sorted_by (λ x y. may_precede x.name y.name) (filter has_plan rows))) (same.pcf h)
+-- a slice that is that of its parameter is no other
+pub not-other : (db : Database) (slice : ParamSlice) → slice ≡ now_of db slice → false ≡ is_other db slice
+not-other db slice same = ap not (sym (own-slice slice)) ∙ ap (λ (s : ParamSlice). not (same_slice (as_slice slice) (as_slice s))) same
+
+-- ---- the slices of parameters alike
+
+now-rows : (db : Database) (old : Database) (rows : List PcfRow) → map (now_of db) (map (slice_for old) rows) ≡ map (slice_for db) (map (row_now db) rows)
+now-rows db old [] = refl
+now-rows db old (row ∷ rows) = ap (λ (slices : List ParamSlice). slice_for db (row_now db row) ∷ slices) (now-rows db old rows)
+
+-- where parameters are alike, the slices are those of the old ones' parameters
+pub slices-now : (old new : Database) → Once new.pcf → AreAlike old.pcf new.pcf → map (now_of new) (param_slices old) ≡ param_slices new
+unfolding param_slices
+slices-now old new once alike = now-rows new old (planned_rows old) ∙ ap (map (slice_for new)) (planned-now new old.pcf once alike)
 
 -- ---- what is new
 
@@ -163,7 +205,8 @@ counted {X} f p q (x ∷ xs) same = go (p (f x)) (q x) (same zero x (omega arith
   go false true e others = absurd (cc e)
   go false false e others = others
 
-own-named : (slices : List ParamSlice) → Ascend slices → (i : ℕ) (slice : ParamSlice) → i < length slices → slice ≡ get_or slices i slice
+-- a slice among those that ascend by name is found by its name
+pub own-named : (slices : List ParamSlice) → Ascend slices → (i : ℕ) (slice : ParamSlice) → i < length slices → slice ≡ get_or slices i slice
     → find (λ old. bytes_eq old.pcf.name slice.pcf.name) slices ≡ Some slice
 own-named slices ascend i slice below is =
     named-found (λ (s : ParamSlice). s.pcf.name) slice.pcf.name slices ascend i slice below (sym is) (tied_itself nat_list_cmp_total slice.pcf.name)
@@ -172,7 +215,8 @@ own-named slices ascend i slice below is =
 pub new-others : (db : Database) (slices : List ParamSlice) → Ascend slices → length (filter (is_new slices) (map (now_of db) slices)) ≡ length (filter (is_other db) slices)
 unfolding is_new
 new-others db slices ascend = counted (now_of db) (is_new slices) (is_other db) slices (λ i slice below is.
-    ap (λ found. not (is_as_before (now_of db slice) found)) (own-named slices ascend i slice below is))
+    ap (λ found. not (is_as_before (now_of db slice) found))
+    (ap (λ (name : List ℕ). find (λ old. bytes_eq old.pcf.name name) slices) (name-now db slice.pcf) ∙ own-named slices ascend i slice below is))
 
 -- ---- slices behind handles
 

@@ -5,5 +5,7 @@ pub mod SameFacts
 pub mod SharingFacts
 pub mod UniqueFacts
 pub mod PlanFacts
+pub mod AlikeFacts
+pub mod NoteFacts
 pub mod BesideFacts
 mod SharedFacts

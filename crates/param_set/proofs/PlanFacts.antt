@@ -23,7 +23,7 @@ use Rattle.param_set.proofs.UniqueFacts.{named, named-planned, planned_rows, sou
 -- ---- the plan of a name
 
 -- what is found is the first that passes
-find-first : {X : Type 0} (p : X → Bool) (xs : List X) → find p xs ≡ first_of (filter p xs)
+pub find-first : {X : Type 0} (p : X → Bool) (xs : List X) → find p xs ≡ first_of (filter p xs)
 find-first p [] = refl
 find-first p (x ∷ xs) = go (p x) (find-first p xs) where
   go : (b : Bool) → find p xs ≡ first_of (filter p xs) → cond b (Some x) (find p xs) ≡ first_of (cond b (x ∷ filter p xs) (filter p xs))

@@ -43,12 +43,16 @@ equal-options same each None (Some y) h = absurd (false≢true h)
 equal-options same each (Some x) None h = absurd (false≢true h)
 equal-options same each (Some x) (Some y) h = ap Some (each x y h)
 
+-- items that were compared by a test that is this one
+pub equal-tested : {R : Type 0} (test same : R → R → Bool) {x y : R} {r : Bool} → r ≡ test x y → ((x y : R) → test x y ≡ same x y) → Equates same → r ≡ true → x ≡ y
+equal-tested test same {x} {y} is each equal holds = equal x y (sym (each x y) ∙ sym is ∙ holds)
+
 module _ {R : Type 0} (columns : List Column) (cells : R → Cells columns) (row : Cells columns → R) where
   -- rows of which all columns are the same
-  equal-rows : ((x : R) → row (cells x) ≡ x) → (x y : R) → same_cells columns (cells x) (cells y) ≡ true → x ≡ y
+  pub equal-rows : ((x : R) → row (cells x) ≡ x) → (x y : R) → same_cells columns (cells x) (cells y) ≡ true → x ≡ y
   equal-rows again x y h = sym (again x) ∙ (ap row ((same_values-Decides columns (cells x) (cells y)).0 h) ∙ again y)
 
-equal-limits : Equates same_ocp
+pub equal-limits : Equates same_ocp
 equal-limits x y h = let states = is_of_states x.sort in equal-rows (ocp states) (ocp_cells states) (ocp_row states) (λ x. refl) x y h
 
 equal-curves : Equates same_curve

@@ -119,13 +119,14 @@ filter-fewer p (x ∷ xs) = go (p x) (filter-fewer p xs) where
   go true h = omega (arith, h)
   go false h = omega (arith, h)
 
-planned-once : (db : Database) → IsSound db → Once (planned_rows db)
-planned-once db sound name =
-    let few = sound-once db sound name in
+-- each parameter that has a plan has a name of its own where each parameter has
+pub planned-once : (db : Database) → Once db.pcf → Once (planned_rows db)
+planned-once db once name =
+    let few = once name in
     let fewer = filter-fewer has_plan (filter (named name) db.pcf) in
     omega (arith, few, fewer, ap length (named-planned db name))
 
-once-tail : (x : PcfRow) (xs : List PcfRow) → Once (x ∷ xs) → Once xs
+pub once-tail : (x : PcfRow) (xs : List PcfRow) → Once (x ∷ xs) → Once xs
 once-tail x xs once name = go (named name x) (once name) where
   go : (b : Bool) → length (cond b (x ∷ filter (named name) xs) (filter (named name) xs)) ≤ 1 → length (filter (named name) xs) ≤ 1
   go true h = omega (arith, h)
@@ -167,4 +168,4 @@ unfolding param_slices
 slices-ascend db sound =
     ascend-from db (planned_rows db)
     (sorted-up (less nat_list_cmp_total by_name) (may_stand nat_list_cmp_total by_name) (ranks_by nat_list_cmp_total by_name) (not-less nat_list_cmp_total by_name) (filter has_plan db.pcf))
-    (planned-once db sound)
+    (planned-once db (sound-once db sound))

@@ -1,4 +1,5 @@
 pub mod Sharing
 pub mod Compiled
 pub mod Laws
+pub mod Changed
 pub mod Beside

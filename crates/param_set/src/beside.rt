@@ -1,127 +1,135 @@
-// The plans of parameters beside those of a base that has the same parameters.
-ghost use Rattle.std.specs.Prelude.{◌≡◌, ◌+◌, ◌≤◌, ◌<◌, ℕ, IsTrue, true, map, filter, length, option_map, slice_index_or, IfOk, OnOk};
+// The plans of parameters beside those of a base that has parameters of the same names.
+ghost use Rattle.std.specs.Prelude.{◌≡◌, ◌+◌, ◌≤◌, ◌<◌, ℕ, IsTrue, map, filter, length, slice_index_or, IfOk, OnOk, false};
 ghost use Rattle.std.specs.Arc.{arc_value};
-ghost use Rattle.std.specs.Cmp.Lexicographic.{pointwise};
-ghost use Rattle.std.specs.Option.{option_eq};
 ghost use Rattle.edition_plans.specs.Params.{param_slices};
 ghost use Rattle.mib_keys.specs.Kept.{AreSameIn};
-ghost use Rattle.mib_model.specs.Carry.{check_of};
-ghost use Rattle.mib_model.specs.Checks.{checks_of};
-ghost use Rattle.mib_model.specs.Curves as Spec;
-ghost use Rattle.mib_model.specs.Plans.{curves_for};
-ghost use Rattle.mib_model.specs.SameRows as Same;
+ghost use Rattle.mib_model.specs.Plans.{has_plan};
 ghost use Rattle.mib_model.specs.Soundness.{IsSound};
-ghost use Rattle.mib_model.specs.Touched.{same_curve, same_slice};
 ghost use Rattle.mib_model.specs.declared.limits.TheConstants.{HELD_MOST};
-ghost use Rattle.param_plan.specs.Slices.{ParamSlice, as_slice, slice_of, slice_for};
-ghost use Rattle.param_set.specs.Beside.{AreAllKept, AreKept, are_curves_kept, is_other, now_of, one_if};
+ghost use Rattle.param_plan.specs.Slices.{ParamSlice, slice_of};
+ghost use Rattle.param_set.specs.Beside.{AreAlike, AreAllKept, IsKeptBy, IsOtherNow, are_curves_kept, has_changed, has_changed_curve, is_other, now_of, one_if};
 ghost use Rattle.param_set.specs.Sharing.{is_new};
 
-use crate::same::{same_curs, same_curves, same_ocf, same_ocps};
+use crate::changed::Changed;
+use crate::same::same_rows;
 use crate::set::{Made, Plan, Plans, params_of};
 use crate::sources::ParamSources;
-use mib_keys::same_tables;
-use mib_model::Steps;
+use mib_model::{PcfRow, Steps};
 use mib_tables::{Book, TableSet};
 use param_plan::{Param, ParamRows, Params};
 use std::alloc::{AllocError, Global};
 use std::sync::Arc;
 use std::sync::ledger::Ledger;
 
-// Whether the selections of a plan are those of its parameter now.
-fn has_selections(rows: &ParamRows, kept: bool, sources: &ParamSources) -> bool
-    requires { kept ≡ true → rows.now.curs.items ≡ Spec.selections sources.now rows.now.pcf.name }
-    ensures { result ≡ pointwise Same.same_cur rows.now.curs.items (Spec.selections sources.now rows.now.pcf.name) }
+// Whether a parameter has a plan.
+fn has_plan(row: &PcfRow) -> bool
+    ensures { result ≡ has_plan row.now }
 {
-    kept || same_curs(&rows.curs, sources.selections(&rows.pcf.name))
+    row.is_measured() && !row.is_deduced()
 }
 
-// Whether the check of a plan is that of its parameter now.
-fn has_check(rows: &ParamRows, kept: bool, sources: &ParamSources) -> bool
-    requires { kept ≡ true → rows.now.ocf ≡ check_of sources.now rows.now.pcf.name }
-    ensures { result ≡ option_eq Same.same_ocf rows.now.ocf (check_of sources.now rows.now.pcf.name) }
+// Whether two parameters have one name, and both a plan or both none.
+fn is_alike(old: &PcfRow, new: &PcfRow) -> bool
+    ensures { IsTrue result → (old.now.name ≡ new.now.name) × (has_plan old.now ≡ has_plan new.now) }
 {
-    kept || same_ocf(&rows.ocf, &sources.check(&rows.pcf.name))
+    old.name == new.name && has_plan(old) == has_plan(new)
 }
 
-// Whether the limits of a plan are those of its parameter now.
-fn has_limits(rows: &ParamRows, kept: bool, sources: &ParamSources) -> bool
-    requires { kept ≡ true → rows.now.ocps.items ≡ checks_of sources.now rows.now.pcf.name }
-    ensures { result ≡ pointwise Same.same_ocp rows.now.ocps.items (checks_of sources.now rows.now.pcf.name) }
+// Whether each parameter is alike the one beside it.
+fn are_alike_beside(old: &[PcfRow], new: &[PcfRow]) -> bool
+    requires { length old.now ≡ length new.now }
+    ensures { IsTrue result → AreAlike old.now new.now }
 {
-    kept || same_ocps(&rows.ocps, sources.limits(&rows.pcf.name))
+    for (old, new) in old.iter().zip(new) {
+        if !is_alike(old, new) {
+            return false;
+        }
+    }
+    true
 }
 
-// Whether the curves of a plan are those of its parameter now. An error is want of memory.
-fn has_curves(
+// Whether two tables have parameters of the same names, at the same places, with plans or without.
+fn are_alike(old: &[PcfRow], new: &[PcfRow]) -> bool
+    ensures { IsTrue result → AreAlike old.now new.now }
+{
+    old.len() == new.len() && are_alike_beside(old, new)
+}
+
+// Whether two books have parameters alike, which may be known to be the same.
+fn has_parameters(old: &Book, same: TableSet, new: &Book) -> bool
+    requires { AreSameIn same old.now new.now }
+    ensures { IsTrue result → AreAlike old.now.pcf new.now.pcf }
+{
+    same.pcf || are_alike(old.pcf(), new.pcf())
+}
+
+// Whether nothing changed that a plan depends on.
+fn is_kept(rows: &ParamRows, changed: &Changed) -> bool
+    ensures { IsTrue result → (has_changed changed.now (slice_of rows.now) ≡ false) × (has_changed_curve changed.now (slice_of rows.now) ≡ false) }
+{
+    !changed.has_parameter(&rows.pcf.name) && !changed.has_curve_of(rows)
+}
+
+// The rows that a parameter has now: those of its plan, but for curves, where it did not change.
+fn rows_now(
     alloc: Global,
     rows: &ParamRows,
-    kept: bool,
-    sources: &ParamSources,
-) -> Result<bool, AllocError>
-    requires { kept ≡ true → map (option_map arc_value) rows.now.curves.items ≡ curves_for sources.now rows.now.pcf }
-    ensures { IfOk result (λ has. has ≡ pointwise (option_eq same_curve) (map (option_map arc_value) rows.now.curves.items)
-        (curves_for sources.now rows.now.pcf)) }
+    changed: &Changed,
+    sources: &ParamSources<'_>,
+) -> Result<ParamRows, AllocError>
+    requires { IsKeptBy changed.now (slice_of rows.now) sources.now }
+    ensures { IfOk result (λ now. slice_of now ≡ now_of sources.now (slice_of rows.now)) }
 {
-    if kept {
-        return Ok(true);
+    if changed.has_parameter(&rows.pcf.name) {
+        return sources.rows(alloc, &sources.parameter(&rows.pcf));
     }
-    let curs = sources.selections(&rows.pcf.name);
-    let curves = sources.curves(alloc, &rows.pcf, curs)?;
-    Ok(same_curves(&rows.curves, &curves))
+    Ok(ParamRows {
+        pcf: rows.pcf,
+        curs: Vec::from_slice(alloc, &rows.curs)?,
+        curves: sources.curves(alloc, &rows.pcf, &rows.curs)?,
+        ocf: rows.ocf,
+        ocps: Vec::from_slice(alloc, &rows.ocps)?,
+    })
 }
 
-// Whether all tables that curves are found in are kept.
-fn are_curves_kept(same: TableSet) -> bool
-    ensures { result ≡ are_curves_kept same }
-{
-    same.cur && same.caf && same.cap && same.txf && same.txp && same.mcf && same.lgf
-}
-
-// Whether a plan is of the rows that its parameter has now. An error is want of memory.
-fn is_as_now(
+// The rows that a parameter has now, where its plan is of others.
+fn other_rows(
     alloc: Global,
     rows: &ParamRows,
-    same: TableSet,
-    sources: &ParamSources,
-) -> Result<bool, AllocError>
-    requires { AreKept same (slice_of rows.now) sources.now }
-    ensures { IfOk result (λ as_now. as_now ≡ same_slice (as_slice (slice_of rows.now)) (as_slice (slice_for sources.now rows.now.pcf))) }
+    changed: &Changed,
+    sources: &ParamSources<'_>,
+) -> Result<Option<ParamRows>, AllocError>
+    requires { IsKeptBy changed.now (slice_of rows.now) sources.now }
+    ensures { IfOk result (IsOtherNow sources.now (slice_of rows.now)) }
 {
-    if !has_selections(rows, same.cur, sources) {
-        return Ok(false);
+    let now = rows_now(alloc, rows, changed, sources)?;
+    if same_rows(rows, &now) {
+        Ok(None)
+    } else {
+        Ok(Some(now))
     }
-    if !has_check(rows, same.ocf, sources) {
-        return Ok(false);
-    }
-    if !has_limits(rows, same.ocp, sources) {
-        return Ok(false);
-    }
-    let curves = has_curves(alloc, rows, are_curves_kept(same), sources)?;
-    Ok(curves)
 }
 
-// The plan of a parameter: that of the base where it is of the rows that the parameter has now, and else compiled.
-fn plan_beside<L: Ledger>(
+// The plan of a parameter that changed: that of the base where it is of the rows that the parameter has now, and else
+// compiled.
+fn changed_plan<L: Ledger>(
     alloc: Global,
     plan: &Arc<Param>,
-    same: TableSet,
-    sources: &ParamSources,
+    changed: &Changed,
+    sources: &ParamSources<'_>,
     steps: &mut Steps<L>,
 ) -> Result<Plan, AllocError>
-    requires { AreKept same (arc_value plan.now) sources.now }
+    requires { IsKeptBy changed.now (arc_value plan.now) sources.now }
     ensures plan { IfOk result (λ made. arc_value made.param ≡ now_of sources.now (arc_value plan.now)) }
     ensures is_new { IfOk result (λ made. made.is_new ≡ is_other sources.now (arc_value plan.now)) }
     ensures steps { OnOk result (steps.new ≡ steps.old + one_if (is_other sources.now (arc_value plan.now))) }
 {
-    let rows = plan.rows();
-    if is_as_now(alloc, rows, same, sources)? {
+    let Some(rows) = other_rows(alloc, plan.rows(), changed, sources)? else {
         return Ok(Plan {
             param: plan.clone()?,
             is_new: false,
         });
-    }
-    let rows = sources.rows(alloc, &rows.pcf)?;
+    };
     let param = Param::compile(alloc, rows, steps)?;
     Ok(Plan {
         param: Arc::new(alloc, param)?,
@@ -129,18 +137,40 @@ fn plan_beside<L: Ledger>(
     })
 }
 
+// The plan of a parameter: that of the base where nothing changed, and else by the rows that it has now.
+fn plan_beside<L: Ledger>(
+    alloc: Global,
+    plan: &Arc<Param>,
+    changed: &Changed,
+    sources: &ParamSources<'_>,
+    steps: &mut Steps<L>,
+) -> Result<Plan, AllocError>
+    requires { IsKeptBy changed.now (arc_value plan.now) sources.now }
+    ensures plan { IfOk result (λ made. arc_value made.param ≡ now_of sources.now (arc_value plan.now)) }
+    ensures is_new { IfOk result (λ made. made.is_new ≡ is_other sources.now (arc_value plan.now)) }
+    ensures steps { OnOk result (steps.new ≡ steps.old + one_if (is_other sources.now (arc_value plan.now))) }
+{
+    if is_kept(plan.rows(), changed) {
+        return Ok(Plan {
+            param: plan.clone()?,
+            is_new: false,
+        });
+    }
+    changed_plan(alloc, plan, changed, sources, steps)
+}
+
 // The plans of the parameters of a base, of the rows that they have now, with room for so many.
 fn plans_beside<L: Ledger>(
     alloc: Global,
     base: &Params,
     room: usize,
-    same: TableSet,
-    sources: &ParamSources,
+    changed: &Changed,
+    sources: &ParamSources<'_>,
     steps: &mut Steps<L>,
 ) -> Result<Plans, AllocError>
     requires room { length base.now ≤ room }
     requires few { room ≤ u32.MAX }
-    requires kept { (i : ℕ) (slice : ParamSlice) → i < length base.now → slice ≡ slice_index_or base.now i slice → AreKept same slice sources.now }
+    requires kept { (i : ℕ) (slice : ParamSlice) → i < length base.now → slice ≡ slice_index_or base.now i slice → IsKeptBy changed.now slice sources.now }
     ensures plans { IfOk result (λ plans. map arc_value plans.params.items ≡ map (now_of sources.now) base.now) }
     ensures compiled { IfOk result (λ plans. plans.compiled ≡ length (filter (is_new base.now) (map (now_of sources.now) base.now))) }
     ensures few { IfOk result (λ plans. plans.compiled ≤ length base.now) }
@@ -149,14 +179,14 @@ fn plans_beside<L: Ledger>(
     let mut params = Vec::with_capacity(alloc, room)?;
     let mut compiled = 0;
     for plan in base.plans() {
-        let made = plan_beside(alloc, plan, same, sources, steps)?;
+        let made = plan_beside(alloc, plan, changed, sources, steps)?;
         compiled += u32::from(made.is_new);
         params.push(made.param)?;
     }
     Ok(Plans { params, compiled })
 }
 
-// The plans of a book that has the parameters of a base.
+// The plans of a book that has parameters alike those of a base: rows are looked up for few, and else for all.
 fn taken_over<L: Ledger>(
     alloc: Global,
     base: &Params,
@@ -168,17 +198,28 @@ fn taken_over<L: Ledger>(
     requires base { base.now ≡ param_slices old.now }
     requires sound { IsSound book.now }
     requires same { AreSameIn same old.now book.now }
-    requires parameters { same.pcf ≡ true }
+    requires parameters { AreAlike old.now.pcf book.now.pcf }
     ensures params { IfOk result (λ made. made.params ≡ param_slices book.now) }
     ensures compiled { IfOk result (λ made. made.compiled ≡ length (filter (is_new base.now) (param_slices book.now))) }
     ensures few { IfOk result (λ made. made.compiled ≤ HELD_MOST) }
     ensures steps { OnOk result (steps.new ≡ steps.old + length (filter (is_new base.now) (param_slices book.now))) }
 {
-    let sources = ParamSources::new(alloc, book)?;
-    let plans = plans_beside(alloc, base, old.pcf().len(), same, &sources, steps)?;
+    let changed = Changed::between(alloc, old, same, book)?;
+    if !changed.is_few() {
+        return params_of(alloc, base, book, steps);
+    }
+    let sources = ParamSources::of_few(alloc, book, changed.curves())?;
+    let plans = plans_beside(alloc, base, old.pcf().len(), &changed, &sources, steps)?;
     let compiled = plans.compiled;
     let params = Params::new(plans.params);
     Ok(Made { params, compiled })
+}
+
+// Whether all tables that curves are found in are kept.
+fn are_curves_kept(same: TableSet) -> bool
+    ensures { result ≡ are_curves_kept same }
+{
+    same.cur && same.caf && same.cap && same.txf && same.txp && same.mcf && same.lgf
 }
 
 // Whether all tables that plans of parameters depend on are known to be the same.
@@ -225,8 +266,8 @@ fn shared(
 }
 
 /// The plans of the parameters of a sound book, as `params_of` gives them, beside those of another book, where tables are
-/// known that have the same rows in both. Where both have the same parameters, no rows are gathered for a plan that is
-/// shared. An error is want of memory, after the steps of what was compiled.
+/// known that have the same rows in both. Where both have parameters of the same names and few rows differ, rows are gathered
+/// only for the plans that these touch. An error is want of memory, after the steps of what was compiled.
 pub fn params_with<L: Ledger>(
     alloc: Global,
     base: &Params,
@@ -246,27 +287,9 @@ pub fn params_with<L: Ledger>(
     if are_all_kept(same) {
         return shared(alloc, base, old, same, book);
     }
-    if same.pcf {
+    if has_parameters(old, same, book) {
         taken_over(alloc, base, old, same, book, steps)
     } else {
         params_of(alloc, base, book, steps)
     }
-}
-
-/// The plans of the parameters of a sound book beside those of another, as `params_with` gives them.
-pub fn params_beside<L: Ledger>(
-    alloc: Global,
-    base: &Params,
-    old: &Book,
-    book: &Book,
-    steps: &mut Steps<L>,
-) -> Result<Made, AllocError>
-    requires base { base.now ≡ param_slices old.now }
-    requires sound { IsSound book.now }
-    ensures params { IfOk result (λ made. made.params ≡ param_slices book.now) }
-    ensures compiled { IfOk result (λ made. made.compiled ≡ length (filter (is_new base.now) (param_slices book.now))) }
-    ensures few { IfOk result (λ made. made.compiled ≤ HELD_MOST) }
-    ensures steps { OnOk result (steps.new ≡ steps.old + length (filter (is_new base.now) (param_slices book.now))) }
-{
-    params_with(alloc, base, old, same_tables(old, book), book, steps)
 }

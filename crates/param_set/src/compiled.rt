@@ -25,15 +25,15 @@ const NUMBERS: u8 = b'N';
 /// The category of parameters whose curves give texts.
 const TEXTS: u8 = b'S';
 
-/// The curves of a sound book, of which each is compiled once and shared. Contracts see the book's database.
-pub struct CompiledCurves {
-    curves: Curves,
+/// The curves of a sound book, of which those that are kept by name are compiled once and shared. Contracts see the book's database.
+pub struct CompiledCurves<'a> {
+    curves: Curves<'a>,
     numbers: HashMap<Name, Arc<Curve>>,
     texts: HashMap<Name, Arc<Curve>>,
 }
 
 /// By hand, so that whoever lets one go proves one call.
-impl Drop for CompiledCurves {
+impl<'a> Drop for CompiledCurves<'a> {
     fn drop(self) {
         let CompiledCurves {
             curves: _curves,
@@ -43,7 +43,7 @@ impl Drop for CompiledCurves {
     }
 }
 
-impl Model for CompiledCurves {
+impl<'a> Model for CompiledCurves<'a> {
     ghost use Rattle.std.specs.Prelude.{◌≡◌};
     ghost use Rattle.mib_model.specs.declared.database.Database.{Database};
     ghost use Rattle.mib_model.specs.Curves.{curve_named};
@@ -84,6 +84,24 @@ fn keep(
         kept.insert(name, curve)?;
     }
     Ok(())
+}
+
+// Keeps the curves of these names.
+fn keep_named(
+    alloc: Global,
+    curves: &Curves,
+    categ: u8,
+    names: &[Name],
+) -> Result<HashMap<Name, Arc<Curve>>, AllocError>
+    requires { IsSound curves.now }
+    ensures { IfOk result (AreNamed (curve_named curves.now categ)) }
+{
+    let mut kept = HashMap::new(alloc);
+    for name in names {
+        let rows = curves.named(alloc, categ, name)?;
+        keep(alloc, &mut kept, *name, rows)?;
+    }
+    Ok(kept)
 }
 
 // Keeps the curves that rows name.
@@ -136,15 +154,34 @@ fn texts_of(
     Ok(kept)
 }
 
-impl CompiledCurves {
-    /// The curves of a sound book. An error is want of memory.
-    pub fn new(alloc: Global, book: &Book) -> Result<CompiledCurves, AllocError>
+impl<'a> CompiledCurves<'a> {
+    /// The curves of a sound book, all compiled. An error is want of memory.
+    pub fn all(alloc: Global, book: &'a Book) -> Result<CompiledCurves<'a>, AllocError>
         requires { IsSound book.now }
         ensures { IfOk result (λ all. all ≡ book.now) }
     {
-        let curves = Curves::new(alloc, book)?;
+        let curves = Curves::mapped(alloc, book)?;
         let numbers = numbers_of(alloc, &curves, book)?;
         let texts = texts_of(alloc, &curves, book)?;
+        Ok(CompiledCurves {
+            curves,
+            numbers,
+            texts,
+        })
+    }
+
+    /// The curves of a sound book, of which few are looked up, those of these names compiled. An error is want of memory.
+    pub fn of_names(
+        alloc: Global,
+        book: &'a Book,
+        names: &[Name],
+    ) -> Result<CompiledCurves<'a>, AllocError>
+        requires { IsSound book.now }
+        ensures { IfOk result (λ some. some ≡ book.now) }
+    {
+        let curves = Curves::listed(book);
+        let numbers = keep_named(alloc, &curves, NUMBERS, names)?;
+        let texts = keep_named(alloc, &curves, TEXTS, names)?;
         Ok(CompiledCurves {
             curves,
             numbers,

@@ -4,29 +4,28 @@ ghost use Rattle.std.specs.Option.{option_or};
 ghost use Rattle.curve_plan.specs.Rows.{rows_of};
 ghost use Rattle.mib_model.specs.Curves as Spec;
 
+use crate::lookups::{Firsts, Groups};
 use crate::ways::{ByLogarithm, ByPoint, ByPointCurve, ByPolynomial, ByText, ByTextCurve};
 use curve_plan::CurveRows;
-use first_rows::FirstRows;
 use mib_model::Name;
 use mib_tables::Book;
-use row_groups::RowGroups;
 use std::alloc::{AllocError, Global};
 use std::marker::Model;
 use std::snapshot::Snapshot;
 
 /// The curves of a book by their names. Contracts see the book's database.
-pub struct Curves {
-    by_points: FirstRows<ByPointCurve>,
-    points: RowGroups<ByPoint>,
-    by_texts: FirstRows<ByTextCurve>,
-    texts: RowGroups<ByText>,
-    polynomials: FirstRows<ByPolynomial>,
-    logarithms: FirstRows<ByLogarithm>,
+pub struct Curves<'a> {
+    by_points: Firsts<'a, ByPointCurve>,
+    points: Groups<'a, ByPoint>,
+    by_texts: Firsts<'a, ByTextCurve>,
+    texts: Groups<'a, ByText>,
+    polynomials: Firsts<'a, ByPolynomial>,
+    logarithms: Firsts<'a, ByLogarithm>,
     book: Snapshot<Book>,
 }
 
 /// By hand, so that whoever lets one go proves one call.
-impl Drop for Curves {
+impl<'a> Drop for Curves<'a> {
     fn drop(self) {
         let Curves {
             by_points: _by_points,
@@ -40,7 +39,7 @@ impl Drop for Curves {
     }
 }
 
-impl Model for Curves {
+impl<'a> Model for Curves<'a> {
     ghost use Rattle.std.specs.Prelude.{◌≡◌};
     ghost use Rattle.mib_model.specs.declared.database.Database.{Database};
 
@@ -53,20 +52,35 @@ impl Model for Curves {
         × (curves.polynomials ≡ curves.book.value.mcf) × (curves.logarithms ≡ curves.book.value.lgf) };
 }
 
-impl Curves {
-    /// The curves of a book. An error is want of memory.
-    pub fn new(alloc: Global, book: &Book) -> Result<Curves, AllocError>
+impl<'a> Curves<'a> {
+    /// The curves of a book, of which many are looked up. An error is want of memory.
+    pub fn mapped(alloc: Global, book: &'a Book) -> Result<Curves<'a>, AllocError>
         ensures { IfOk result (λ curves. curves ≡ book.now) }
     {
         Ok(Curves {
-            by_points: FirstRows::new(alloc, book.caf())?,
-            points: RowGroups::new(alloc, book.cap())?,
-            by_texts: FirstRows::new(alloc, book.txf())?,
-            texts: RowGroups::new(alloc, book.txp())?,
-            polynomials: FirstRows::new(alloc, book.mcf())?,
-            logarithms: FirstRows::new(alloc, book.lgf())?,
+            by_points: Firsts::mapped(alloc, book.caf())?,
+            points: Groups::mapped(alloc, book.cap())?,
+            by_texts: Firsts::mapped(alloc, book.txf())?,
+            texts: Groups::mapped(alloc, book.txp())?,
+            polynomials: Firsts::mapped(alloc, book.mcf())?,
+            logarithms: Firsts::mapped(alloc, book.lgf())?,
             book: Snapshot::of(book),
         })
+    }
+
+    /// The curves of a book, of which few are looked up.
+    pub fn listed(book: &'a Book) -> Curves<'a>
+        ensures { result ≡ book.now }
+    {
+        Curves {
+            by_points: Firsts::listed(book.caf()),
+            points: Groups::listed(book.cap()),
+            by_texts: Firsts::listed(book.txf()),
+            texts: Groups::listed(book.txp()),
+            polynomials: Firsts::listed(book.mcf()),
+            logarithms: Firsts::listed(book.lgf()),
+            book: Snapshot::of(book),
+        }
     }
 
     // The curve by points of a name.
@@ -75,7 +89,7 @@ impl Curves {
     {
         match self.by_points.find(name) {
             Some(caf) => {
-                let caps = Vec::from_slice(alloc, self.points.of(name))?;
+                let caps = self.points.of(alloc, name)?;
                 Ok(Some(CurveRows::Points { caf: *caf, caps }))
             }
             None => Ok(None),
@@ -88,7 +102,7 @@ impl Curves {
     {
         match self.by_texts.find(name) {
             Some(txf) => {
-                let txps = Vec::from_slice(alloc, self.texts.of(name))?;
+                let txps = self.texts.of(alloc, name)?;
                 Ok(Some(CurveRows::Texts { txf: *txf, txps }))
             }
             None => Ok(None),

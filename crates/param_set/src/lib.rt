@@ -2,22 +2,24 @@
 //!
 //! `params_of` compiles a plan for each parameter that has one, and takes over by handle each plan of a base whose rows
 //! are the same, in the same order. The rows of a parameter are found by hash maps that are made once, so that its time
-//! grows with the rows, but for what is sorted. `params_beside` compares, where parameters are the same, only what other
-//! tables changed. It rests on mib_tables for the rows, on mib_keys for the tables in which two books differ, on first_rows
+//! grows with the rows, but for what is sorted. `params_with` gathers, where few rows differ from those of a base, the rows of
+//! the parameters alone that these touch. It rests on mib_tables for the rows, on mib_keys for the tables in which two books differ, on first_rows
 //! and row_groups for finding rows, and on param_plan for the plans.
 #![tactic(auto)]
 
 mod beside;
+mod changed;
 mod compiled;
 mod curves;
 mod laws;
+mod lookups;
 mod order;
 mod same;
 mod set;
 mod sources;
 mod ways;
 
-pub use beside::{params_beside, params_with};
+pub use beside::params_with;
 pub use laws::{
     all_plans_are_new_to_nothing, new_plans_are_touched, param_slices_are_of_the_database,
     param_slices_have_the_planned_names,

@@ -21,10 +21,10 @@ trait Order {
 }
 
 // Rows in order of their keys, those of one key in the order that they are given in.
-fn ordered<O: Order>(alloc: Global, rows: &[O::Row]) -> Result<Vec<O::Row>, AllocError>
-    ensures { IfOk result (λ ordered. ordered.items ≡ sorted_by (λ x y. is_le (O.Key.cmp (O.key_of x) (O.key_of y))) rows.now) }
+fn ordered<O: Order>(rows: Vec<O::Row>) -> Result<Vec<O::Row>, AllocError>
+    ensures { IfOk result (λ ordered. ordered.items ≡ sorted_by (λ x y. is_le (O.Key.cmp (O.key_of x) (O.key_of y))) rows.items) }
 {
-    let mut ordered = Vec::from_slice(alloc, rows)?;
+    let mut ordered = rows;
     ordered.sort_by_key(|row| O::key(row))?;
     Ok(ordered)
 }
@@ -80,15 +80,15 @@ pub fn parameters(alloc: Global, rows: &[PcfRow]) -> Result<Vec<&PcfRow>, AllocE
 }
 
 /// Selections by POS, those of one POS in file order. An error is want of memory.
-pub fn selections(alloc: Global, rows: &[CurRow]) -> Result<Vec<CurRow>, AllocError>
-    ensures { IfOk result (λ ordered. ordered.items ≡ sorted_by_number (λ row. row.pos) rows.now) }
+pub fn selections(rows: Vec<CurRow>) -> Result<Vec<CurRow>, AllocError>
+    ensures { IfOk result (λ ordered. ordered.items ≡ sorted_by_number (λ row. row.pos) rows.items) }
 {
-    ordered::<SelectionsByPos>(alloc, rows)
+    ordered::<SelectionsByPos>(rows)
 }
 
 /// Limits by POS, those of one POS in file order. An error is want of memory.
-pub fn limits(alloc: Global, rows: &[OcpRow]) -> Result<Vec<OcpRow>, AllocError>
-    ensures { IfOk result (λ ordered. ordered.items ≡ sorted_by_number (λ row. row.pos) rows.now) }
+pub fn limits(rows: Vec<OcpRow>) -> Result<Vec<OcpRow>, AllocError>
+    ensures { IfOk result (λ ordered. ordered.items ≡ sorted_by_number (λ row. row.pos) rows.items) }
 {
-    ordered::<LimitsByPos>(alloc, rows)
+    ordered::<LimitsByPos>(rows)
 }

@@ -22,8 +22,8 @@ fn same_pcf(old: &PcfRow, new: &PcfRow) -> bool
     old == new
 }
 
-/// Whether two lists of rows of cur are equal.
-pub fn same_curs(old: &[CurRow], new: &[CurRow]) -> bool
+// Whether two lists of rows of cur are equal.
+fn same_curs(old: &[CurRow], new: &[CurRow]) -> bool
     ensures { result ≡ pointwise Same.same_cur old.now new.now }
 {
     old == new
@@ -75,16 +75,16 @@ fn same_lgf(old: &LgfRow, new: &LgfRow) -> bool
     old == new
 }
 
-/// Whether two checks are equal, or both missing.
+// Whether two checks are equal, or both missing.
 #[tactic(auto, unfolding(mib_model::specs::Sameness::same_cells))]
-pub fn same_ocf(old: &Option<OcfRow>, new: &Option<OcfRow>) -> bool
+fn same_ocf(old: &Option<OcfRow>, new: &Option<OcfRow>) -> bool
     ensures { result ≡ option_eq Same.same_ocf old.now new.now }
 {
     old == new
 }
 
-/// Whether two lists of rows of ocp are equal.
-pub fn same_ocps(old: &[OcpRow], new: &[OcpRow]) -> bool
+// Whether two lists of rows of ocp are equal.
+fn same_ocps(old: &[OcpRow], new: &[OcpRow]) -> bool
     ensures { result ≡ pointwise Same.same_ocp old.now new.now }
 {
     old == new
@@ -139,8 +139,8 @@ fn same_beside(old: &[Option<Arc<Curve>>], new: &[Option<Arc<Curve>>]) -> bool
     true
 }
 
-/// Whether two lists of curves have the same rows.
-pub fn same_curves(old: &[Option<Arc<Curve>>], new: &[Option<Arc<Curve>>]) -> bool
+// Whether two lists of curves have the same rows.
+fn same_curves(old: &[Option<Arc<Curve>>], new: &[Option<Arc<Curve>>]) -> bool
     ensures { result ≡ pointwise (option_eq Spec.same_curve) (map (option_map arc_value) old.now) (map (option_map arc_value) new.now) }
 {
     old.len() == new.len() && same_beside(old, new)

@@ -131,7 +131,7 @@ pub fn params_of<L: Ledger>(
     ensures few { IfOk result (λ made. made.compiled ≤ HELD_MOST) }
     ensures steps { OnOk result (steps.new ≡ steps.old + length (filter (is_new base.now) (param_slices book.now))) }
 {
-    let sources = ParamSources::new(alloc, book)?;
+    let sources = ParamSources::of_all(alloc, book)?;
     let rows = parameters(alloc, book.pcf())?;
     let plans = plans_of(alloc, base, &sources, &rows, steps)?;
     let compiled = plans.compiled;

@@ -1,6 +1,9 @@
 // The rows that the plans of parameters are made of.
 ghost use Rattle.std.specs.Prelude.{◌≡◌, ◌∷◌, [], IfOk, map, option_map};
 ghost use Rattle.std.specs.Arc.{arc_value};
+ghost use Rattle.std.specs.List.{find};
+ghost use Rattle.std.specs.Option.{option_copied};
+ghost use Rattle.std.specs.Str.{bytes_eq};
 ghost use Rattle.mib_model.specs.Carry.{check_of};
 ghost use Rattle.mib_model.specs.Checks.{checks_of};
 ghost use Rattle.mib_model.specs.Curves as Spec;
@@ -8,36 +11,36 @@ ghost use Rattle.mib_model.specs.Curves.{curve_named};
 ghost use Rattle.mib_model.specs.Plans.{curve_names};
 ghost use Rattle.mib_model.specs.Soundness.{IsSound};
 ghost use Rattle.param_plan.specs.Slices.{slice_of, slice_for};
+ghost use Rattle.param_set.specs.Beside.{row_now};
 
 use crate::compiled::CompiledCurves;
+use crate::lookups::{Firsts, Groups};
 use crate::order::{limits, selections};
 use crate::ways::{ByChecked, ByLimited, BySelected};
 use curve_plan::Curve;
-use first_rows::FirstRows;
 use mib_model::{CurRow, Name, OcfRow, OcpRow, PcfRow};
 use mib_tables::Book;
 use param_plan::ParamRows;
-use row_groups::RowGroups;
 use std::alloc::{AllocError, Global};
 use std::marker::Model;
 use std::snapshot::Snapshot;
 use std::sync::Arc;
 
 /// The rows of a book by the keys that parameters look them up by. Contracts see the book's database.
-pub struct ParamSources {
-    curves: CompiledCurves,
-    // by POS
-    selections: RowGroups<BySelected>,
-    checks: FirstRows<ByChecked>,
-    // by POS
-    limits: RowGroups<ByLimited>,
+pub struct ParamSources<'a> {
+    parameters: &'a [PcfRow],
+    curves: CompiledCurves<'a>,
+    selections: Groups<'a, BySelected>,
+    checks: Firsts<'a, ByChecked>,
+    limits: Groups<'a, ByLimited>,
     book: Snapshot<Book>,
 }
 
 /// By hand, so that whoever lets one go proves one call.
-impl Drop for ParamSources {
+impl<'a> Drop for ParamSources<'a> {
     fn drop(self) {
         let ParamSources {
+            parameters: _,
             curves: _curves,
             selections: _selections,
             checks: _checks,
@@ -47,48 +50,81 @@ impl Drop for ParamSources {
     }
 }
 
-impl Model for ParamSources {
+impl<'a> Model for ParamSources<'a> {
     ghost use Rattle.std.specs.Prelude.{◌≡◌};
     ghost use Rattle.mib_model.specs.declared.database.Database.{Database};
-    ghost use Rattle.mib_model.specs.Orders.{sorted_by_number};
 
     ghost Value = { Database };
 
     ghost view = { λ sources. sources.book.value };
 
-    ghost invariant = { λ sources. (sources.curves ≡ sources.book.value)
-        × (sources.selections ≡ sorted_by_number (λ row. row.pos) sources.book.value.cur)
-        × (sources.checks ≡ sources.book.value.ocf)
-        × (sources.limits ≡ sorted_by_number (λ row. row.pos) sources.book.value.ocp) };
+    ghost invariant = { λ sources. (sources.parameters.now ≡ sources.book.value.pcf) × (sources.curves ≡ sources.book.value)
+        × (sources.selections ≡ sources.book.value.cur) × (sources.checks ≡ sources.book.value.ocf)
+        × (sources.limits ≡ sources.book.value.ocp) };
 }
 
-impl ParamSources {
-    /// The rows of a sound book. An error is want of memory.
-    pub fn new(alloc: Global, book: &Book) -> Result<ParamSources, AllocError>
+// The first parameter of a name.
+fn named<'a>(rows: &'a [PcfRow], name: &Name) -> Option<&'a PcfRow>
+    ensures { option_copied result ≡ find (λ row. bytes_eq row.name name.now) rows.now }
+{
+    rows.iter().find(|row| row.name == *name)
+}
+
+impl<'a> ParamSources<'a> {
+    /// The rows of a sound book, for many parameters. An error is want of memory.
+    pub fn of_all(alloc: Global, book: &'a Book) -> Result<ParamSources<'a>, AllocError>
         requires { IsSound book.now }
         ensures { IfOk result (λ sources. sources ≡ book.now) }
     {
         Ok(ParamSources {
-            curves: CompiledCurves::new(alloc, book)?,
-            selections: RowGroups::new(alloc, &selections(alloc, book.cur())?)?,
-            checks: FirstRows::new(alloc, book.ocf())?,
-            limits: RowGroups::new(alloc, &limits(alloc, book.ocp())?)?,
+            parameters: book.pcf(),
+            curves: CompiledCurves::all(alloc, book)?,
+            selections: Groups::mapped(alloc, book.cur())?,
+            checks: Firsts::mapped(alloc, book.ocf())?,
+            limits: Groups::mapped(alloc, book.ocp())?,
             book: Snapshot::of(book),
         })
     }
 
-    /// The selections of a parameter, by POS.
-    pub fn selections(&self, name: &Name) -> &[CurRow]
-        ensures { result.now ≡ Spec.selections self.now name.now }
+    /// The rows of a sound book, for few parameters, and the curves of these names for many. An error is want of memory.
+    pub fn of_few(
+        alloc: Global,
+        book: &'a Book,
+        curves: &[Name],
+    ) -> Result<ParamSources<'a>, AllocError>
+        requires { IsSound book.now }
+        ensures { IfOk result (λ sources. sources ≡ book.now) }
     {
-        self.selections.of(name)
+        Ok(ParamSources {
+            parameters: book.pcf(),
+            curves: CompiledCurves::of_names(alloc, book, curves)?,
+            selections: Groups::listed(book.cur()),
+            checks: Firsts::listed(book.ocf()),
+            limits: Groups::listed(book.ocp()),
+            book: Snapshot::of(book),
+        })
     }
 
-    /// The limits of a parameter, by POS.
-    pub fn limits(&self, name: &Name) -> &[OcpRow]
-        ensures { result.now ≡ checks_of self.now name.now }
+    /// The row of the name of another, which is taken where there is none.
+    pub fn parameter(&self, row: &PcfRow) -> PcfRow
+        ensures { result ≡ row_now self.now row.now }
     {
-        self.limits.of(name)
+        let found = named(self.parameters, &row.name);
+        found.copied().unwrap_or(*row)
+    }
+
+    /// The selections of a parameter, by POS. An error is want of memory.
+    pub fn selections(&self, alloc: Global, name: &Name) -> Result<Vec<CurRow>, AllocError>
+        ensures { IfOk result (λ rows. rows.items ≡ Spec.selections self.now name.now) }
+    {
+        selections(self.selections.of(alloc, name)?)
+    }
+
+    /// The limits of a parameter, by POS. An error is want of memory.
+    pub fn limits(&self, alloc: Global, name: &Name) -> Result<Vec<OcpRow>, AllocError>
+        ensures { IfOk result (λ rows. rows.items ≡ checks_of self.now name.now) }
+    {
+        limits(self.limits.of(alloc, name)?)
     }
 
     /// The check of a parameter.
@@ -148,13 +184,13 @@ impl ParamSources {
     pub fn rows(&self, alloc: Global, row: &PcfRow) -> Result<ParamRows, AllocError>
         ensures { IfOk result (λ rows. slice_of rows ≡ slice_for self.now row.now) }
     {
-        let curs = self.selections(&row.name);
+        let curs = self.selections(alloc, &row.name)?;
         Ok(ParamRows {
             pcf: *row,
-            curs: Vec::from_slice(alloc, curs)?,
-            curves: self.curves(alloc, row, curs)?,
+            curves: self.curves(alloc, row, &curs)?,
+            curs,
             ocf: self.check(&row.name),
-            ocps: Vec::from_slice(alloc, self.limits(&row.name))?,
+            ocps: self.limits(alloc, &row.name)?,
         })
     }
 }

@@ -3,9 +3,10 @@ use Rattle.edition_plans.specs.Params.{param_slices}
 use Rattle.mib_model.specs.declared.database.Database.{Database}
 use Rattle.param_plan.specs.Names.{Ascend}
 use Rattle.param_plan.specs.Slices.{ParamSlice}
+use Rattle.param_set.proofs.AlikeFacts.{once-alike}
 use Rattle.param_set.proofs.BesideFacts.{few-slices, slices-kept, slices-now}
-use Rattle.param_set.proofs.UniqueFacts.{slices-ascend}
-use Rattle.param_set.specs.Beside.{AreKept, now_of}
+use Rattle.param_set.proofs.UniqueFacts.{slices-ascend, sound-once}
+use Rattle.param_set.specs.Beside.{IsKeptBy, now_of}
 use Rattle.param_set.specs.Sharing.{is_new}
 use Rattle.param_set.proofs.beside.taken_over.Goals as goal
 
@@ -14,25 +15,26 @@ plans_beside-requires g c =
     let old : Database = c.args.old.now in
     let new : Database = c.args.book.now in
     let most = few-slices old in
+    let once = once-alike old.pcf new.pcf c.requires.parameters.names (sound-once new c.requires.sound) in
     record {
       room = omega (arith, most, ap length c.requires.base, ap length c.pcf.ensures.rows);
       few = omega (arith, c.pcf.ensures.few);
       kept = λ i slice below is.
-          subst (λ (db : Database). AreKept c.args.same slice db) (sym c.in_ok-sources.ensures)
-          (slices-kept c.args.same old new c.requires.same i slice (let long = ap length c.requires.base in omega (arith, below, long)) (is ∙ ap (λ (slices : List ParamSlice). get_or slices i slice) c.requires.base));
+          subst (λ (db : Database). IsKeptBy c.in_ok-changed.changed slice db) (sym c.in_ok-sources.ensures)
+          (slices-kept c.in_ok-changed.changed old new c.in_ok-changed.ensures once i slice (let long = ap length c.requires.base in omega (arith, below, long)) (is ∙ ap (λ (slices : List ParamSlice). get_or slices i slice) c.requires.base));
     }
 
 pub new-params-requires : goal.new-params-requires
 new-params-requires g c =
     let slices : map (now_of c.in_ok-sources.sources) c.args.base.now ≡ param_slices c.args.book.now =
-    (λ i. map (now_of (c.in_ok-sources.ensures i)) (c.requires.base i)) ∙ slices-now c.args.same c.args.old.now c.args.book.now c.requires.same c.requires.parameters in
+    (λ i. map (now_of (c.in_ok-sources.ensures i)) (c.requires.base i)) ∙ slices-now c.args.old.now c.args.book.now (sound-once c.args.book.now c.requires.sound) c.requires.parameters in
     subst Ascend (sym (c.in_ok-plans.ensures.plans ∙ slices)) (slices-ascend c.args.book.now c.requires.sound)
 
 pub returns : goal.returns
 returns g c =
     let old : Database = c.args.old.now in
     let slices : map (now_of c.in_ok-sources.sources) c.args.base.now ≡ param_slices c.args.book.now =
-    (λ i. map (now_of (c.in_ok-sources.ensures i)) (c.requires.base i)) ∙ slices-now c.args.same old c.args.book.now c.requires.same c.requires.parameters in
+    (λ i. map (now_of (c.in_ok-sources.ensures i)) (c.requires.base i)) ∙ slices-now old c.args.book.now (sound-once c.args.book.now c.requires.sound) c.requires.parameters in
     let count = ap (λ (s : List ParamSlice). length (filter (is_new c.args.base.now) s)) slices in
     record {
       params = c.new-params.ensures ∙ c.in_ok-plans.ensures.plans ∙ slices;
