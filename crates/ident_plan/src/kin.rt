@@ -16,7 +16,7 @@ pub enum Kin {
 }
 
 impl Kin {
-    // The same with one row behind them.
+    // The rows of an APID with one more row behind them.
     fn with(self, row: &PidRow) -> Kin
         ensures { (rows : List PidRow) → IsKin rows self → IsKin (rows ++ row.now ∷ []) result }
     {
