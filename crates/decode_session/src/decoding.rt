@@ -26,7 +26,22 @@ impl<P: Plans + Sync> Work for Decoding<'_, P> {
     }
 }
 
-/// Decodes all cells by these plans, with so many workers.
+// The octets of a batch for which it pays to begin threads.
+const MANY_OCTETS: u64 = 32_768;
+
+// How many workers decode these cells: one where they hold few octets, since a thread takes longer to begin than they take.
+fn workers_for(cells: &[Cell], workers: u8) -> u8
+    requires { 1 ≤ workers }
+    ensures { 1 ≤ result }
+{
+    let mut octets = 0_u64;
+    for cell in cells {
+        octets = octets.saturating_add(u64::from(cell.octets));
+    }
+    if octets < MANY_OCTETS { 1 } else { workers }
+}
+
+/// Decodes all cells by these plans, with so many workers at most.
 pub fn decode_batch<P: Plans + Sync, R: Threads + Sync>(
     rt: &R,
     plans: &P,
@@ -38,5 +53,6 @@ pub fn decode_batch<P: Plans + Sync, R: Threads + Sync>(
     ensures count { vec_len cells.new ≡ vec_len cells.old }
     ensures room { vec_capacity cells.old ≤ vec_capacity cells.new }
 {
+    let workers = workers_for(cells, workers);
     run_batch(rt, &Decoding { plans }, cells, workers);
 }
