@@ -27,7 +27,7 @@ impl<P: Plans + Sync> Work for Decoding<'_, P> {
 }
 
 // The octets of a batch for which it pays to begin threads.
-const MANY_OCTETS: u64 = 32_768;
+const MANY_OCTETS: u64 = 262_144;
 
 // How many workers decode these cells: one where they hold few octets, since a thread takes longer to begin than they take.
 fn workers_for(cells: &[Cell], workers: u8) -> u8
