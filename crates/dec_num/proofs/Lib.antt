@@ -7,3 +7,4 @@ pub mod TextFacts
 pub mod LineFacts
 pub mod BaseFacts
 pub mod PolynomialFacts
+pub mod NearFacts

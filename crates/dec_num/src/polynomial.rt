@@ -1,5 +1,5 @@
 // Polynomials, summed at one scale.
-ghost use Rattle.std.specs.Prelude.{◌≡◌, ◌<◌, ◌≤◌, ◌≤ℤ◌, ◌+ℤ◌, ◌∷◌, ◌^◌, pos, length, nat_abs, true, false, IfSome, IfNone, OnSome};
+ghost use Rattle.std.specs.Prelude.{◌≡◌, Some, ◌<◌, ◌≤◌, ◌≤ℤ◌, ◌+ℤ◌, ◌∷◌, ◌^◌, pos, length, nat_abs, true, false, IfSome, IfNone, OnSome};
 ghost use Rattle.std.specs.List.{list_any};
 ghost use Rattle.mib_model.specs.WholeNumbers.{least_raw, greatest_raw};
 ghost use Rattle.mib_model.specs.Calibrated.{is_wide};
@@ -9,8 +9,8 @@ ghost use Rattle.dec_num.specs.Narrow.{counted, narrow, narrow_result, or_over};
 ghost use Rattle.dec_num.specs.Sums.{without_zeros, advanced, sum_behind};
 ghost use Rattle.mib_model.specs.declared.limits.TheConstants.{STEP_BOUND};
 
-use crate::rounding::scaled_down;
-use crate::steps::{outcome, product, scaled_up, step, sum};
+use crate::rounding::{scaled_down, small_power};
+use crate::steps::{near_product, outcome, product, scaled_up, step, sum};
 use mib_model::{Dec, Eng, Over};
 use std::marker::Model;
 use std::snapshot::Snapshot;
@@ -92,8 +92,55 @@ fn advance(raw: i128, power: i128, total: i128, coefficient: i128) -> Option<(i1
     Some((next, sum(total, term)?))
 }
 
+// The next power, and the sum with the term of its coefficient, where all are numbers of 64 bits.
+fn near_advance(raw: i64, power: i64, total: i64, coefficient: i64) -> Option<(i64, i64)>
+    ensures { IfSome result (λ p. advanced raw power total coefficient ≡ Some p) }
+{
+    let next = power.checked_mul(raw)?;
+    let term = coefficient.checked_mul(next)?;
+    Some((next, total.checked_add(term)?))
+}
+
+// The sum of a first coefficient and of those of the powers from 1 on, where all are numbers of 64 bits.
+fn near_total(first: i64, rest: &[i128], raw: i64) -> Option<i64>
+    ensures { IfSome result (λ z. sum_behind raw (pos 1) first rest.now ≡ Some z) }
+{
+    let mut power = 1_i64;
+    let mut total = first;
+    for coefficient in rest {
+        let Ok(coefficient) = i64::try_from(*coefficient) else {
+            return None;
+        };
+        let (next, more) = near_advance(raw, power, total, coefficient)?;
+        power = next;
+        total = more;
+    }
+    Some(total)
+}
+
+// A first coefficient, and a number, where both are of 64 bits.
+fn near_pair(first: i128, raw: i128) -> Option<(i64, i64)>
+    ensures { IfSome result (λ pair. (pair.0 ≡ first) × (pair.1 ≡ raw)) }
+{
+    Some((i64::try_from(first).ok()?, i64::try_from(raw).ok()?))
+}
+
 // The sum of a first coefficient and of those of the powers from 1 on, where no step is too wide.
 fn total(first: i128, rest: &[i128], raw: i128) -> Option<i128>
+    requires { nat_abs first < STEP_BOUND }
+    ensures value { result ≡ sum_behind raw (pos 1) first rest.now }
+    ensures within { IfSome result (λ z. nat_abs z < STEP_BOUND) }
+{
+    if let Some((first, raw)) = near_pair(first, raw) {
+        if let Some(sum) = near_total(first, rest, raw) {
+            return Some(i128::from(sum));
+        }
+    }
+    far_total(first, rest, raw)
+}
+
+// The sum of a first coefficient and of those of the powers from 1 on, step by step, where no step is too wide.
+fn far_total(first: i128, rest: &[i128], raw: i128) -> Option<i128>
     requires { nat_abs first < STEP_BOUND }
     ensures value { result ≡ sum_behind raw (pos 1) first rest.now }
     ensures within { IfSome result (λ z. nat_abs z < STEP_BOUND) }
@@ -108,8 +155,28 @@ fn total(first: i128, rest: &[i128], raw: i128) -> Option<i128>
     Some(total)
 }
 
+// A sum of 64 bits at a scale of 12 at most, brought to counts of 10^-12.
+#[tactic(auto, using(crate::proofs::NearFacts::near_counts))]
+fn near_to_count(sum: i64, scale: u8) -> i128
+    requires { scale ≤ 12 }
+    ensures { Some result ≡ narrow_result (Spec.to_count scale sum) }
+{
+    near_product(sum, small_power(12 - u32::from(scale)) as i64)
+}
+
 // A sum at a scale, brought to counts of 10^-12, where it is below the bound of results.
 fn to_count(sum: i128, scale: u8) -> Option<i128>
+    requires { nat_abs sum < STEP_BOUND }
+    ensures { result ≡ narrow_result (Spec.to_count scale sum) }
+{
+    match i64::try_from(sum) {
+        Ok(sum) if scale <= 12 => Some(near_to_count(sum, scale)),
+        _ => far_to_count(sum, scale),
+    }
+}
+
+// A sum at a scale, brought to counts of 10^-12 step by step, where it is below the bound of results.
+fn far_to_count(sum: i128, scale: u8) -> Option<i128>
     requires { nat_abs sum < STEP_BOUND }
     ensures { result ≡ narrow_result (Spec.to_count scale sum) }
 {

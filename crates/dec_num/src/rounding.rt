@@ -44,9 +44,9 @@ pub fn half(dividend: i128, divisor: u128) -> i128
     if dividend < 0 { -magnitude } else { magnitude }
 }
 
-// 10 to a power of at most 19, without a multiplication.
+/// 10 to a power of at most 19, without a multiplication.
 #[tactic(auto, using(crate::proofs::RoundingFacts::powers))]
-fn small_power(exponent: u32) -> u64
+pub fn small_power(exponent: u32) -> u64
     requires { exponent ≤ 19 }
     ensures { result ≡ 10 ^ exponent }
 {

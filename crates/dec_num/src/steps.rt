@@ -45,9 +45,9 @@ pub fn difference(a: i128, b: i128) -> Option<i128>
     step(a.checked_sub(b)?)
 }
 
-// A product of numbers of 64 bits.
+/// A product of numbers of 64 bits.
 #[tactic(auto, using(crate::proofs::ScalingFacts::near_products))]
-fn near_product(a: i64, b: i64) -> i128
+pub fn near_product(a: i64, b: i64) -> i128
     ensures { result ≡ a *ℤ b }
 {
     i128::from(a) * i128::from(b)

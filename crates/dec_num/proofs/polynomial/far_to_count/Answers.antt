@@ -5,7 +5,7 @@ use Rattle.std.proofs.lemmas.Int.{ints}
 use Rattle.dec_num.proofs.LineFacts.{narrow-Some}
 use Rattle.dec_num.specs.Narrow.{narrow_result}
 use Rattle.mib_model.specs.Counts.{times_power}
-use Rattle.dec_num.proofs.polynomial.to_count.Goals as goal
+use Rattle.dec_num.proofs.polynomial.far_to_count.Goals as goal
 
 pub returns : goal.returns
 returns c =

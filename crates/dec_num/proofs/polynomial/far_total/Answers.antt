@@ -4,7 +4,7 @@ use Rattle.std.specs.Prelude.{pos}
 use Rattle.std.proofs.lemmas.Int.{ints}
 use Rattle.dec_num.specs.Sums.{sum_behind}
 use Rattle.dec_num.proofs.PolynomialFacts.{sum_behind-stops, sum_behind-goes_on}
-use Rattle.dec_num.proofs.polynomial.total.Goals as goal
+use Rattle.dec_num.proofs.polynomial.far_total.Goals as goal
 
 pub returns-in_err-next-clause-value : goal.returns-in_err-next-clause-value
 returns-in_err-next-clause-value c =

@@ -1,7 +1,7 @@
 use Rattle.std.proofs.Common.{◌≡◌, ◌<◌, ◌^◌, drop}
 use Rattle.std.specs.Prelude.{pos, nat_abs}
 use Rattle.dec_num.specs.Sums.{sum_behind}
-use Rattle.dec_num.proofs.polynomial.total.Given as goal
+use Rattle.dec_num.proofs.polynomial.far_total.Given as goal
 
 abbrev pub invariant-loop-coefficient : goal.invariant-loop-coefficient
 invariant-loop-coefficient l = record {

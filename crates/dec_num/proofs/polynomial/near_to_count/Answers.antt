@@ -1,0 +1,25 @@
+use Rattle.std.proofs.Common.{◌≡◌, ◌^◌, ◌-◌, ◌≤◌, ◌∙◌, Some, ap, sym, to_z, of_z, w64, arith}
+use Rattle.std.specs.Prelude.{pos, ◌*ℤ◌, nat_abs}
+use Rattle.std.specs.Int.{w128}
+use Rattle.std.proofs.Math.Nat.{pow-le-pow_right}
+use Rattle.std.proofs.lemmas.Int.{ints}
+use Rattle.dec_num.specs.Narrow.{narrow_result}
+use Rattle.dec_num.proofs.NearFacts.{near-count}
+use Rattle.dec_num.proofs.polynomial.near_to_count.Goals as goal
+
+pub overflow_cast-small_power : goal.overflow_cast-small_power
+overflow_cast-small_power c =
+    let fewer : 12 - c.from.result ≤ 12 = omega arith in
+    let power : 10 ^ (12 - c.from.result) ≤ 10 ^ 12 = pow-le-pow_right {n = 10} (omega arith) fewer in
+    omega (arith, ints, power, c.small_power.ensures)
+
+pub returns : goal.returns
+returns c =
+    let product : to_z w128 (of_z w128 c.near_product.result) ≡ c.near_product.result = omega (arith, ints) in
+    let sum : to_z w64 (of_z w64 c.args.sum) ≡ c.args.sum = omega (arith, ints) in
+    let small : nat_abs c.args.sum ≤ 2 ^ 63 = omega (arith, ints) in
+    let places : 12 - c.from.result ≡ 12 - c.args.scale = omega (arith, c.from.ensures) in
+    let fewer : 12 - c.args.scale ≤ 12 = omega arith in
+    let below : 10 ^ (12 - c.args.scale) ≤ 10 ^ 12 = pow-le-pow_right {n = 10} (omega arith) fewer in
+    let power : to_z w64 (10 ^ (12 - c.args.scale)) ≡ pos (10 ^ (12 - c.args.scale)) = omega (arith, ints, below) in
+    rw (product, c.near_product.ensures, sum, c.small_power.ensures, places, power) (near-count c.args.sum c.args.scale small c.requires)
