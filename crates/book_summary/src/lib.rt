@@ -6,7 +6,5 @@
 
 mod plans;
 mod summary;
-#[cfg(test)]
-mod tests;
 
 pub use summary::summary_of;

@@ -18,6 +18,3 @@ pub use checks::Checks;
 pub use condition::{Holds, is_met};
 pub use mib_model::{Change, Class};
 pub use sample::Sample;
-
-#[cfg(test)]
-mod tests;

@@ -7,6 +7,3 @@
 mod window;
 
 pub use window::{Placed, Window};
-
-#[cfg(test)]
-mod tests;

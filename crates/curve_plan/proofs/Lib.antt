@@ -6,4 +6,3 @@ pub mod PointFacts
 pub mod PairFacts
 pub mod RangeFacts
 pub mod CompiledFacts
-pub mod TestFacts

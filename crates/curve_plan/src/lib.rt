@@ -15,6 +15,3 @@ mod slope;
 pub use curve::Curve;
 pub use mib_model::Cal;
 pub use rows::CurveRows;
-
-#[cfg(test)]
-mod tests;

@@ -12,6 +12,3 @@ mod work;
 pub use batch::run_batch;
 pub use pool::Pool;
 pub use work::{Work, accounts_of_a_pool, each_result_is_of_its_job};
-
-#[cfg(test)]
-mod tests;

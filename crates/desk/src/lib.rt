@@ -11,6 +11,3 @@ mod saving;
 mod using;
 
 pub use desk::Desk;
-
-#[cfg(test)]
-mod tests;

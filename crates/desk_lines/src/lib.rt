@@ -15,6 +15,3 @@ pub use laws::{limit_at_start, long_asks_as_front, still_at_start};
 pub use next_line::NextLine;
 pub use reader::{DeskReader, LINE_ROOM};
 pub use request::{Request, request_of};
-
-#[cfg(test)]
-mod tests;

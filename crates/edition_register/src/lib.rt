@@ -12,14 +12,8 @@ mod entry;
 mod laws;
 mod machine;
 mod outcome;
-#[cfg(test)]
-mod refusal_tests;
 mod register;
 mod start;
-#[cfg(test)]
-mod tests;
-#[cfg(test)]
-mod thread_tests;
 
 pub use editions::Editions;
 pub use entry::{Entry, Reply};

@@ -22,6 +22,3 @@ pub use check_plan::Holds;
 pub use finish::Seen;
 pub use laws::finish_is_a_step;
 pub use mib_model::MadeFor;
-
-#[cfg(test)]
-mod tests;

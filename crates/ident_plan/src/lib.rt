@@ -12,6 +12,3 @@ mod kin;
 
 pub use ident::Ident;
 pub use mib_model::{BadWhy, Found};
-
-#[cfg(test)]
-mod tests;

@@ -12,6 +12,3 @@ mod span;
 pub use bit_field::Values;
 pub use layout::Layout;
 pub use mib_model::{Ended, TypeItem};
-
-#[cfg(test)]
-mod tests;

@@ -17,6 +17,3 @@ pub use laws::{slices_are_of_plans, slices_have_curves, sound_curves_stand_apart
 pub use param::Param;
 pub use params::Params;
 pub use rows::ParamRows;
-
-#[cfg(test)]
-mod tests;

@@ -10,6 +10,3 @@ mod row_groups;
 
 pub use first_rows::By;
 pub use row_groups::RowGroups;
-
-#[cfg(test)]
-mod tests;

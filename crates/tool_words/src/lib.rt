@@ -9,6 +9,3 @@ mod line;
 mod request;
 
 pub use request::{Request, WordsFault, request_in};
-
-#[cfg(test)]
-mod tests;

@@ -11,8 +11,6 @@ mod machine;
 mod rule;
 mod slot;
 mod sum;
-#[cfg(test)]
-mod tests;
 mod turn;
 mod view;
 

@@ -16,6 +16,3 @@ pub use items::{TypeItems, item_of};
 pub use mib_model::TypeItem;
 pub use named::Named;
 pub use same::same_items;
-
-#[cfg(test)]
-mod tests;

@@ -10,6 +10,3 @@ mod rule;
 
 pub use account::Account;
 pub use queue::{Numbered, Pass, Queue};
-
-#[cfg(test)]
-mod tests;

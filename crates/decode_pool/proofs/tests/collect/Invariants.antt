@@ -1,5 +1,0 @@
-use Rattle.work_queue.specs.Passes.{IsOf}
-use Rattle.decode_pool.proofs.tests.collect.Given as goal
-
-abbrev pub invariant-loop : goal.invariant-loop
-invariant-loop g l = IsOf l.results l.pass
