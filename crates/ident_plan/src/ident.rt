@@ -1,4 +1,4 @@
-ghost use Rattle.std.specs.Prelude.{◌≡◌, ◌+◌, ◌*◌, ◌≤◌, ◌<ℤ◌, ◌==◌, ◌&&◌, negsuc, pos, ℕ, length, Option, IfOk, IfSome, OnOk, OnErr, IsTrue, Some, None, true, false, if◌then◌else◌};
+ghost use Rattle.std.specs.Prelude.{◌≡◌, ◌+◌, ◌*◌, ◌≤◌, ◌<ℤ◌, ◌==◌, ◌&&◌, [], negsuc, pos, ℕ, length, Option, IfOk, IfSome, OnOk, OnErr, IsTrue, Some, None, true, false, if◌then◌else◌};
 ghost use Rattle.std.specs.List.{find, list_any};
 ghost use Rattle.std.specs.Option.{option_copied, option_or};
 ghost use Rattle.mib_model.specs.Headers.{header_of};
@@ -22,12 +22,14 @@ pub struct Ident {
     pics: FirstRows<ByCriterion>,
     // Whether a row of pic is of an APID of its own.
     has_own: bool,
+    // Whether there is no row of pic.
+    is_bare: bool,
     // The rows of pid of each APID, where they are none or one.
     kins: Vec<Kin>,
 }
 
 impl Model for Ident {
-    ghost use Rattle.std.specs.Prelude.{◌≡◌};
+    ghost use Rattle.std.specs.Prelude.{◌≡◌, [], IsTrue};
     ghost use Rattle.std.specs.List.{list_any};
     ghost use Rattle.ident_plan.specs.Kins.{AreKins};
     ghost use Rattle.ident_plan.specs.Rows.{IdentRows, has_apid};
@@ -36,7 +38,8 @@ impl Model for Ident {
 
     ghost view = { λ ident. record { pids = ident.pids; pics = ident.pics } };
 
-    ghost invariant = { λ ident. (ident.has_own ≡ list_any has_apid ident.pics) × AreKins ident.pids ident.kins.items };
+    ghost invariant = { λ ident. (ident.has_own ≡ list_any has_apid ident.pics) × AreKins ident.pids ident.kins.items
+        × (IsTrue ident.is_bare → ident.pics ≡ []) };
 }
 
 // The service type and the subtype: octets 7 and 8 behind a secondary header, else 0 (ECSS-E-70-41A, telemetry packet
@@ -66,6 +69,7 @@ fn discriminant(packet: &[u8], offset: i32, width: u8) -> Option<u64>
 }
 
 // The two discriminants by the row of pic that stands for a packet, none where one passes the end.
+#[inline(always)]
 fn discriminants(packet: &[u8], row: Option<&PicRow>) -> Option<(u64, u64)>
     ensures { result ≡ Spec.discriminants packet.now (option_copied row.entry) }
 {
@@ -118,6 +122,14 @@ fn have_apids(pics: &[PicRow]) -> bool
     pics.iter().any(|row| row.apid.is_some())
 }
 
+// Whether there is no row of pic.
+#[tactic(auto, using(std::proofs::lemmas::List::nil_from_length))]
+fn are_none(pics: &[PicRow]) -> bool
+    ensures { IsTrue result → pics.now ≡ [] }
+{
+    pics.is_empty()
+}
+
 impl Ident {
     /// Compiles all rows of pid and pic, in file order, in one step. An error is want of memory, and takes no step.
     pub fn compile<L: Ledger>(
@@ -131,6 +143,7 @@ impl Ident {
         ensures refused { OnErr result (steps.new ≡ steps.old) }
     {
         let has_own = have_apids(pics);
+        let is_bare = are_none(pics);
         let kins = kins_of(alloc, pids)?;
         let pids = FirstRows::new(alloc, pids)?;
         let pics = FirstRows::new(alloc, pics)?;
@@ -139,6 +152,7 @@ impl Ident {
             pids,
             pics,
             has_own,
+            is_bare,
             kins,
         })
     }
@@ -165,8 +179,9 @@ impl Ident {
     }
 
     // The row of pic that stands for a packet: that with its APID before that with none.
+    #[inline(never)]
     #[tactic(auto, unfolding(mib_model::specs::Match::criterion))]
-    fn criterion(&self, header: &Header, packet: &[u8]) -> Option<&PicRow>
+    fn criterion_in_rows(&self, header: &Header, packet: &[u8]) -> Option<&PicRow>
         requires header { header.now ≡ header_of packet.now }
         requires long { lacks_service packet.now ≡ false }
         ensures { option_copied result ≡ Spec.criterion self.now.pics packet.now }
@@ -183,6 +198,28 @@ impl Ident {
         })
     }
 
+    // The row of pic that stands for a packet, if there are rows of pic.
+    #[tactic(auto, unfolding(mib_model::specs::Match::criterion))]
+    fn criterion(&self, header: &Header, packet: &[u8]) -> Option<&PicRow>
+        requires header { header.now ≡ header_of packet.now }
+        requires long { lacks_service packet.now ≡ false }
+        ensures { option_copied result ≡ Spec.criterion self.now.pics packet.now }
+    {
+        if self.is_bare {
+            return None;
+        }
+        self.criterion_in_rows(header, packet)
+    }
+
+    // The first row of pid with this key, by a probe.
+    #[inline(never)]
+    fn probed(&self, key: &PacketKey) -> Option<&PidRow>
+        ensures { option_copied result ≡ find (λ row. (row.apid == key.now.apid) && (row.service == key.now.service)
+            && (row.subtype == key.now.subtype) && (row.pi1_val == key.now.pi1_val) && (row.pi2_val == key.now.pi2_val)) self.now.pids }
+    {
+        self.pids.find(key)
+    }
+
     // The first row of pid with this key.
     fn row_of_pid(&self, key: PacketKey) -> Option<&PidRow>
         ensures { option_copied result ≡ find (λ row. (row.apid == key.apid) && (row.service == key.service)
@@ -191,7 +228,7 @@ impl Ident {
         match kin_at(&self.kins, key.apid) {
             Some(Kin::Empty) => None,
             Some(Kin::One(row)) => row_if(row, agrees(row, &key)),
-            _ => self.pids.find(&key),
+            _ => self.probed(&key),
         }
     }
 
