@@ -69,7 +69,6 @@ fn discriminant(packet: &[u8], offset: i32, width: u8) -> Option<u64>
 }
 
 // The two discriminants by the row of pic that stands for a packet, none where one passes the end.
-#[inline(always)]
 fn discriminants(packet: &[u8], row: Option<&PicRow>) -> Option<(u64, u64)>
     ensures { result ≡ Spec.discriminants packet.now (option_copied row.entry) }
 {
@@ -179,9 +178,8 @@ impl Ident {
     }
 
     // The row of pic that stands for a packet: that with its APID before that with none.
-    #[inline(never)]
     #[tactic(auto, unfolding(mib_model::specs::Match::criterion))]
-    fn criterion_in_rows(&self, header: &Header, packet: &[u8]) -> Option<&PicRow>
+    fn criterion(&self, header: &Header, packet: &[u8]) -> Option<&PicRow>
         requires header { header.now ≡ header_of packet.now }
         requires long { lacks_service packet.now ≡ false }
         ensures { option_copied result ≡ Spec.criterion self.now.pics packet.now }
@@ -198,26 +196,36 @@ impl Ident {
         })
     }
 
-    // The row of pic that stands for a packet, if there are rows of pic.
-    #[tactic(auto, unfolding(mib_model::specs::Match::criterion))]
-    fn criterion(&self, header: &Header, packet: &[u8]) -> Option<&PicRow>
+    // The two discriminants of a packet by a search through pic, none where one passes the end.
+    #[inline(never)]
+    fn values_by_rows(&self, header: &Header, packet: &[u8]) -> Option<(u64, u64)>
         requires header { header.now ≡ header_of packet.now }
         requires long { lacks_service packet.now ≡ false }
-        ensures { option_copied result ≡ Spec.criterion self.now.pics packet.now }
+        ensures { result ≡ Spec.discriminants packet.now (Spec.criterion self.now.pics packet.now) }
+    {
+        discriminants(packet, self.criterion(header, packet))
+    }
+
+    // The two discriminants of a packet, which are 0 where pic has no rows.
+    #[tactic(auto, unfolding(mib_model::specs::Match::criterion))]
+    fn values(&self, header: &Header, packet: &[u8]) -> Option<(u64, u64)>
+        requires header { header.now ≡ header_of packet.now }
+        requires long { lacks_service packet.now ≡ false }
+        ensures { result ≡ Spec.discriminants packet.now (Spec.criterion self.now.pics packet.now) }
     {
         if self.is_bare {
-            return None;
+            return Some((0, 0));
         }
-        self.criterion_in_rows(header, packet)
+        self.values_by_rows(header, packet)
     }
 
     // The first row of pid with this key, by a probe.
     #[inline(never)]
-    fn probed(&self, key: &PacketKey) -> Option<&PidRow>
-        ensures { option_copied result ≡ find (λ row. (row.apid == key.now.apid) && (row.service == key.now.service)
-            && (row.subtype == key.now.subtype) && (row.pi1_val == key.now.pi1_val) && (row.pi2_val == key.now.pi2_val)) self.now.pids }
+    fn probed(&self, key: PacketKey) -> Option<&PidRow>
+        ensures { option_copied result ≡ find (λ row. (row.apid == key.apid) && (row.service == key.service)
+            && (row.subtype == key.subtype) && (row.pi1_val == key.pi1_val) && (row.pi2_val == key.pi2_val)) self.now.pids }
     {
-        self.pids.find(key)
+        self.pids.find(&key)
     }
 
     // The first row of pid with this key.
@@ -228,7 +236,7 @@ impl Ident {
         match kin_at(&self.kins, key.apid) {
             Some(Kin::Empty) => None,
             Some(Kin::One(row)) => row_if(row, agrees(row, &key)),
-            _ => self.probed(&key),
+            _ => self.probed(key),
         }
     }
 
@@ -255,7 +263,7 @@ impl Ident {
         requires long { lacks_service packet.now ≡ false }
         ensures { result ≡ found_with self.now.pids packet.now (Spec.discriminants packet.now (Spec.criterion self.now.pics packet.now)) }
     {
-        match discriminants(packet, self.criterion(header, packet)) {
+        match self.values(header, packet) {
             Some(values) => self.identified(header, packet, values),
             None => Found::Bad(BadWhy::Short),
         }

@@ -39,10 +39,9 @@ impl<W: Write + Drop> StdSink<W> {
     // Whether so many octets are kept back, with none of those that were before them given to the system.
     #[inline(always)]
     fn keeps_back(&self, octets: usize) -> bool {
-        match self.stream.capacity().checked_sub(self.stream.buffer().len()) {
-            Some(room) => octets < room,
-            None => false,
-        }
+        let kept = self.stream.buffer().len();
+        let most = self.stream.capacity();
+        kept <= most && octets < most - kept
     }
 
     // Takes some first octets of a piece, where the system may be given some.
