@@ -60,14 +60,21 @@ fn walked<P: Plans>(plans: &P, tpsd: i32, dfhsize: u8, packet: &[u8], values: &m
     walk(plans, tpsd as u32, start, packet, values)
 }
 
-// The values of a packet that is found so, and how they end: by its structure where it names one, else by its layout.
-fn extract<P: Plans>(plans: &P, found: &Found, packet: &[u8], values: &mut Values) -> Ended
+// Takes the values of a packet that is found so, and tells how they end: by its structure where it names one, else by its
+// layout.
+fn extract<P: Plans>(
+    plans: &P,
+    found: &Found,
+    packet: &[u8],
+    values: &mut Values,
+    ended: &mut Ended,
+)
     requires sound { IsSound (P.tables plans.now) }
     requires found { found.now ≡ match_of (P.tables plans.now) packet.now }
     requires packet { length packet.now ≤ 65542 }
     requires slots { length values.old.slots.now ≡ most_values }
     requires used { values.old.used ≡ 0 }
-    ensures values { (taken values.new, result) ≡ values_of (P.tables plans.now) packet.now found.now }
+    ensures values { (taken values.new, ended.new) ≡ values_of (P.tables plans.now) packet.now found.now }
     ensures used { values.new.used ≤ most_values }
     ensures slots { length values.new.slots.now ≡ most_values }
     ensures borrow { values.new.slots.ghost_name ≡ values.old.slots.ghost_name }
@@ -80,31 +87,35 @@ fn extract<P: Plans>(plans: &P, found: &Found, packet: &[u8], values: &mut Value
             ..
         } => {
             if tpsd < 1 {
-                fixed(plans, spid, packet, values)
+                *ended = fixed(plans, spid, packet, values);
             } else {
-                walked(plans, tpsd, dfhsize, packet, values)
+                *ended = walked(plans, tpsd, dfhsize, packet, values);
             }
         }
-        _ => Ended::Whole,
+        _ => *ended = Ended::Whole,
     }
 }
 
-/// Decodes a packet: tells what it is, and takes its values into the front of the slots. It takes no memory.
-pub fn decode<P: Plans>(plans: &P, header: Header, packet: &[u8], slots: &mut [Value]) -> Half
-    requires header { header ≡ header_of packet.now }
-    requires long { 7 ≤ length packet.now }
-    requires short { length packet.now ≤ 65542 }
-    requires slots { length slots.old ≡ most_values }
-    ensures half { IsHalf (P.tables plans.now) packet.now result slots.new }
-    ensures slots { length slots.new ≡ most_values }
-{
-    let found = identify(plans, &header, packet);
-    let mut values = Values { slots, used: 0 };
-    let ended = extract(plans, &found, packet, &mut values);
-    Half {
-        header,
-        found,
-        ended,
-        used: values.used,
+impl Half {
+    /// Decodes a packet: becomes what it is, and takes its values into the front of the slots. It takes no memory.
+    pub fn decode<P: Plans>(
+        &mut self,
+        plans: &P,
+        header: &Header,
+        packet: &[u8],
+        slots: &mut [Value],
+    )
+        requires header { header.now ≡ header_of packet.now }
+        requires long { 7 ≤ length packet.now }
+        requires short { length packet.now ≤ 65542 }
+        requires slots { length slots.old ≡ most_values }
+        ensures half { IsHalf (P.tables plans.now) packet.now self.new slots.new }
+        ensures slots { length slots.new ≡ most_values }
+    {
+        self.header = *header;
+        self.found = identify(plans, header, packet);
+        let mut values = Values { slots, used: 0 };
+        extract(plans, &self.found, packet, &mut values, &mut self.ended);
+        self.used = values.used;
     }
 }

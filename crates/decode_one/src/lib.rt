@@ -1,6 +1,6 @@
 //! One packet, decoded and finished by the plans of an edition.
 //!
-//! `decode` tells what a packet is and takes its values, by its layout or its structure; it needs nothing of the packets
+//! `Half::decode` tells what a packet is and takes its values, by its layout or its structure; it needs nothing of the packets
 //! before. `finish` appends the packet's record and leaves what is kept. Together they are one step of the interpreter of
 //! `mib_model`, and take no memory. They rest on `edition_plans` for the plans, on `ident_plan`, `layout_plan` and
 //! `struct_plan` for a packet's values, and on `fold_state` for its record.
@@ -11,7 +11,6 @@ mod finishing;
 mod half;
 mod laws;
 
-pub use decoding::decode;
 pub use finishing::finish;
 pub use half::Half;
 pub use laws::{found_structures_exist, sound_values};

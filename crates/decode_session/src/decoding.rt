@@ -4,7 +4,6 @@ ghost use Rattle.std.specs.List.{AllZip};
 ghost use Rattle.decode_session.specs.Cells.{IsDecoded};
 
 use crate::cell::Cell;
-use decode_one::decode;
 use decode_pool::{Work, run_batch};
 use edition_plans::Plans;
 use std::thread::Threads;
@@ -22,7 +21,8 @@ impl<P: Plans + Sync> Work for Decoding<'_, P> {
 
     fn work(&self, cell: &mut Cell) {
         let packet = &cell.frame.slice()[..cell.octets as usize];
-        cell.half = decode(self.plans, cell.header, packet, cell.slots.slice_mut());
+        let slots = cell.slots.slice_mut();
+        cell.half.decode(self.plans, &cell.header, packet, slots);
     }
 }
 

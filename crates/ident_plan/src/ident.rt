@@ -1,4 +1,4 @@
-ghost use Rattle.std.specs.Prelude.{◌≡◌, ◌+◌, ◌*◌, ◌≤◌, ◌<ℤ◌, ◌==◌, ◌&&◌, negsuc, pos, ℕ, length, Option, IfOk, IfSome, OnOk, OnErr, IsTrue, Some, None, true, false, if◌then◌else◌};
+ghost use Rattle.std.specs.Prelude.{◌≡◌, ◌+◌, ◌*◌, ◌≤◌, ◌<ℤ◌, ◌==◌, ◌&&◌, [], negsuc, pos, ℕ, length, Option, IfOk, IfSome, OnOk, OnErr, IsTrue, Some, None, true, false, if◌then◌else◌};
 ghost use Rattle.std.specs.List.{find, list_any};
 ghost use Rattle.std.specs.Option.{option_copied, option_or};
 ghost use Rattle.mib_model.specs.Headers.{header_of};
@@ -22,12 +22,14 @@ pub struct Ident {
     pics: FirstRows<ByCriterion>,
     // Whether a row of pic is of an APID of its own.
     has_own: bool,
+    // Whether there is no row of pic.
+    is_bare: bool,
     // The rows of pid of each APID, where they are none or one.
     kins: Vec<Kin>,
 }
 
 impl Model for Ident {
-    ghost use Rattle.std.specs.Prelude.{◌≡◌};
+    ghost use Rattle.std.specs.Prelude.{◌≡◌, [], IsTrue};
     ghost use Rattle.std.specs.List.{list_any};
     ghost use Rattle.ident_plan.specs.Kins.{AreKins};
     ghost use Rattle.ident_plan.specs.Rows.{IdentRows, has_apid};
@@ -36,7 +38,8 @@ impl Model for Ident {
 
     ghost view = { λ ident. record { pids = ident.pids; pics = ident.pics } };
 
-    ghost invariant = { λ ident. (ident.has_own ≡ list_any has_apid ident.pics) × AreKins ident.pids ident.kins.items };
+    ghost invariant = { λ ident. (ident.has_own ≡ list_any has_apid ident.pics) × AreKins ident.pids ident.kins.items
+        × (IsTrue ident.is_bare → ident.pics ≡ []) };
 }
 
 // The service type and the subtype: octets 7 and 8 behind a secondary header, else 0 (ECSS-E-70-41A, telemetry packet
@@ -118,6 +121,14 @@ fn have_apids(pics: &[PicRow]) -> bool
     pics.iter().any(|row| row.apid.is_some())
 }
 
+// Whether there is no row of pic.
+#[tactic(auto, using(std::proofs::lemmas::List::nil_from_length))]
+fn are_none(pics: &[PicRow]) -> bool
+    ensures { IsTrue result → pics.now ≡ [] }
+{
+    pics.is_empty()
+}
+
 impl Ident {
     /// Compiles all rows of pid and pic, in file order, in one step. An error is want of memory, and takes no step.
     pub fn compile<L: Ledger>(
@@ -131,6 +142,7 @@ impl Ident {
         ensures refused { OnErr result (steps.new ≡ steps.old) }
     {
         let has_own = have_apids(pics);
+        let is_bare = are_none(pics);
         let kins = kins_of(alloc, pids)?;
         let pids = FirstRows::new(alloc, pids)?;
         let pics = FirstRows::new(alloc, pics)?;
@@ -139,6 +151,7 @@ impl Ident {
             pids,
             pics,
             has_own,
+            is_bare,
             kins,
         })
     }
@@ -183,6 +196,38 @@ impl Ident {
         })
     }
 
+    // The two discriminants of a packet by a search through pic, none where one passes the end.
+    #[inline(never)]
+    fn values_by_rows(&self, header: &Header, packet: &[u8]) -> Option<(u64, u64)>
+        requires header { header.now ≡ header_of packet.now }
+        requires long { lacks_service packet.now ≡ false }
+        ensures { result ≡ Spec.discriminants packet.now (Spec.criterion self.now.pics packet.now) }
+    {
+        discriminants(packet, self.criterion(header, packet))
+    }
+
+    // The two discriminants of a packet, which are 0 where pic has no rows.
+    #[tactic(auto, unfolding(mib_model::specs::Match::criterion))]
+    fn values(&self, header: &Header, packet: &[u8]) -> Option<(u64, u64)>
+        requires header { header.now ≡ header_of packet.now }
+        requires long { lacks_service packet.now ≡ false }
+        ensures { result ≡ Spec.discriminants packet.now (Spec.criterion self.now.pics packet.now) }
+    {
+        if self.is_bare {
+            return Some((0, 0));
+        }
+        self.values_by_rows(header, packet)
+    }
+
+    // The first row of pid with this key, by a probe.
+    #[inline(never)]
+    fn probed(&self, key: PacketKey) -> Option<&PidRow>
+        ensures { option_copied result ≡ find (λ row. (row.apid == key.apid) && (row.service == key.service)
+            && (row.subtype == key.subtype) && (row.pi1_val == key.pi1_val) && (row.pi2_val == key.pi2_val)) self.now.pids }
+    {
+        self.pids.find(&key)
+    }
+
     // The first row of pid with this key.
     fn row_of_pid(&self, key: PacketKey) -> Option<&PidRow>
         ensures { option_copied result ≡ find (λ row. (row.apid == key.apid) && (row.service == key.service)
@@ -191,7 +236,7 @@ impl Ident {
         match kin_at(&self.kins, key.apid) {
             Some(Kin::Empty) => None,
             Some(Kin::One(row)) => row_if(row, agrees(row, &key)),
-            _ => self.pids.find(&key),
+            _ => self.probed(key),
         }
     }
 
@@ -218,7 +263,7 @@ impl Ident {
         requires long { lacks_service packet.now ≡ false }
         ensures { result ≡ found_with self.now.pids packet.now (Spec.discriminants packet.now (Spec.criterion self.now.pics packet.now)) }
     {
-        match discriminants(packet, self.criterion(header, packet)) {
+        match self.values(header, packet) {
             Some(values) => self.identified(header, packet, values),
             None => Found::Bad(BadWhy::Short),
         }

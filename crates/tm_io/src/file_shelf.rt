@@ -64,7 +64,21 @@ fn turn_to<R: Read + Drop>(reader: &mut BufReader<R>, opened: R) {
     *reader.get_mut() = opened;
 }
 
+// Takes octets out of those that were read ahead, and says whether they are all there; else none is taken.
+#[inline(always)]
+fn take_ahead<R: Read>(reader: &mut BufReader<R>, buf: &mut [u8]) -> bool {
+    let size = buf.len();
+    let ahead = reader.buffer();
+    if ahead.len() < size {
+        return false;
+    }
+    buf.copy_from_slice(&ahead[..size]);
+    reader.consume(size);
+    true
+}
+
 // Reads from what is open, again where a signal came in between. None says that the read failed.
+#[inline(never)]
 fn read_some<R: Read>(opened: &mut R, buf: &mut [u8]) -> Option<usize>
     ensures { IfSome result (λ count. count ≤ length buf.new) }
 {
@@ -85,7 +99,11 @@ impl<R: Files + Input + Drop> Source for FileShelf<R> {
 
     ghost missed = { λ s. s.missed };
 
+    #[inline(always)]
     fn read(&mut self, buf: &mut [u8]) -> Result<usize, Failed> {
+        if take_ahead(&mut self.opened, buf) {
+            return Ok(buf.len());
+        }
         match read_some(&mut self.opened, buf) {
             Some(count) => Ok(count),
             None => {

@@ -1,5 +1,8 @@
 // A standard stream as a sink. It tells no content.
 ghost use Rattle.std.specs.Prelude.{◌≡◌, ◌≤◌, ◌<◌, None, length, IfSome, IfOk};
+ghost use Rattle.std.specs.Io.{WritesAtMost};
+ghost use Rattle.tm_io.specs.Causes.{HasCause};
+ghost use Rattle.tm_io.specs.Octets.{TakesSome};
 
 use crate::{Failed, Sink};
 use std::alloc::{AllocError, Global};
@@ -31,6 +34,30 @@ impl<W: Write + Drop> StdSink<W> {
         ensures { IfOk result (λ sink. ⟦<StdSink<W> as Sink>⟧.faults sink ≡ 0) }
     {
         StdSink::with_room(stream, alloc, WRITE_BEHIND)
+    }
+
+    // Whether so many octets are kept back, with none of those that were before them given to the system.
+    #[inline(always)]
+    fn keeps_back(&self, octets: usize) -> bool {
+        let kept = self.stream.buffer().len();
+        let most = self.stream.capacity();
+        kept <= most && octets < most - kept
+    }
+
+    // Takes some first octets of a piece, where the system may be given some.
+    #[inline(never)]
+    fn write_through(&mut self, piece: &[u8]) -> Result<usize, Failed>
+        ensures bound { WritesAtMost result piece.now }
+        ensures some { TakesSome result piece.now }
+        ensures cause { HasCause self.old.faults self.new.faults result }
+    {
+        match write_some(&mut self.stream, piece) {
+            Some(count) => Ok(count),
+            None => {
+                self.faults = self.faults.saturating_add(1);
+                Err(Failed)
+            }
+        }
     }
 }
 
@@ -69,14 +96,15 @@ impl<W: Write + Drop> Sink for StdSink<W> {
 
     ghost faults = { λ s. s.faults };
 
+    #[inline(always)]
     fn write(&mut self, piece: &[u8]) -> Result<usize, Failed> {
-        match write_some(&mut self.stream, piece) {
-            Some(count) => Ok(count),
-            None => {
-                self.faults = self.faults.saturating_add(1);
-                Err(Failed)
+        if self.keeps_back(piece.len()) {
+            match self.stream.write(piece) {
+                Ok(count) if count > 0 || piece.is_empty() => return Ok(count),
+                _ => {}
             }
         }
+        self.write_through(piece)
     }
 
     fn flush(&mut self) -> Result<(), Failed> {
