@@ -1,15 +1,16 @@
 -- A finished value by the slice of its parameter.
-use Rattle.std.proofs.Common.{◌≡◌, ◌∙◌, ℕ, zero, suc, ◌<◌, Bool, true, false, cond, List, [], ◌∷◌, ◌++◌, Option, Some, None, option_map, option_and_then, length, get_or, map, find, refl, sym, ap, subst, arith, append_assoc, append-nil, Global, IsSome, All}
+use Rattle.std.proofs.Common.{◌≡◌, ◌∙◌, ℕ, ℤ, zero, suc, ◌<◌, Bool, true, false, cond, List, [], ◌∷◌, ◌++◌, Option, Some, None, option_map, option_and_then, length, get_or, map, find, refl, sym, ap, subst, arith, append_assoc, append-nil, Global, IsSome, All}
 use Rattle.std.proofs.lemmas.List.Concat.{flat_map-append}
 use Rattle.std.specs.Arc.{arc_value}
 use Rattle.std.specs.declared.sync.Arc.{Arc}
-use Rattle.std.proofs.lemmas.List.{get_or-map, length-map}
+use Rattle.std.proofs.lemmas.List.{get_or-map, get_or_default, length-map}
 use Rattle.std.proofs.lemmas.List.Quantifiers.{position-Some}
 use Rattle.std.proofs.lemmas.Slice.Eq.{bytes_eq-Decides}
 use Rattle.std.specs.List.{flat_map, position}
 use Rattle.std.specs.Str.{bytes_eq}
 use Rattle.mib_model.specs.declared.database.Database.{Database}
 use Rattle.mib_model.specs.declared.packet.Value.{Value}
+use Rattle.mib_model.specs.declared.plan.CurveRows.{CurveRows}
 use Rattle.mib_model.specs.declared.rows.PcfRow.{PcfRow}
 use Rattle.mib_model.specs.Calibrated.{Calibrated}
 use Rattle.mib_model.specs.Carry.{check_of}
@@ -19,10 +20,12 @@ use Rattle.mib_model.specs.Finish.{Checked, Finished, is_valid, given_for, tail_
 use Rattle.mib_model.specs.Kept.{Memory, has_number}
 use Rattle.mib_model.specs.Parameters.{parameter}
 use Rattle.mib_model.specs.Plans.{has_plan}
-use Rattle.mib_model.specs.Tails.{Tail, Invalid, Told}
+use Rattle.mib_model.specs.Tails.{Tail, Invalid, Plain, Told}
 use Rattle.mib_model.specs.Texts.{told_text}
+use Rattle.param_plan.specs.Plain.{is_plain}
 use Rattle.param_plan.specs.Slices.{ParamSlice, curve_in, slice_for}
 use Rattle.param_plan.proofs.LawFacts.{have-curves}
+use Rattle.param_plan.proofs.PlainFacts.{plain-curve, plain-ocf, plain-valid}
 use Rattle.fold_state.specs.Boards.{Slots, is_name_of, place_of, plan_names}
 use Rattle.fold_state.specs.Premises.{AreFinished, Fits, HasSlot, IsFinished, IsParamsOf, IsSliceOf, planned}
 
@@ -109,6 +112,34 @@ slice-found db params name s plans found = go (parameter db.pcf name) refl (sym 
   go : (p : Option PcfRow) → parameter db.pcf name ≡ p → option_and_then (planned db) p ≡ Some s → IsSliceOf db name s
   go None here same = absurd (cc)
   go (Some row) here same = by row here (has_plan row) same
+
+no-curve : (b : Bool) (raw : ℤ) (curve : Option CurveRows) → curve ≡ None → ◌≡◌ {A = Option Calibrated} None (cond b (option_map (λ rows. calibration rows raw) curve) None)
+no-curve false raw curve h = refl
+no-curve true raw None h = refl
+no-curve true raw (Some rows) h = absurd (cc h)
+
+-- a value of a plain parameter
+pub finish-plain : (db : Database) (memory : Memory) (v : Value) (s : ParamSlice) → IsSliceOf db v.name s → is_plain s ≡ true
+    → ◌≡◌ {A = Finished} (memory, record { value = v; tail = Plain; change = None }) (finished db memory v)
+finish-plain db memory v s is plain =
+    let valid : is_valid memory s.pcf ≡ true = rw (plain-valid s plain) refl in
+    let given = no-curve (has_number v.shape.sort) v.raw (curve_in s memory) (plain-curve s plain memory) ∙ given-same db memory v s is in
+    finish-valid db memory v s None Plain (memory, None) is valid given refl (ap (checked_by db memory v None) (sym (plain-ocf s plain) ∙ is.ocf))
+
+some-item : {X : Type 0} (xs : List X) (i : ℕ) → i < length xs → X
+some-item [] i below = absurd (omega (arith, below))
+some-item (x ∷ xs) i below = x
+
+-- a value whose plan, at the place of its name, is plain
+pub finish-plain-at : (db : Database) (memory : Memory) (v : Value) (params : List ParamSlice) (board : Slots) (i : ℕ) → IsParamsOf db params → board.names ≡ plan_names params
+    → place_of board v.name ≡ Some i → ((s : ParamSlice) → is_plain (get_or params i s) ≡ true)
+    → ◌≡◌ {A = Finished} (memory, record { value = v; tail = Plain; change = None }) (finished db memory v)
+finish-plain-at db memory v params board i plans made at plain =
+    let within = plan-within params board v.name i made at in
+    let item = some-item params i within in
+    let s = get_or params i item in
+    let found = plan-found params board v.name i s made at (get_or_default params i item s within) in
+    finish-plain db memory v s (slice-found db params v.name s plans found) (plain item)
 
 -- values finished, and one more
 pub finished-more : (db : Database) (memory : Memory) (vs : List Value) (v : Value)

@@ -141,7 +141,7 @@ impl Board {
             return;
         }
         let places = self.guesses.places(first, count);
-        self.ahead = read_ahead(&self.slots, params.plans(), places);
+        self.ahead = read_ahead(&self.slots, params, places);
     }
 
     /// The place of a name, which is looked for first where a guess says.

@@ -95,6 +95,9 @@ impl Board {
             → place_of self.old value.now.name ≡ Some seat → IsRaw value.now
             → (memory_of self.new, record { value = value.now; tail = tail_as result.0; change = result.1 }) ≡ Spec.finished db (memory_of self.old) value.now }
     {
+        if params.is_plain(seat) {
+            return (Tail::Plain, None);
+        }
         let plans = params.plans();
         if seat >= plans.len() {
             return (Tail::Plain, None);

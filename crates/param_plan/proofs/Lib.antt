@@ -1,5 +1,6 @@
 pub mod ChoiceFacts
 pub mod NameFacts
+pub mod PlainFacts
 pub mod PlanFacts
 pub mod LawFacts
 pub mod SoundFacts

@@ -1,5 +1,6 @@
 pub mod Slices
 pub mod Choices
 pub mod Parts
+pub mod Plain
 pub mod Names
 pub mod Laws

@@ -2,7 +2,7 @@
 ghost use Rattle.std.specs.Prelude.{◌≡◌, option_and_then, option_map, map, IfOk};
 ghost use Rattle.std.specs.Arc.{arc_value};
 ghost use Rattle.std.specs.List.{find, zip};
-ghost use Rattle.std.specs.Option.{option_copied};
+ghost use Rattle.std.specs.Option.{is_some, option_copied};
 ghost use Rattle.param_plan.specs.Choices.{is_met, only_curve, selection_of, selections_in};
 
 use check_plan::Holds;
@@ -38,6 +38,16 @@ impl Choice {
             None => None,
         };
         Ok(Choice { curve })
+    }
+
+    /// Whether there is a curve.
+    pub fn is_some(&self) -> bool
+        ensures { result ≡ is_some self.now }
+    {
+        match &self.curve {
+            Some(_) => true,
+            None => false,
+        }
     }
 
     /// The curve.

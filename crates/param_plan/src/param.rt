@@ -6,6 +6,7 @@ ghost use Rattle.mib_model.specs.Curves.{calibration};
 ghost use Rattle.mib_model.specs.Finish.{is_valid};
 ghost use Rattle.mib_model.specs.WholeNumbers.{least_raw, greatest_raw};
 ghost use Rattle.param_plan.specs.Choices.{is_met, selections_in};
+ghost use Rattle.param_plan.specs.Plain.{is_plain};
 ghost use Rattle.param_plan.specs.Slices.{slice_of, curve_in, checks_in};
 
 use crate::choice::{Choice, Selection, only_of, selected_by, selections_of};
@@ -149,6 +150,17 @@ impl Param {
         ensures { option_copied result ≡ checks_in self.now }
     {
         self.checks.as_ref()
+    }
+
+    /// Whether the parameter has no condition, no curve and no check, so that of a value the raw number alone is shown.
+    #[tactic(auto, unfolding(crate::specs::Plain::is_plain))]
+    pub fn is_plain(&self) -> bool
+        ensures { result ≡ is_plain self.now }
+    {
+        !self.conditional
+            && !self.only.is_some()
+            && self.selections.is_empty()
+            && !self.checks.is_some()
     }
 
     /// Whether a value is valid: VALID names no parameter, or its latest raw number is VALPAR (SCOS-2000 Database Import

@@ -1,12 +1,15 @@
-ghost use Rattle.std.specs.Prelude.{◌≡◌, map};
+ghost use Rattle.std.specs.Prelude.{◌≡◌, map, get_or, true, IfOk, IsTrue};
 ghost use Rattle.std.specs.Arc.{arc_value};
 ghost use Rattle.std.specs.List.{find};
 ghost use Rattle.std.specs.Option.{option_copied};
 ghost use Rattle.std.specs.Str.{bytes_eq};
 ghost use Rattle.param_plan.specs.Names.{Ascend};
+ghost use Rattle.param_plan.specs.Plain.{is_plain, plain_behind};
+ghost use Rattle.param_plan.specs.Slices.{ParamSlice};
 
 use crate::param::Param;
 use mib_model::Name;
+use std::alloc::{AllocError, Global};
 use std::marker::Model;
 use std::sync::Arc;
 
@@ -14,19 +17,34 @@ use std::sync::Arc;
 #[derive(Drop)]
 pub struct Params {
     plans: Vec<Arc<Param>>,
+    // Which plans are plain, where there was memory to note it: the plans lie far apart, and a plain one needn't be read.
+    plain: Option<Vec<bool>>,
 }
 
 impl Model for Params {
-    ghost use Rattle.std.specs.Prelude.{List, map};
+    ghost use Rattle.std.specs.Prelude.{◌≡◌, List, map, IfSome};
     ghost use Rattle.std.specs.Arc.{arc_value};
     ghost use Rattle.param_plan.specs.Slices.{ParamSlice};
     ghost use Rattle.param_plan.specs.Names.{Ascend};
+    ghost use Rattle.param_plan.specs.Plain.{plain_behind};
 
     ghost Value = { List ParamSlice };
 
     ghost view = { λ params. map arc_value params.plans.items };
 
-    ghost invariant = { λ params. Ascend (map arc_value params.plans.items) };
+    ghost invariant = { λ params. Ascend (map arc_value params.plans.items)
+        × IfSome params.plain (λ plain. plain.items ≡ map plain_behind params.plans.items) };
+}
+
+// Which plans are plain, where there is memory to note it.
+fn plain_among(alloc: Global, plans: &[Arc<Param>]) -> Result<Vec<bool>, AllocError>
+    ensures { IfOk result (λ plain. plain.items ≡ map plain_behind plans.now) }
+{
+    let mut plain = Vec::with_capacity(alloc, plans.len())?;
+    for plan in plans {
+        plain.push(plan.is_plain())?;
+    }
+    Ok(plain)
 }
 
 impl Params {
@@ -35,7 +53,13 @@ impl Params {
         requires { Ascend (map arc_value plans.items) }
         ensures { result ≡ map arc_value plans.items }
     {
-        Params { plans }
+        match plain_among(*plans.allocator(), &plans) {
+            Ok(plain) => Params {
+                plans,
+                plain: Some(plain),
+            },
+            Err(_) => Params { plans, plain: None },
+        }
     }
 
     /// The plans, of which each name is greater than the one before.
@@ -44,6 +68,17 @@ impl Params {
         ensures ascend { Ascend self.now }
     {
         &self.plans
+    }
+
+    /// Whether the plan at a place is known to be plain: its parameter has no condition, no curve and no check.
+    #[inline(always)]
+    pub fn is_plain(&self, at: usize) -> bool
+        ensures { (slice : ParamSlice) → IsTrue result → is_plain (get_or self.now at slice) ≡ true }
+    {
+        match &self.plain {
+            Some(plain) => at < plain.len() && plain[at],
+            None => false,
+        }
     }
 
     /// The plan of this name, found by halving.

@@ -114,6 +114,7 @@ fn calibrates<L: Ledger, R: Abort>(rt: &R, alloc: Global, blank: Blank) -> Resul
     plans.push(Arc::new(alloc, param)?)?;
     let params = Params::new(plans);
     assert_eq!(rt; params.plans().len(), 1);
+    assert!(rt; !params.is_plain(0));
     assert!(rt; params.find(name(rt, b"T1")).is_some());
     assert!(rt; params.find(name(rt, b"T2")).is_none());
     Ok(())

@@ -20,7 +20,7 @@ returns-in-Ok c =
     let plans = c.self.inside.plans.items in
     let at = c.in-Ok.at in
     let x = c.index.result.now in
-    let rise = adjacent-map arc_value (λ x y. slice_cmp nat_cmp x.pcf.name y.pcf.name ≡ Less) plans c.self.invariant in
+    let rise = adjacent-map arc_value (λ x y. slice_cmp nat_cmp x.pcf.name y.pcf.name ≡ Less) plans c.self.invariant.0 in
     let below : at < length plans = subst (λ (xs : List (Arc ParamSlice Global)). at < length xs) c.deref.ensures.value c.in-Ok.ensures.bound in
     let by_key = c.in-Ok.ensures.position key (answers_always _ _ _ (λ f a r g called. search rules)) in
     let is : get_or plans at x ≡ x = sym c.index.ensures in
@@ -34,7 +34,7 @@ pub returns-in-Err : goal.returns-in-Err
 returns-in-Err c =
     let name = c.args.name in
     let plans = c.self.inside.plans.items in
-    let rise = adjacent-map arc_value (λ x y. slice_cmp nat_cmp x.pcf.name y.pcf.name ≡ Less) plans c.self.invariant in
+    let rise = adjacent-map arc_value (λ x y. slice_cmp nat_cmp x.pcf.name y.pcf.name ≡ Less) plans c.self.invariant.0 in
     let by_key = c.in-Err.ensures.position key (answers_always _ _ _ (λ f a r g called. search rules)) in
     let missing = named-missing key name plans rise c.in-Err.field-0 (rw c.deref.ensures.value at by_key) in
     ap (option_map arc_value) (sym missing) ∙ (sym (find-map arc_value (λ slice. bytes_eq slice.pcf.name name) plans) ∙
