@@ -1,13 +1,12 @@
 -- The ends of an intake.
-use Rattle.std.proofs.Common.{◌≡◌, ◌<◌, ◌≤◌, ◌⊎◌, inl, inr, ℕ, zero, suc, Bool, true, false, List, [], ◌∷◌, ◌++◌, Option, Some, None, Result, Ok, Err, length, take, refl, sym, ap, ◌∙◌, subst, append-nil, length-append, arith}
+use Rattle.std.proofs.Common.{◌≡◌, ◌<◌, ◌≤◌, ◌⊎◌, inl, inr, ℕ, zero, suc, Bool, true, false, List, [], ◌∷◌, ◌++◌, Some, None, Result, Ok, Err, length, refl, sym, ap, ◌∙◌, subst, append-nil, length-append, arith}
 use Rattle.std.specs.Prelude.{IfSome}
 use Rattle.std.specs.List.{All, concat}
 use Rattle.std.specs.Io.KnownBytes.{Appends, Consumes, IsAtEnd}
 use Rattle.std.proofs.KnownBytes.{Appends-trans, Consumes-trans, Consumes-nil}
 use Rattle.std.proofs.lemmas.List.{take_at}
-use Rattle.std.proofs.lemmas.List.Elements.{All-push, All-nil}
+use Rattle.std.proofs.lemmas.List.Elements.{All-push}
 use Rattle.std.proofs.lemmas.List.Folds.{concat-append}
-use Rattle.tm_io.specs.Causes.{Rose}
 use Rattle.tm_io.specs.Octets.{AppendsPrefix}
 use Rattle.packet_feed.specs.Feed.{TookLast, TookRest}
 use Rattle.decode_session.specs.declared.batch.Filled.{Filled}
@@ -20,15 +19,15 @@ use Rattle.decode_session.specs.declared.ending.RunFault.TheVariants as fault
 use Rattle.decode_session.specs.declared.ending.Stop.TheVariants as stop
 use Rattle.decode_session.specs.Batches.{EndsFeed}
 use Rattle.decode_session.specs.Causes.{HasFillCause}
-use Rattle.decode_session.specs.Cells.{packet_in, packets_in, all_stamped}
+use Rattle.decode_session.specs.Cells.{packet_in, all_stamped}
 use Rattle.decode_session.specs.Finishing.{standing, batch_text}
 use Rattle.decode_session.specs.Run.{most_packets}
 use Rattle.decode_session.proofs.FinishFacts.{part-longer, part-behind}
 use Rattle.live_intake.specs.declared.reading.Reading.{Reading}
 use Rattle.live_intake.specs.declared.reading.Reading.TheVariants as reading
-use Rattle.live_intake.specs.Intake.{Counts, EndsAs, EndsBy, Gives, Going, Intakes, IsFeedFailed, Prints, is_out_failed, tail_of}
-use Rattle.live_intake.specs.Opening.{turned, lead_of}
-use Rattle.live_intake.specs.Reading.{Fills, HasReadingCause, IsRead, IsOpening, ReadsOn}
+use Rattle.live_intake.specs.Intake.{Counts, EndsAs, EndsBy, Gives, Going, Intakes, Prints, is_out_failed, tail_of}
+use Rattle.live_intake.specs.Opening.{lead_of}
+use Rattle.live_intake.specs.Reading.{Fills, HasReadingCause, IsRead, ReadsOn}
 use Rattle.live_intake.specs.Stamped.{stamp_of, stamped_by, text_of}
 use Rattle.live_intake.proofs.GoingFacts.{Known, AllRead, all-read, done-read, going-on, opened-read}
 use Rattle.live_intake.proofs.StampedFacts.{text-append}

@@ -1,5 +1,5 @@
 -- An intake, batch by batch.
-use Rattle.std.proofs.Common.{◌≡◌, ◌<◌, ℕ, Bool, true, false, cond, ◌==◌, List, [], ◌∷◌, ◌++◌, Option, Some, None, length, map, refl, sym, ap, ◌∙◌, subst, append_assoc, append-nil, length-append, arith}
+use Rattle.std.proofs.Common.{◌≡◌, ℕ, Bool, true, false, cond, ◌==◌, List, [], ◌∷◌, ◌++◌, Option, Some, None, length, refl, sym, ap, ◌∙◌, subst, append_assoc, append-nil, length-append, arith}
 use Rattle.std.specs.List.{All, concat}
 use Rattle.std.specs.Io.KnownBytes.{Appends, Consumes}
 use Rattle.std.proofs.KnownBytes.{Appends-trans, Appends-nil, Consumes-trans, Consumes-nil}
@@ -16,11 +16,8 @@ use Rattle.live_intake.specs.Stamped.{stamp_of, stamps_of, stamped_by, text_of}
 use Rattle.live_intake.proofs.StampedFacts.{stamps-count, stamped-append, cells-stamped, course-append, text-none, course-none, text-append}
 use Rattle.mib_model.specs.declared.database.Database.{Database}
 use Rattle.mib_model.specs.Carry.{carry}
-use Rattle.mib_model.specs.Finish.{all_finished}
-use Rattle.mib_model.specs.Headers.{header_of}
-use Rattle.mib_model.specs.Interpreter.{Course, StampedPacket, start, memory_for, finished_for, values_of, title_of, record_for, course_after, interpret, course_after_all, records_text}
+use Rattle.mib_model.specs.Interpreter.{Course, StampedPacket, start, memory_for, finished_for, record_for, course_after, interpret, course_after_all, records_text}
 use Rattle.mib_model.specs.Kept.{Memory}
-use Rattle.mib_model.specs.Match.{match_of}
 use Rattle.mib_model.specs.Packets.{IsPacket}
 use Rattle.mib_model.specs.RegisterHistories.{RegisterHistory}
 use Rattle.mib_model.specs.Texts.{edition_text_of, record_body, record_text}

@@ -1,5 +1,5 @@
 -- Packets as they are read and stamped.
-use Rattle.std.proofs.Common.{◌≡◌, ◌<◌, ◌+◌, ℕ, zero, suc, length, length-append, arith, List, [], ◌∷◌, ◌++◌, Option, Some, None, MatchOption, refl, sym, ap, ◌∙◌, subst, append_assoc, append-nil}
+use Rattle.std.proofs.Common.{◌≡◌, ◌<◌, ◌+◌, ℕ, zero, suc, length, length-append, arith, List, [], ◌∷◌, ◌++◌, Option, None, MatchOption, refl, sym, ap, ◌∙◌, subst, append_assoc, append-nil}
 use Rattle.std.specs.List.{All, concat}
 use Rattle.std.specs.Io.KnownBytes.{Consumes}
 use Rattle.std.proofs.KnownBytes.{Consumes-trans, Consumes-nil}
@@ -10,8 +10,7 @@ use Rattle.decode_session.specs.declared.cell.Cell.{Cell}
 use Rattle.decode_session.specs.Cells.{packet_in, packets_in}
 use Rattle.edition_register.specs.Shown as Shown
 use Rattle.histories.specs.History.{StartsWith}
-use Rattle.live_intake.specs.declared.reading.Stamped.{Stamped}
-use Rattle.live_intake.specs.Reading.{IsRead, IsStamped, ReadsOn}
+use Rattle.live_intake.specs.Reading.{IsRead, ReadsOn}
 use Rattle.live_intake.specs.Stamped.{stamp_of, stamps_of}
 use Rattle.live_intake.proofs.StampedFacts.{last-append, packets-count, stamps-count, stamps-last}
 use Rattle.mib_model.specs.declared.database.Database.{Database}

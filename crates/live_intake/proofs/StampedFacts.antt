@@ -1,10 +1,10 @@
 -- Packets with their stamps, in parts.
-use Rattle.std.proofs.Common.{◌≡◌, ℕ, suc, List, [], ◌∷◌, ◌++◌, length, map, refl, sym, ap, ◌∙◌, append_assoc, arith}
+use Rattle.std.proofs.Common.{◌≡◌, ℕ, suc, List, [], ◌∷◌, ◌++◌, length, refl, sym, ap, ◌∙◌, append_assoc, arith}
 use Rattle.std.proofs.lemmas.Grind.{flat_map-append}
 use Rattle.decode_session.specs.declared.cell.Cell.{Cell}
 use Rattle.decode_session.specs.Cells.{packets_in, stamped_in, all_stamped}
 use Rattle.edition_register.specs.Shown as Shown
-use Rattle.live_intake.specs.Stamped.{stamp_of, stamps_of, stamped_with, stamped_by, text_of}
+use Rattle.live_intake.specs.Stamped.{stamps_of, stamped_with, stamped_by, text_of}
 use Rattle.mib_laws.proofs.RunFacts.{interpret-append}
 use Rattle.mib_model.specs.declared.database.Database.{Database}
 use Rattle.mib_model.specs.Interpreter.{Course, StampedPacket, start, course_after, interpret, course_after_all, records_text}

@@ -29,7 +29,8 @@ pub record Leads (before now : Course) (lead : List ℕ) : Type 0 where
   pub course : (s : StampedPacket) → s.edition ≡ now.edition → s.tables ≡ now.tables → course_after before s ≡ course_after now s
 
 -- the packets of the first moves are done; those of the others wait in cells, for which the edition in use was told already; this is the text so far
-pub record Going (first : Database) (own : RegisterHistory) (now : Course) (cells : List Cell) (start_left left : Option (List ℕ)) (text : List ℕ) : Type 0 where
+pub record Going (first : Database) (own : RegisterHistory) (now : Course) (cells : List Cell) (start_left left : Option (List ℕ))
+    (text : List ℕ) : Type 0 where
   pub done : RegisterHistory
   pub packets : List (List ℕ)
   pub parted : own ≡ done ++ stamps_of now.edition now.tables cells
@@ -88,14 +89,16 @@ tail_of failed rest = if failed then [] else rest_text rest
 -- how an intake ended: at the end of a feed that tells its octets, where there is a rest or none; at the limit; or hindered
 abbrev pub EndsBy : Result RunEnd RunFault → List (List ℕ) → List ℕ → Option (List ℕ) → Option (List ℕ) → Type 0
 EndsBy (Ok end.Whole) packets rest start_left left = (rest ≡ []) × IfSome start_left (λ octets. IsAtEnd left) × (length packets < most_packets)
-EndsBy (Ok (end.Cut count)) packets rest start_left left = (length rest ≡ count) × (0 < count) × IfSome start_left (λ octets. IsAtEnd left) × (length packets < most_packets)
+EndsBy (Ok (end.Cut count)) packets rest start_left left = (length rest ≡ count) × (0 < count) × IfSome start_left (λ octets. IsAtEnd left)
+    × (length packets < most_packets)
 EndsBy (Ok end.Limit) packets rest start_left left = length packets ≡ most_packets
 EndsBy (Err fault.Feed) packets rest start_left left = length packets < most_packets
 EndsBy (Err (fault.Print stop.Out)) packets rest start_left left = length packets ≤ most_packets
 EndsBy (Err (fault.Print stop.Memory)) packets rest start_left left = ⊥
 
 -- what was read is cut into packets and a rest, each packet was stamped, and the text of all was written, with these counts of faults of the feed
-pub record Intakes (result : Result RunEnd RunFault) (first : Database) (own : RegisterHistory) (before now : ℕ) (start_left left old new : Option (List ℕ)) : Type 0 where
+pub record Intakes (result : Result RunEnd RunFault) (first : Database) (own : RegisterHistory) (before now : ℕ)
+    (start_left left old new : Option (List ℕ)) : Type 0 where
   pub read : List ℕ
   pub packets : List (List ℕ)
   pub rest : List ℕ

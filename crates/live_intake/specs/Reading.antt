@@ -25,7 +25,8 @@ pub record IsRead (edition : ℕ) (shown : Database) (cell : Cell) (before after
   pub is_packet : IsPacket (packet_in cell)
   pub taken : Consumes old new (packet_in cell)
 
--- so it was, behind a stamp of an edition with its tables: a start is for the packet's tables, without one its edition is the one before, and one edition has the same tables
+-- so it was, behind a stamp of an edition with its tables: a start is for the packet's tables, without one its edition is the one before,
+-- and one edition has the same tables
 pub record IsStamped (last : ℕ × Database) (read : Stamped) (before after : RegisterHistory) (old new : Option (List ℕ)) : Type 0 where
   pub shown : Database
   pub is_read : IsRead read.edition shown read.cell before after old new
@@ -47,7 +48,8 @@ pub record ReadsOn (last : ℕ × Database) (before after : RegisterHistory) (ce
   pub are_packets : All IsPacket (packets_in more)
   pub taken : Consumes old new (concat (packets_in more))
 
--- a batch was read, behind a stamp of an edition with its tables: at least one packet waits; or the next packet opens another batch; or the feed ended before the limit
+-- a batch was read, behind a stamp of an edition with its tables: at least one packet waits; or the next packet opens another batch;
+-- or the feed ended before the limit
 abbrev pub Fills : ℕ × Database → Reading → RegisterHistory → RegisterHistory → List Cell → List Cell → Option (List ℕ) → Option (List ℕ) → Type 0
 Fills last reading.Paused before after cells all old new = ReadsOn last before after cells all old new × (0 < length all)
 Fills last (reading.Opens opening) before after cells all old new =

@@ -1,5 +1,5 @@
-use denote.Param.Send.{IsSync, sendable}
-use Rattle.std.proofs.Common.{◌≡◌, ℕ, ◌+◌, ◌≤◌, List, [], ◌∷◌, ◌++◌, length, length-append, vec_len, refl, sym, ap, subst, ◌∙◌, append-nil, arith}
+use denote.Param.Send.{sendable}
+use Rattle.std.proofs.Common.{◌≡◌, ℕ, ◌+◌, List, [], ◌∷◌, ◌++◌, length, length-append, refl, sym, ap, subst, ◌∙◌, append-nil, arith}
 use Rattle.std.specs.Arc.{arc_value}
 use Rattle.std.specs.List.{All}
 use Rattle.std.specs.Io.KnownBytes.{Appends}
@@ -16,8 +16,8 @@ use Rattle.live_intake.specs.Intake.{Prints}
 use Rattle.live_intake.specs.Opening.{course_of, turned}
 use Rattle.live_intake.specs.declared.reading.Reading.TheVariants.{Paused, Opens, Ended}
 use Rattle.live_intake.specs.Reading.{Fills, HasReadingCause}
-use Rattle.live_intake.proofs.EndFacts.{ends-as, ends-limit, stops-batch, stops-opening, stops-unread}
-use Rattle.live_intake.proofs.GoingFacts.{none-of, prints-opens, prints-start, turned-is}
+use Rattle.live_intake.proofs.EndFacts.{ends-as, stops-batch, stops-opening, stops-unread}
+use Rattle.live_intake.proofs.GoingFacts.{prints-opens, prints-start, turned-is}
 use Rattle.live_intake.proofs.ReadingFacts.{last-on, last-read, read-count, reads-count, seen-more}
 use Rattle.live_intake.proofs.SharedEdition.{edition-sync}
 use Rattle.live_intake.proofs.StepFacts.{batch-leaves, batch-same, prints-read}

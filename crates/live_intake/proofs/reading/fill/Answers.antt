@@ -1,4 +1,4 @@
-use Rattle.std.proofs.Common.{◌≡◌, ℕ, ◌+◌, ◌<◌, length, vec_len, sym, subst, ◌∙◌, arith}
+use Rattle.std.proofs.Common.{◌≡◌, ◌<◌, length, vec_len, sym, subst, ◌∙◌, arith}
 use Rattle.edition_register.specs.Seats.{first_of}
 use Rattle.edition_register.specs.Shown.{last_stamped}
 use Rattle.live_intake.specs.Reading.{ReadsOn}

@@ -1,4 +1,4 @@
-use Rattle.std.proofs.Common.{◌≡◌, ◌+◌, ◌≤◌, ◌<◌, length, vec_len, vec_capacity}
+use Rattle.std.proofs.Common.{◌≡◌, ◌+◌, ◌≤◌, length, vec_len, vec_capacity}
 use Rattle.decode_session.specs.Run.{most_packets, most_in_flight}
 use Rattle.edition_register.specs.Seats.{IsSeat, first_of}
 use Rattle.edition_register.specs.Shown.{last_stamped}

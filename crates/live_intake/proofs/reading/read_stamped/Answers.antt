@@ -1,4 +1,3 @@
-use Rattle.std.proofs.Common.{refl}
 use Rattle.edition_register.specs.Seats.{first_of}
 use Rattle.turn_cell.specs.Seats.{own_moves}
 use Rattle.live_intake.proofs.OpeningFacts.{same-tables}
