@@ -17,7 +17,7 @@ use edition_plans::Plans;
 use first_rows::FirstRows;
 use ident_plan::Ident;
 use layout_plan::Layout;
-use mib_keys::{same_beside, same_tables, sound, sound_with};
+use mib_keys::{same_tables, sound, sound_with};
 use mib_model::{Rows, Steps, Text, TypeItem};
 use mib_tables::{Book, TableSet};
 use param_plan::Params;
@@ -151,9 +151,8 @@ impl Edition {
         ensures refused { IfErr result (Refuses book.now) }
         ensures steps { OnOk result (steps.new ≡ steps.old + length (touched base.now book.now)) }
     {
-        let same = same_beside(known, &base.book, book)?;
-        sound_with(alloc, &base.book, same, book)?;
-        Ok(Edition::beside(alloc, base, same, book, steps)?)
+        sound_with(alloc, &base.book, known, book)?;
+        Ok(Edition::beside(alloc, base, known, book, steps)?)
     }
 
     /// Compiles a book beside a base: a plan that the base has of the same rows is shared with it, each other is compiled.
