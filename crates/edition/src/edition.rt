@@ -12,12 +12,13 @@ use crate::compiled::Compiled;
 use crate::fault::SaveFault;
 use crate::ident::{ident_beside, ident_of};
 use crate::sets::{Made, PlanSets};
+use crate::titles::{titles_beside, titles_of};
 use crate::ways::ByTitled;
 use edition_plans::Plans;
 use first_rows::FirstRows;
 use ident_plan::Ident;
 use layout_plan::Layout;
-use mib_keys::{same_tables, sound, sound_with};
+use mib_keys::{same_beside, same_tables, sound, sound_with};
 use mib_model::{Rows, Steps, Text, TypeItem};
 use mib_tables::{Book, TableSet};
 use param_plan::Params;
@@ -33,7 +34,7 @@ pub struct Edition {
     book: Book,
     ident: Arc<Ident>,
     sets: PlanSets,
-    titles: FirstRows<ByTitled>,
+    titles: Arc<FirstRows<ByTitled>>,
 }
 
 /// By hand, so that whoever lets one go proves one call.
@@ -60,7 +61,7 @@ impl Model for Edition {
     ghost view = { λ edition. edition.book };
 
     ghost invariant = { λ edition. IsSound edition.book × (arc_value edition.ident ≡ ident_rows edition.book)
-        × (edition.sets ≡ edition.book) × (edition.titles ≡ edition.book.tpcf) };
+        × (edition.sets ≡ edition.book) × (arc_value edition.titles ≡ edition.book.tpcf) };
 }
 
 /// An edition, and how many of its plans were compiled, not shared with the base.
@@ -83,7 +84,7 @@ impl Edition {
     {
         let sets = PlanSets::alone(alloc, &book, steps)?;
         let ident = ident_of(alloc, &book, steps)?;
-        let titles = FirstRows::new(alloc, book.tpcf())?;
+        let titles = titles_of(alloc, book.tpcf())?;
         Ok(Edition {
             book,
             ident,
@@ -111,7 +112,7 @@ impl Edition {
         )?;
         let made = ident_beside(alloc, &base.ident, &base.book, book, steps)?;
         let plans = compiled + made.compiled;
-        let titles = FirstRows::new(alloc, book.tpcf())?;
+        let titles = titles_beside(alloc, &base.titles, same.tpcf, book.tpcf())?;
         let edition = Edition {
             book: book.copy()?,
             ident: made.ident,
@@ -151,8 +152,9 @@ impl Edition {
         ensures refused { IfErr result (Refuses book.now) }
         ensures steps { OnOk result (steps.new ≡ steps.old + length (touched base.now book.now)) }
     {
-        sound_with(alloc, &base.book, known, book)?;
-        Ok(Edition::beside(alloc, base, known, book, steps)?)
+        let same = same_beside(known, &base.book, book)?;
+        sound_with(alloc, &base.book, same, book)?;
+        Ok(Edition::beside(alloc, base, same, book, steps)?)
     }
 
     /// Compiles a book beside a base: a plan that the base has of the same rows is shared with it, each other is compiled.
