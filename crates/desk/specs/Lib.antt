@@ -1,3 +1,4 @@
+pub mod Drafts
 pub mod State
 pub mod Handling
 pub mod Saving

@@ -7,7 +7,7 @@ use Rattle.desk.specs.declared.desk.Desk.{Desk}
 
 -- its state: the draft, the tables that it was made from, and the edition that these are
 abbrev pub desk_of : Desk → DeskState
-desk_of desk = record { draft = desk.draft; base = arc_value desk.base; edition = desk.edition }
+desk_of desk = record { draft = desk.draft.book; base = desk.draft.base; edition = desk.edition }
 
 -- the tables of the editions of which it has handles
 abbrev pub editions_of : Desk → List Database

@@ -5,21 +5,20 @@ ghost use Rattle.turn_cell.specs.Seats.{own_moves, seen_by};
 ghost use Rattle.edition_register.specs.Seats.{IsSeat, first_of, shown_in};
 ghost use Rattle.mib_model.specs.DeskLines.{request_of};
 
+use crate::draft::Draft;
 use desk_lines::{Request, request_of};
 use edition::Edition;
 use edition_register::{Editions, Register};
 use fold_state::Board;
 use mib_model::{Reply, Steps};
-use mib_tables::Book;
 use std::alloc::{AllocError, Global};
 use std::sync::ledger::Ledger;
 use std::sync::{Arc, Wait};
 use turn_cell::Seat;
 
-/// A draft, the edition that it was made from, and a handle of each edition.
+/// A draft, the number of the edition that it was made from, and a handle of each edition.
 pub struct Desk {
-    pub(crate) draft: Book,
-    pub(crate) base: Arc<Edition>,
+    pub(crate) draft: Draft,
     pub(crate) edition: u32,
     pub(crate) editions: Vec<Arc<Edition>>,
 }
@@ -29,7 +28,6 @@ impl Drop for Desk {
     fn drop(self) {
         let Desk {
             draft: _draft,
-            base: _base,
             edition: _,
             editions: _editions,
         } = self;
@@ -47,13 +45,11 @@ impl Desk {
         ensures state { IfOk result (λ desk. desk_of desk ≡ desk_start (arc_value first)) }
         ensures editions { IfOk result (λ desk. editions_of desk ≡ arc_value first ∷ []) }
     {
-        let draft = first.book().copy()?;
-        let base = Arc::try_clone(&first)?;
+        let draft = Draft::new(Arc::try_clone(&first)?)?;
         let mut editions = Vec::with_capacity(alloc, 1)?;
         editions.push_reserved(first);
         Ok(Desk {
             draft,
-            base,
             edition: 1,
             editions,
         })

@@ -28,7 +28,7 @@ impl Desk {
             }
             Err(ReadFault::Memory) => return Reply::Want,
         };
-        match self.draft.put(row) {
+        match self.draft.put(table, row) {
             Ok(Put::Added) => Reply::Added,
             Ok(Put::Replaced) => Reply::Replaced,
             Err(_) => Reply::Want,
@@ -50,7 +50,7 @@ impl Desk {
             }
             Err(ReadFault::Memory) => return Reply::Want,
         };
-        match self.draft.del(&key) {
+        match self.draft.del(table, &key) {
             Ok(()) => Reply::Deleted,
             Err(DelFault::NoRow) => Reply::NoRow,
             Err(DelFault::Memory) => Reply::Want,
@@ -62,11 +62,8 @@ impl Desk {
         ensures handles { (own : RegisterHistory) → Handles Spec.Drop (desk_of self.old) own own (Some result) (desk_of self.new) }
         ensures editions { editions_of self.new ≡ editions_of self.old }
     {
-        match self.base.book().copy() {
-            Ok(draft) => {
-                self.draft = draft;
-                Reply::Dropped
-            }
+        match self.draft.restore() {
+            Ok(()) => Reply::Dropped,
             Err(_) => Reply::Want,
         }
     }

@@ -6,6 +6,7 @@
 #![tactic(auto)]
 
 mod desk;
+mod draft;
 mod edits;
 mod saving;
 mod using;

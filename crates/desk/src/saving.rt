@@ -8,11 +8,11 @@ ghost use Rattle.edition_register.specs.Seats.{IsSeat, first_of, shown_in};
 ghost use Rattle.mib_model.specs.DeskLines as Spec;
 
 use crate::desk::Desk;
+use crate::draft::Draft;
 use edition::{Edition, SaveFault};
 use edition_register::{AddFault, Editions, Register};
 use fold_state::Board;
 use mib_model::{Reply, Steps};
-use mib_tables::Book;
 use std::alloc::{AllocError, Global};
 use std::sync::ledger::Ledger;
 use std::sync::{Arc, Wait};
@@ -45,14 +45,13 @@ fn three_handles(alloc: Global, edition: Edition, plans: u32) -> Result<Ready, A
 // The edition of a draft, or the reply to a draft that is none.
 fn amended<L: Ledger>(
     alloc: Global,
-    base: &Edition,
-    draft: &Book,
+    draft: &Draft,
     steps: &mut Steps<L>,
 ) -> Result<Ready, Reply>
-    ensures ready { MatchResult result (λ r. IsReadyFor base.now draft.now r) (IsNoEdition draft.now) }
+    ensures ready { MatchResult result (λ r. IsReadyFor draft.now.base draft.now.book r) (IsNoEdition draft.now.book) }
     ensures steps { IfOk result (λ r. steps.new ≡ steps.old + r.plans) }
 {
-    match Edition::amend(alloc, base, draft, steps) {
+    match draft.amended(alloc, steps) {
         Ok(amended) => match three_handles(alloc, amended.edition, amended.plans) {
             Ok(ready) => Ok(ready),
             Err(_) => Err(Reply::Want),
@@ -85,7 +84,7 @@ impl Desk {
         ensures seen { StartsWith (seen_by seat.new) (seen_by seat.old) }
         ensures steps { Ticks Spec.Save (Some result) steps.old steps.new }
     {
-        let ready = match amended(alloc, &self.base, &self.draft, steps) {
+        let ready = match amended(alloc, &self.draft, steps) {
             Ok(ready) => ready,
             Err(reply) => return reply,
         };
@@ -95,7 +94,7 @@ impl Desk {
         match register.add(rt, seat, ready.payload) {
             Ok(edition) => {
                 self.editions.push_reserved(ready.kept);
-                self.base = ready.base;
+                self.draft.rebase(ready.base);
                 self.edition = edition;
                 Reply::Saved {
                     edition,

@@ -1,6 +1,5 @@
--- Databases of which tables are known to be the same have the same layouts or structures.
+-- Databases of which tables are known to be the same have the same structures.
 use Rattle.std.proofs.Common.{◌≡◌, ◌∙◌, true, Result, Ok, Err, OnOk, ap, map}
-use Rattle.layout_set.specs.Sets.{AreLaidAlike}
 use Rattle.mib_keys.specs.Kept.{AreSameIn}
 use Rattle.mib_model.specs.declared.database.Database.{Database}
 use Rattle.mib_model.specs.Plans.{type_item}
@@ -13,11 +12,6 @@ on-ok (Ok x) holds = holds
 on-ok (Err e) holds = tt
 
 module _ (set : TableSet) (base old new : Database) (is : base ≡ old) (same : AreSameIn set old new) where
-  -- the same packets, places and parameters
-  pub laid-alike : set.pid ≡ true → set.plf ≡ true → set.pcf ≡ true → AreLaidAlike base new
-  laid-alike pid plf pcf =
-      (ap (λ (db : Database). db.pid) is ∙ same.pid pid, ap (λ (db : Database). db.plf) is ∙ same.plf plf, ap (λ (db : Database). map type_item db.pcf) is ∙ ap (map type_item) (same.pcf pcf))
-
   -- the same rows of structures and parameters
   pub structured-alike : set.vpd ≡ true → set.pcf ≡ true → AreStructuredAlike base new
   structured-alike vpd pcf =

@@ -22,7 +22,7 @@ use struct_plan::{Structure, Structures};
 pub struct Compiled {
     pub(crate) ident: Arc<Ident>,
     pub(crate) sets: PlanSets,
-    pub(crate) titles: FirstRows<ByTitled>,
+    pub(crate) titles: Arc<FirstRows<ByTitled>>,
     pub(crate) book: Snapshot<Book>,
 }
 
@@ -50,7 +50,7 @@ impl Model for Compiled {
     ghost view = { λ compiled. compiled.book.value };
 
     ghost invariant = { λ compiled. IsSound compiled.book.value × (arc_value compiled.ident ≡ ident_rows compiled.book.value)
-        × (compiled.sets ≡ compiled.book.value) × (compiled.titles ≡ compiled.book.value.tpcf) };
+        × (compiled.sets ≡ compiled.book.value) × (arc_value compiled.titles ≡ compiled.book.value.tpcf) };
 }
 
 impl Rows for Compiled {

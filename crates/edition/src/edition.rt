@@ -12,6 +12,7 @@ use crate::compiled::Compiled;
 use crate::fault::SaveFault;
 use crate::ident::{ident_beside, ident_of};
 use crate::sets::{Made, PlanSets};
+use crate::titles::{titles_beside, titles_of};
 use crate::ways::ByTitled;
 use edition_plans::Plans;
 use first_rows::FirstRows;
@@ -33,7 +34,7 @@ pub struct Edition {
     book: Book,
     ident: Arc<Ident>,
     sets: PlanSets,
-    titles: FirstRows<ByTitled>,
+    titles: Arc<FirstRows<ByTitled>>,
 }
 
 /// By hand, so that whoever lets one go proves one call.
@@ -60,7 +61,7 @@ impl Model for Edition {
     ghost view = { λ edition. edition.book };
 
     ghost invariant = { λ edition. IsSound edition.book × (arc_value edition.ident ≡ ident_rows edition.book)
-        × (edition.sets ≡ edition.book) × (edition.titles ≡ edition.book.tpcf) };
+        × (edition.sets ≡ edition.book) × (arc_value edition.titles ≡ edition.book.tpcf) };
 }
 
 /// An edition, and how many of its plans were compiled, not shared with the base.
@@ -83,7 +84,7 @@ impl Edition {
     {
         let sets = PlanSets::alone(alloc, &book, steps)?;
         let ident = ident_of(alloc, &book, steps)?;
-        let titles = FirstRows::new(alloc, book.tpcf())?;
+        let titles = titles_of(alloc, book.tpcf())?;
         Ok(Edition {
             book,
             ident,
@@ -111,7 +112,7 @@ impl Edition {
         )?;
         let made = ident_beside(alloc, &base.ident, &base.book, book, steps)?;
         let plans = compiled + made.compiled;
-        let titles = FirstRows::new(alloc, book.tpcf())?;
+        let titles = titles_beside(alloc, &base.titles, same.tpcf, book.tpcf())?;
         let edition = Edition {
             book: book.copy()?,
             ident: made.ident,

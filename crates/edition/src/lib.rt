@@ -12,6 +12,7 @@ mod edition;
 mod fault;
 mod ident;
 mod sets;
+mod titles;
 mod ways;
 
 pub use compiled::Compiled;

@@ -1,17 +1,18 @@
 // The plans of parameters, layouts and structures.
-ghost use Rattle.std.specs.Prelude.{◌≡◌, ◌+◌, ◌*◌, ◌≤◌, IfOk, IsTrue, OnOk, length, true};
+ghost use Rattle.std.specs.Prelude.{◌≡◌, ◌+◌, ◌*◌, ◌≤◌, IfOk, IsTrue, OnOk, length, map, true};
 ghost use Rattle.edition.specs.Editions.{count_sets};
 ghost use Rattle.edition_plans.specs.Params.{param_slices};
-ghost use Rattle.layout_set.specs.Sets.{new_layouts};
+ghost use Rattle.layout_set.specs.Sets.{AreLaidAlike, new_layouts};
 ghost use Rattle.mib_keys.specs.Kept.{AreSameIn};
 ghost use Rattle.mib_model.specs.Database.{no_rows};
+ghost use Rattle.mib_model.specs.Plans.{type_item};
 ghost use Rattle.mib_model.specs.Soundness.{IsSound};
 ghost use Rattle.mib_model.specs.declared.limits.TheConstants.{HELD_MOST};
 ghost use Rattle.structure_set.specs.Sets.{new_structures};
 
 use layout_set::LayoutSet;
 use mib_keys::same_tables;
-use mib_model::Steps;
+use mib_model::{PcfRow, Steps};
 use mib_tables::{Book, TableSet};
 use param_plan::Params;
 use param_set::params_with;
@@ -19,6 +20,7 @@ use std::alloc::{AllocError, Global};
 use std::marker::Model;
 use std::sync::ledger::Ledger;
 use structure_set::StructureSet;
+use type_items::same_types;
 
 /// The plans of a database's parameters, layouts and structures. Contracts see the database.
 pub struct PlanSets {
@@ -57,14 +59,23 @@ pub struct Made {
     pub compiled: u32,
 }
 
-// Whether all tables that layouts depend on are known to be the same.
-fn are_layouts_known(same: TableSet) -> bool
-    ensures { IsTrue result → (same.pid ≡ true) × (same.plf ≡ true) × (same.pcf ≡ true) }
+// Whether parameters have the same type items, which may be known to be the same themselves.
+fn are_types_same(same: bool, old: &[PcfRow], new: &[PcfRow]) -> bool
+    requires { same ≡ true → old.now ≡ new.now }
+    ensures { IsTrue result → map type_item old.now ≡ map type_item new.now }
 {
-    same.pid && same.plf && same.pcf
+    same || same_types(old, new)
 }
 
-// The layouts of a sound book beside another: all are shared at once where the tables are known to be the same.
+// Whether two books are known to have the same packets and places, and have the same type items.
+fn are_laid_alike(same: TableSet, old: &Book, book: &Book) -> bool
+    requires { AreSameIn same old.now book.now }
+    ensures { IsTrue result → AreLaidAlike old.now book.now }
+{
+    same.pid && same.plf && are_types_same(same.pcf, old.pcf(), book.pcf())
+}
+
+// The layouts of a sound book beside another: all are shared at once where they are known to be the same.
 fn layouts_with<L: Ledger>(
     alloc: Global,
     base: &LayoutSet,
@@ -81,7 +92,7 @@ fn layouts_with<L: Ledger>(
     ensures few { IfOk result (λ made. made.compiled ≤ HELD_MOST) }
     ensures steps { OnOk result (steps.new ≡ steps.old + length (new_layouts base.now book.now)) }
 {
-    if are_layouts_known(same) {
+    if are_laid_alike(same, old, book) {
         return base.kept(book);
     }
     LayoutSet::new(alloc, base, old, book, steps)
