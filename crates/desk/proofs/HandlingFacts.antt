@@ -36,6 +36,7 @@ use Rattle.mib_rows.specs.Answers.{Fails}
 use Rattle.mib_rows.specs.declared.read_fault.ReadFault.{ReadFault}
 use Rattle.mib_rows.specs.declared.read_fault.ReadFault.TheVariants as faults
 use Rattle.row_laws.proofs.RowFitFacts.{read_fits}
+use Rattle.desk.specs.Refusals.{refusal_of}
 use Rattle.desk.specs.Handling.{Handles, HandlesLine}
 use Rattle.desk.specs.Saving.{IsNoEdition}
 use Rattle.desk.proofs.KeyFacts.{key-of-table}
@@ -137,10 +138,6 @@ bad-row : (request : Request) (s : DeskState) (own : RegisterHistory) (fault : M
     → Handles request s own own (Some (reply.BadRow fault.code fault.column)) s
 bad-row request s own fault is = handled-nothing request s own (Some (reply.BadRow fault.code fault.column)) s is
 
--- a fault that was told is the definition's
-pub told-fault : {Made : Type 0} (told : ReadFault) (fault : MibFault) (read : Result Made MibFault) → told ≡ faults.Mib fault → Fails told read → read ≡ Err fault
-told-fault told fault read is fails = subst (λ f. Fails f read) is fails
-
 pub put-bad : (s : DeskState) (table : Kind) (row : List ℕ) (fault : MibFault) (own : RegisterHistory) → row_read table row ≡ Err fault
     → Handles (Spec.Put table row) s own own (Some (reply.BadRow fault.code fault.column)) s
 put-bad s table row fault own is = bad-row (Spec.Put table row) s own fault (way-put s table row (Err fault) is)
@@ -148,6 +145,18 @@ put-bad s table row fault own is = bad-row (Spec.Put table row) s own fault (way
 pub delete-bad : (s : DeskState) (table : Kind) (key : List ℕ) (fault : MibFault) (own : RegisterHistory) → key_read table key ≡ Err fault
     → Handles (Spec.Delete table key) s own own (Some (reply.BadRow fault.code fault.column)) s
 delete-bad s table key fault own is = bad-row (Spec.Delete table key) s own fault (way-delete s table key (Err fault) is)
+
+-- a row that isn't read is refused
+pub put-refused : (s : DeskState) (table : Kind) (row : List ℕ) (told : ReadFault) (own : RegisterHistory) → Fails told (row_read table row)
+    → Handles (Spec.Put table row) s own own (Some (refusal_of told)) s
+put-refused s table row (faults.Mib fault) own fails = put-bad s table row fault own fails
+put-refused s table row faults.Memory own fails = handled-want (Spec.Put table row) s own refl
+
+-- a key that isn't read is refused
+pub delete-refused : (s : DeskState) (table : Kind) (key : List ℕ) (told : ReadFault) (own : RegisterHistory) → Fails told (key_read table key)
+    → Handles (Spec.Delete table key) s own own (Some (refusal_of told)) s
+delete-refused s table key (faults.Mib fault) own fails = delete-bad s table key fault own fails
+delete-refused s table key faults.Memory own fails = handled-want (Spec.Delete table key) s own refl
 
 -- the reply to what was done with a row
 abbrev pub put_reply_of : Put → Reply
@@ -159,37 +168,48 @@ pub put-told : (made : Put) (held : Bool) → made ≡ put_made held → put_rep
 put-told made true is = ap put_reply_of is
 put-told made false is = ap put_reply_of is
 
-pub put-done : (s : DeskState) (table : Kind) (row : List ℕ) (r : Row) (draft : Database) (made : Put) (own : RegisterHistory) → row_read table row ≡ Ok r
-    → draft ≡ with_rows s.draft (kind_in r) (put_in r (rows_of s.draft (kind_in r))) → made ≡ put_made (is_held (key_in r) (rows_of s.draft (kind_in r)))
-    → Handles (Spec.Put table row) s own own (Some (put_reply_of made)) (record s { draft = draft })
-put-done s table row r draft made own reads grows is =
+-- a base that is kept
+kept-base : (request : Request) (s : DeskState) (own : RegisterHistory) (given : Reply) (draft base : Database) → base ≡ s.base
+    → Handles request s own own (Some given) (record s { draft = draft }) → Handles request s own own (Some given) (record { draft = draft; base = base; edition = s.edition })
+kept-base request s own given draft base kept = subst (λ (b : Database). Handles request s own own (Some given) (record { draft = draft; base = b; edition = s.edition })) (sym kept)
+
+pub put-done : (s : DeskState) (table : Kind) (row : List ℕ) (r : Row) (draft base : Database) (made : Put) (own : RegisterHistory) → row_read table row ≡ Ok r
+    → draft ≡ with_rows s.draft (kind_in r) (put_in r (rows_of s.draft (kind_in r))) → made ≡ put_made (is_held (key_in r) (rows_of s.draft (kind_in r))) → base ≡ s.base
+    → Handles (Spec.Put table row) s own own (Some (put_reply_of made)) (record { draft = draft; base = base; edition = s.edition })
+put-done s table row r draft base made own reads grows is kept =
+    kept-base (Spec.Put table row) s own (put_reply_of made) draft base kept (
     let of : kind_in r ≡ table = (read_fits table row r reads).1 in
     let told = put-told made (is_held (key_in r) (rows_of s.draft (kind_in r))) is in
     handled-nothing (Spec.Put table row) s own (Some (put_reply_of made)) (record s { draft = draft })
     (way-put s table row (Ok r) reads ∙ ap (λ k. says (record s { draft = with_rows s.draft k (put_in r (rows_of s.draft k)) }) (put_reply (is_held (key_in r) (rows_of s.draft k)))) (sym of)
-    ∙ (λ i. says (record s { draft = sym grows i }) (sym told i)))
+    ∙ (λ i. says (record s { draft = sym grows i }) (sym told i))))
 
-pub delete-done : (s : DeskState) (table : Kind) (line : List ℕ) (key : Key) (draft : Database) (own : RegisterHistory) → key_read table line ≡ Ok key
-    → true ≡ is_held key (rows_of s.draft (kind_of_key key)) → draft ≡ with_rows s.draft (kind_of_key key) (without_key key (rows_of s.draft (kind_of_key key)))
-    → Handles (Spec.Delete table line) s own own (Some reply.Deleted) (record s { draft = draft })
-delete-done s table line key draft own reads held less =
+pub delete-done : (s : DeskState) (table : Kind) (line : List ℕ) (key : Key) (draft base : Database) (own : RegisterHistory) → key_read table line ≡ Ok key
+    → true ≡ is_held key (rows_of s.draft (kind_of_key key)) → draft ≡ with_rows s.draft (kind_of_key key) (without_key key (rows_of s.draft (kind_of_key key))) → base ≡ s.base
+    → Handles (Spec.Delete table line) s own own (Some reply.Deleted) (record { draft = draft; base = base; edition = s.edition })
+delete-done s table line key draft base own reads held less kept =
+    kept-base (Spec.Delete table line) s own reply.Deleted draft base kept (
     let of : kind_of_key key ≡ table = key-of-table table line key reads in
     let there : is_held key (rows_of s.draft table) ≡ true = ap (λ k. is_held key (rows_of s.draft k)) (sym of) ∙ sym held in
     handled-nothing (Spec.Delete table line) s own (Some reply.Deleted) (record s { draft = draft })
     (way-delete s table line (Ok key) reads ∙ rw there (ap (λ k. says (record s { draft = with_rows s.draft k (without_key key (rows_of s.draft k)) }) reply.Deleted) (sym of)
-    ∙ ap (λ d. says (record s { draft = d }) reply.Deleted) (sym less)))
+    ∙ ap (λ d. says (record s { draft = d }) reply.Deleted) (sym less))))
 
-pub delete-none : (s : DeskState) (table : Kind) (line : List ℕ) (key : Key) (draft : Database) (own : RegisterHistory) → key_read table line ≡ Ok key
-    → false ≡ is_held key (rows_of s.draft (kind_of_key key)) → draft ≡ s.draft → Handles (Spec.Delete table line) s own own (Some reply.NoRow) (record s { draft = draft })
-delete-none s table line key draft own reads held same =
+pub delete-none : (s : DeskState) (table : Kind) (line : List ℕ) (key : Key) (draft base : Database) (own : RegisterHistory) → key_read table line ≡ Ok key
+    → false ≡ is_held key (rows_of s.draft (kind_of_key key)) → draft ≡ s.draft → base ≡ s.base
+    → Handles (Spec.Delete table line) s own own (Some reply.NoRow) (record { draft = draft; base = base; edition = s.edition })
+delete-none s table line key draft base own reads held same kept =
+    kept-base (Spec.Delete table line) s own reply.NoRow draft base kept (
     let of : kind_of_key key ≡ table = key-of-table table line key reads in
     let gone : is_held key (rows_of s.draft table) ≡ false = ap (λ k. is_held key (rows_of s.draft k)) (sym of) ∙ sym held in
     handled-nothing (Spec.Delete table line) s own (Some reply.NoRow) (record s { draft = draft })
-    (way-delete s table line (Ok key) reads ∙ rw gone (ap (λ d. says (record s { draft = d }) reply.NoRow) (sym same)))
+    (way-delete s table line (Ok key) reads ∙ rw gone (ap (λ d. says (record s { draft = d }) reply.NoRow) (sym same))))
 
-pub drop-done : (s : DeskState) (draft : Database) (own : RegisterHistory) → draft ≡ s.base → Handles Spec.Drop s own own (Some reply.Dropped) (record s { draft = draft })
-drop-done s draft own same =
-    handled-nothing Spec.Drop s own (Some reply.Dropped) (record s { draft = draft }) (way-drop s ∙ ap (λ d. says (record s { draft = d }) reply.Dropped) (sym same))
+pub drop-done : (s : DeskState) (draft base : Database) (own : RegisterHistory) → draft ≡ s.base → base ≡ s.base
+    → Handles Spec.Drop s own own (Some reply.Dropped) (record { draft = draft; base = base; edition = s.edition })
+drop-done s draft base own same kept =
+    kept-base Spec.Drop s own reply.Dropped draft base kept
+    (handled-nothing Spec.Drop s own (Some reply.Dropped) (record s { draft = draft }) (way-drop s ∙ ap (λ d. says (record s { draft = d }) reply.Dropped) (sym same)))
 
 -- ---- saves
 

@@ -1,12 +1,14 @@
 // The tables that a desk edits.
-ghost use Rattle.std.specs.Prelude.{◌≡◌, ◌+◌, IfErr, IfOk, OnErr, OnOk, length, Err};
+ghost use Rattle.std.specs.Prelude.{◌≡◌, ◌+◌, IfErr, IfOk, OnErr, OnOk, false, length, true, Err};
 ghost use Rattle.std.specs.Arc.{arc_value};
 ghost use Rattle.desk.specs.Drafts.{drafted_from};
 ghost use Rattle.edition.specs.Faults.{Refuses};
 ghost use Rattle.mib_model.specs.Drafts.{is_held, put_in, with_rows, without_key, rows_of};
-ghost use Rattle.mib_model.specs.Keys.{key_in, kind_in, kind_of_key};
+ghost use Rattle.mib_model.specs.Keys.{key_in};
+ghost use Rattle.mib_model.specs.RowTexts.{kind_in};
 ghost use Rattle.mib_model.specs.Soundness.{IsSound};
 ghost use Rattle.mib_model.specs.Touched.{touched};
+ghost use Rattle.mib_tables.specs.Kinds.{kind_of_key};
 ghost use Rattle.mib_tables.specs.Puts.{put_made};
 
 use edition::{Amended, Edition, SaveFault};

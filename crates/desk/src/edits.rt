@@ -1,12 +1,26 @@
 // Lines that edit the draft.
 ghost use Rattle.std.specs.Prelude.{◌≡◌, Some, List};
 ghost use Rattle.mib_model.specs.DeskLines as Spec;
+ghost use Rattle.desk.specs.Refusals.{refusal_of};
 
 use crate::desk::Desk;
 use mib_model::{Kind, Reply};
 use mib_rows::{ReadFault, read_key, read_row};
 use mib_tables::{DelFault, Put};
 use std::alloc::Global;
+
+// The reply to a row or a key that wasn't read.
+fn refusal(fault: ReadFault) -> Reply
+    ensures { result ≡ refusal_of fault }
+{
+    match fault {
+        ReadFault::Mib(fault) => Reply::BadRow {
+            code: fault.code,
+            column: fault.column,
+        },
+        ReadFault::Memory => Reply::Want,
+    }
+}
 
 impl Desk {
     ghost use Rattle.mib_model.specs.RegisterHistories.{RegisterHistory};
@@ -20,13 +34,7 @@ impl Desk {
     {
         let row = match read_row(alloc, table, row) {
             Ok(row) => row,
-            Err(ReadFault::Mib(fault)) => {
-                return Reply::BadRow {
-                    code: fault.code,
-                    column: fault.column,
-                };
-            }
-            Err(ReadFault::Memory) => return Reply::Want,
+            Err(fault) => return refusal(fault),
         };
         match self.draft.put(table, row) {
             Ok(Put::Added) => Reply::Added,
@@ -42,13 +50,7 @@ impl Desk {
     {
         let key = match read_key(alloc, table, key) {
             Ok(key) => key,
-            Err(ReadFault::Mib(fault)) => {
-                return Reply::BadRow {
-                    code: fault.code,
-                    column: fault.column,
-                };
-            }
-            Err(ReadFault::Memory) => return Reply::Want,
+            Err(fault) => return refusal(fault),
         };
         match self.draft.del(table, &key) {
             Ok(()) => Reply::Deleted,

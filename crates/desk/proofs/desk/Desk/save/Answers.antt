@@ -1,6 +1,8 @@
-use Rattle.std.proofs.Common.{◌∙◌, ap, length}
-use Rattle.mib_model.specs.declared.database.Database.{Database}
-use Rattle.mib_model.specs.Touched.{touched}
+use Rattle.std.proofs.Common.{Some, subst, sym}
+use Rattle.mib_model.specs.DeskLines as Spec
+use Rattle.mib_model.specs.declared.reply.Reply.TheVariants as reply
+use Rattle.desk.specs.Drafts.{Drafted}
+use Rattle.desk.specs.Handling.{Handles}
 use Rattle.turn_cell.specs.Seats.{own_moves}
 use Rattle.desk.specs.State.{desk_of}
 use Rattle.desk.proofs.HandlingFacts.{save-none, save-added, save-full}
@@ -12,7 +14,8 @@ returns-in-Err-clause-handles g c = save-none (desk_of c.args.self.now) (own_mov
 pub returns-in-Ok-add-clause-handles : goal.returns-in-Ok-add-clause-handles
 returns-in-Ok-add-clause-handles g c =
     let ready = c.in-Ok.ensures.ready in
-    save-added (desk_of c.args.self.now) (own_moves c.args.seat.now) _ _ _ c.in-Ok-add.edition c.in-Ok.ready.plans ready.0 ready.1.payload ready.1.base (ready.1.count ∙ ap (λ (b : Database). length (touched b c.args.self.now.draft)) c.deref.ensures) c.in-Ok-add.ensures.adds.own
+    subst (λ (d : Drafted). Handles Spec.Save (desk_of c.args.self.now) (own_moves c.args.seat.now) (own_moves c.add.new.seat) (Some (reply.Saved c.in-Ok-add.edition c.in-Ok.ready.plans)) (record { draft = d.book; base = d.base; edition = c.in-Ok-add.edition })) (sym c.rebase.ensures)
+    (save-added (desk_of c.args.self.now) (own_moves c.args.seat.now) _ _ _ c.in-Ok-add.edition c.in-Ok.ready.plans ready.0 ready.1.payload ready.1.base ready.1.count c.in-Ok-add.ensures.adds.own)
 
 pub returns-in-Err-Full-clause-handles : goal.returns-in-Err-Full-clause-handles
 returns-in-Err-Full-clause-handles g c =
