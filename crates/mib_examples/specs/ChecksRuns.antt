@@ -8,7 +8,9 @@ pub record ChecksRuns : Type 0 where
   -- a parameter that is valid while another is 1: the whole packet is entered first, and what was kept stays
   pub validity :
       decoded (given kind.Plf (table (codes "T1|4001|10|0\nM|4001|12|0\n")) (given kind.Pcf (table (codes "T1||||3|12||M||N|R\nM||||3|4||||N|R\n")) shared))
-      ((0x08 ∷ 0x64 ∷ 0xC0 ∷ 0x00 ∷ 0x00 ∷ 0x06 ∷ 0x10 ∷ 0x03 ∷ 0x19 ∷ 0x00 ∷ 0x07 ∷ 0xD0 ∷ 0x01 ∷ []) ∷ (0x08 ∷ 0x64 ∷ 0xC0 ∷ 0x00 ∷ 0x00 ∷ 0x06 ∷ 0x10 ∷ 0x03 ∷ 0x19 ∷ 0x00 ∷ 0x07 ∷ 0xD0 ∷ 0x00 ∷ []) ∷ packet_a ∷ [])
+      ((0x08 ∷ 0x64 ∷ 0xC0 ∷ 0x00 ∷ 0x00 ∷ 0x06 ∷ 0x10 ∷ 0x03 ∷ 0x19 ∷ 0x00 ∷ 0x07 ∷ 0xD0 ∷ 0x01 ∷ []) ∷
+      (0x08 ∷ 0x64 ∷ 0xC0 ∷ 0x00 ∷ 0x00 ∷ 0x06 ∷ 0x10 ∷ 0x03 ∷ 0x19 ∷ 0x00 ∷ 0x07 ∷ 0xD0 ∷ 0x00 ∷ []) ∷
+      packet_a ∷ [])
       ≡ Ok (codes "PKT 1 APID 100 COUNT 0 TYPE 3/25 SPID 4001\n" ++
       codes "  T1 2000\n" ++
       codes "  M 1\n" ++
@@ -40,7 +42,12 @@ pub record ChecksRuns : Type 0 where
       codes "  CLEAR T1 SOFT\n")
   -- a status text that isn't the expected one
   pub states :
-      decoded (given kind.Ocp (table (codes "T1|1|C|EXACT\n")) (given kind.Ocf (table (codes "T1|1||C\n")) (given kind.Txp (table (codes "X1|0|1999|LOW\nX1|2000|2000|EXACT\n")) (given kind.Txf (table (codes "X1||U\n")) (given kind.Pcf (table (codes "T1||||3|12||||S|R|X1\n")) shared)))))
+      decoded
+      (given kind.Ocp (table (codes "T1|1|C|EXACT\n"))
+      (given kind.Ocf (table (codes "T1|1||C\n"))
+      (given kind.Txp (table (codes "X1|0|1999|LOW\nX1|2000|2000|EXACT\n"))
+      (given kind.Txf (table (codes "X1||U\n"))
+      (given kind.Pcf (table (codes "T1||||3|12||||S|R|X1\n")) shared)))))
       (packet_with 0x00 0x05 ∷ packet_a ∷ [])
       ≡ Ok (codes "PKT 1 APID 100 COUNT 0 TYPE 3/25 SPID 4001\n" ++
       codes "  T1 5 = \"LOW\"\n" ++

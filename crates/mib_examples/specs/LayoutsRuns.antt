@@ -26,7 +26,9 @@ pub record LayoutsRuns : Type 0 where
       codes "  T1 2000\n")
   -- the criterion with the APID goes before the one with none, and its discriminant tells two packets apart
   pub discriminants :
-      decoded (given kind.Pic (table (codes "3|25|9|8|-1|0|\n3|25|10|8|-1|0|100\n")) (given kind.Pid (table (codes "3|25|100|0|0|4001\n3|25|100|7|0|4002\n")) shared))
+      decoded
+      (given kind.Pic (table (codes "3|25|9|8|-1|0|\n3|25|10|8|-1|0|100\n"))
+      (given kind.Pid (table (codes "3|25|100|0|0|4001\n3|25|100|7|0|4002\n")) shared))
       (packet_a ∷ [])
       ≡ Ok (codes "PKT 1 APID 100 COUNT 0 TYPE 3/25 SPID 4002\n")
   -- a discriminant that passes the end
@@ -36,7 +38,10 @@ pub record LayoutsRuns : Type 0 where
       ≡ Ok (codes "PKT 1 APID 100 COUNT 0 BAD SHORT\n")
   -- a discriminant of 64 bits
   pub wide_discriminant :
-      decoded (given kind.Pic (table (codes "3|25|10|64|-1|0|\n")) (given kind.Pid (table (codes "3|25|100|18446744073709551615|0|4001\n")) (given kind.Pcf (table (codes "T1||||3|16||||N|R\n")) shared)))
+      decoded
+      (given kind.Pic (table (codes "3|25|10|64|-1|0|\n"))
+      (given kind.Pid (table (codes "3|25|100|18446744073709551615|0|4001\n"))
+      (given kind.Pcf (table (codes "T1||||3|16||||N|R\n")) shared)))
       ((0x08 ∷ 0x64 ∷ 0xC0 ∷ 0x00 ∷ 0x00 ∷ 0x0B ∷ 0x10 ∷ 0x03 ∷ 0x19 ∷ 0x00 ∷ 0xFF ∷ 0xFF ∷ 0xFF ∷ 0xFF ∷ 0xFF ∷ 0xFF ∷ 0xFF ∷ 0xFF ∷ []) ∷ [])
       ≡ Ok (codes "PKT 1 APID 100 COUNT 0 TYPE 3/25 SPID 4001\n" ++
       codes "  T1 18446744073709551615\n")
@@ -57,8 +62,12 @@ pub record LayoutsRuns : Type 0 where
       codes "  K 120\n")
   -- a real, characters, octets and two times
   pub all_sorts :
-      decoded (given kind.Plf (table (codes "R1|4001|10|0\nCH|4001|14|0\nOC|4001|17|0\nTD|4001|19|0\nTR|4001|25|0\n")) (given kind.Pcf (table (codes "R1||||5|1||||N|R\nCH||||8|3||||N|R\nOC||||7|2||||N|R\nTD||||9|1||||N|R\nTR||||10|4||||N|R\n")) shared))
-      ((0x08 ∷ 0x64 ∷ 0xC0 ∷ 0x00 ∷ 0x00 ∷ 0x14 ∷ 0x10 ∷ 0x03 ∷ 0x19 ∷ 0x00 ∷ 0x3F ∷ 0x80 ∷ 0x00 ∷ 0x00 ∷ 0x41 ∷ 0x22 ∷ 0x0A ∷ 0xBE ∷ 0xEF ∷ 0x00 ∷ 0x02 ∷ 0x00 ∷ 0x00 ∷ 0x03 ∷ 0xE8 ∷ 0x05 ∷ 0x80 ∷ []) ∷ [])
+      decoded
+      (given kind.Plf (table (codes "R1|4001|10|0\nCH|4001|14|0\nOC|4001|17|0\nTD|4001|19|0\nTR|4001|25|0\n"))
+      (given kind.Pcf (table (codes "R1||||5|1||||N|R\nCH||||8|3||||N|R\nOC||||7|2||||N|R\nTD||||9|1||||N|R\nTR||||10|4||||N|R\n")) shared))
+      ((0x08 ∷ 0x64 ∷ 0xC0 ∷ 0x00 ∷ 0x00 ∷ 0x14 ∷ 0x10 ∷ 0x03 ∷ 0x19 ∷ 0x00 ∷ 0x3F ∷ 0x80 ∷ 0x00 ∷ 0x00 ∷ 0x41 ∷ 0x22 ∷ 0x0A ∷ 0xBE ∷
+      0xEF ∷ 0x00 ∷ 0x02 ∷ 0x00 ∷ 0x00 ∷ 0x03 ∷ 0xE8 ∷ 0x05 ∷ 0x80 ∷ []) ∷
+      [])
       ≡ Ok (codes "PKT 1 APID 100 COUNT 0 TYPE 3/25 SPID 4001\n" ++
       codes "  R1 REAL:3F800000\n" ++
       codes "  CH \"A\\x22\\x0A\"\n" ++
@@ -79,7 +88,14 @@ pub record LayoutsRuns : Type 0 where
       codes "  T1 -2\n")
   -- rows as a usual database has them: a name of the packet, a polynomial, two decimals and a check
   pub usual :
-      decoded (given kind.Ocp (table (codes "NTSA0010|1|S|-10.0|40.0||\n")) (given kind.Ocf (table (codes "NTSA0010|2|1|C|R\n")) (given kind.Mcf (table (codes "10051|Tank cal|-2.5000000E+01|1.0000000E-02|0.0000000E+00|0.0000000E+00|0.0000000E+00\n")) (given kind.Plf (table (codes "NTSA0010|4001|10|0|1|0|0|1\n")) (given kind.Tpcf (table (codes "4001|HK_1|64\n")) (given kind.Pid (table (codes "3|25|100|0|0|4001|HK Report 1||-1|10|Y|1|Y|0|N|\n")) (given kind.Pcf (table (codes "NTSA0010|Tank temp 1|123|degC|3|12|16|||N|R|10051|F||2||PROP|||Y||0|B\n")) shared)))))))
+      decoded
+      (given kind.Ocp (table (codes "NTSA0010|1|S|-10.0|40.0||\n"))
+      (given kind.Ocf (table (codes "NTSA0010|2|1|C|R\n"))
+      (given kind.Mcf (table (codes "10051|Tank cal|-2.5000000E+01|1.0000000E-02|0.0000000E+00|0.0000000E+00|0.0000000E+00\n"))
+      (given kind.Plf (table (codes "NTSA0010|4001|10|0|1|0|0|1\n"))
+      (given kind.Tpcf (table (codes "4001|HK_1|64\n"))
+      (given kind.Pid (table (codes "3|25|100|0|0|4001|HK Report 1||-1|10|Y|1|Y|0|N|\n"))
+      (given kind.Pcf (table (codes "NTSA0010|Tank temp 1|123|degC|3|12|16|||N|R|10051|F||2||PROP|||Y||0|B\n")) shared)))))))
       (packet_a ∷ [])
       ≡ Ok (codes "PKT 1 APID 100 COUNT 0 TYPE 3/25 SPID 4001 NAME \"HK_1\"\n" ++
       codes "  NTSA0010 2000 = -5.00\n")

@@ -44,9 +44,15 @@ pub record StateExamples : Type 0 where
 
 -- how runs end, and a desk of three lines
 pub record EndExamples : Type 0 where
-  pub first_fault : code_of_ending (record { out_failed = false; replies_failed = true; feed_failed = true; desk_failed = false; rest = 3; is_limit = false }) ≡ code.ReplyFault
-  pub rest : code_of_ending (record { out_failed = false; replies_failed = false; feed_failed = false; desk_failed = false; rest = 11; is_limit = false }) ≡ code.Cut 11
-  pub limit : code_of_ending (record { out_failed = false; replies_failed = false; feed_failed = false; desk_failed = false; rest = 0; is_limit = true }) ≡ code.Limit
+  pub first_fault :
+      code_of_ending (record { out_failed = false; replies_failed = true; feed_failed = true; desk_failed = false; rest = 3; is_limit = false })
+      ≡ code.ReplyFault
+  pub rest :
+      code_of_ending (record { out_failed = false; replies_failed = false; feed_failed = false; desk_failed = false; rest = 11; is_limit = false })
+      ≡ code.Cut 11
+  pub limit :
+      code_of_ending (record { out_failed = false; replies_failed = false; feed_failed = false; desk_failed = false; rest = 0; is_limit = true })
+      ≡ code.Limit
   pub desk :
       IsDesk false (desk_start no_rows) (codes "use 9" ∷ codes "# and then" ∷ codes "go" ∷ [])
       ((entry.Use 9, answer.NoEdition 1) ∷ []) (Plain (reply.NoEdition 1) ∷ Plain reply.Go ∷ []) (desk_start no_rows)

@@ -68,9 +68,11 @@ pub record PlacesRuns : Type 0 where
   -- values of each sort
   pub sorts :
       decoded
-      (given kind.Plf (table (codes "H1|4001|10|0\nTC|4001|10|0\nTN|4001|10|0\nRL|4001|10|0\nCH|4001|11|0\nB1|4001|11|1\nB5|4001|11|0\nB6|4001|10|7\nR6|4001|10|4\n"))
+      (given kind.Plf (table (codes "H1|4001|10|0\nTC|4001|10|0\nTN|4001|10|0\nRL|4001|10|0\nCH|4001|11|0\n" ++
+      codes "B1|4001|11|1\nB5|4001|11|0\nB6|4001|10|7\nR6|4001|10|4\n"))
       (given kind.Tpcf (table (codes "4001|\n"))
-      (given kind.Pcf (table (codes "H1||||3|4||||N|H\nTC||||9|2||||N|R\nTN||||10|3||||N|R\nRL||||5|1||||N|R||||||||||||L\nCH||||8|1||||N|R\nB1||||1|0||||N|R\nB5||||2|5||||N|R\nB6||||6|10||||N|R\nR6||||5|4||||N|R\n")) shared)))
+      (given kind.Pcf (table (codes "H1||||3|4||||N|H\nTC||||9|2||||N|R\nTN||||10|3||||N|R\nRL||||5|1||||N|R||||||||||||L\n" ++
+      codes "CH||||8|1||||N|R\nB1||||1|0||||N|R\nB5||||2|5||||N|R\nB6||||6|10||||N|R\nR6||||5|4||||N|R\n")) shared)))
       ((0x08 ∷ 0x64 ∷ 0xC0 ∷ 0x00 ∷ 0x00 ∷ 0x0B ∷ 0x10 ∷ 0x03 ∷ 0x19 ∷ 0x00 ∷ 0x01 ∷ 0x5C ∷ 0x03 ∷ 0x04 ∷ 0x05 ∷ 0x06 ∷ 0x07 ∷ 0x08 ∷ []) ∷ [])
       ≡ Ok (codes "PKT 1 APID 100 COUNT 0 TYPE 3/25 SPID 4001\n" ++
       codes "  TC TIME:348:50595078:1800\n" ++

@@ -66,8 +66,10 @@ pub record DeskExamples : Type 0 where
   pub take_alone : request_of false (codes "take") ≡ BadLine
   pub take_of_several : request_of true (codes "take") ≡ Take
   pub added : way_of false (desk_start curved) (Put kind.Cap (table (codes "C1|2000|100"))) ≡ says (record (desk_start curved) { draft = bent }) reply.Added
-  pub saves : way_of false (record (desk_start curved) { draft = bent }) Save ≡ Ask (entry.Add bent (plans bent)) (saved (record (desk_start curved) { draft = bent }))
-  pub one_plan : saved (record (desk_start curved) { draft = bent }) (answer.Added 2) ≡ says (record { draft = bent; base = bent; edition = 2 }) (reply.Saved 2 1)
+  pub saves : way_of false (record (desk_start curved) { draft = bent }) Save
+      ≡ Ask (entry.Add bent (plans bent)) (saved (record (desk_start curved) { draft = bent }))
+  pub one_plan : saved (record (desk_start curved) { draft = bent }) (answer.Added 2)
+      ≡ says (record { draft = bent; base = bent; edition = 2 }) (reply.Saved 2 1)
 
 -- plans, and which are touched
 pub record PlanExamples : Type 0 where

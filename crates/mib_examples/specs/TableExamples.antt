@@ -34,7 +34,8 @@ pub record TextExamples : Type 0 where
 
 -- rows and keys read from lines
 pub record RowExamples : Type 0 where
-  pub place : row_read kind.Plf (table (codes "T1|4001|10|0")) ≡ Ok (row.Plf (record { name = codes "T1"; spid = 4001; offby = 10; offbi = 0; nbocc = 1; lgocc = 0 }))
+  pub place : row_read kind.Plf (table (codes "T1|4001|10|0"))
+      ≡ Ok (row.Plf (record { name = codes "T1"; spid = 4001; offby = 10; offbi = 0; nbocc = 1; lgocc = 0 }))
   pub too_few : row_read kind.Plf (table (codes "T1|4001|10")) ≡ Err (record { table = kind.Plf; row = 0; column = 0; first = 0; code = code.FewFields })
   pub number : row_read kind.Plf (table (codes "T1|4001|10|8")) ≡ Err (in_column kind.Plf 0 4)
   pub packet_key : key_read kind.Pic (table (codes "3|25|")) ≡ Ok (key.Pic 3 25 None)
@@ -56,7 +57,8 @@ pub record FirstFaultExamples : Type 0 where
   pub packet_twice : first_fault (given kind.Pid (table (codes "3|25|100|||4001\n3|25|100|||4002\n")) shared) ≡ codes "pid 2 TWICE 1"
   pub name_twice : first_fault (given kind.Pcf (table (codes "T1||||3|12||||N|R\nT1||||3|4||||N|R\n")) shared) ≡ codes "pcf 2 TWICE 1"
   pub width : first_fault (given kind.Pcf (table (codes "T1||||3|12|8|||N|R\n")) shared) ≡ codes "pcf 1 WIDTH"
-  pub both : first_fault (given kind.Lgf (codes "L1\n") (given kind.Cur (table (codes "T1|1|T1|1|L1\n")) (given kind.Pcf (table (codes "T1||||3|12||||N|R|L1\n")) shared))) ≡ codes "pcf 1 BOTH"
+  pub both : first_fault (given kind.Lgf (codes "L1\n") (given kind.Cur (table (codes "T1|1|T1|1|L1\n"))
+      (given kind.Pcf (table (codes "T1||||3|12||||N|R|L1\n")) shared))) ≡ codes "pcf 1 BOTH"
   pub group : first_fault (given kind.Vpd (table (codes "10|1|T1|1\n")) shared) ≡ codes "vpd 1 GROUP"
   pub inner_group : first_fault (given kind.Vpd (table (codes "10|1|T1|1\n10|2|T1|1\n10|3|T1\n")) shared) ≡ codes "vpd 2 GROUP"
 
