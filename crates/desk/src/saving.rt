@@ -43,11 +43,7 @@ fn three_handles(alloc: Global, edition: Edition, plans: u32) -> Result<Ready, A
 }
 
 // The edition of a draft, or the reply to a draft that is none.
-fn amended<L: Ledger>(
-    alloc: Global,
-    draft: &Draft,
-    steps: &mut Steps<L>,
-) -> Result<Ready, Reply>
+fn amended<L: Ledger>(alloc: Global, draft: &Draft, steps: &mut Steps<L>) -> Result<Ready, Reply>
     ensures ready { MatchResult result (λ r. IsReadyFor draft.now.base draft.now.book r) (IsNoEdition draft.now.book) }
     ensures steps { IfOk result (λ r. steps.new ≡ steps.old + r.plans) }
 {
