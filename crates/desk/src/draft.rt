@@ -82,7 +82,8 @@ impl Draft {
         requires { kind_of_key key.now ≡ table }
         ensures held { OnOk result (is_held key.now (rows_of self.old.book (kind_of_key key.now)) ≡ true) }
         ensures missing { result ≡ Err DelFault.NoRow → is_held key.now (rows_of self.old.book (kind_of_key key.now)) ≡ false }
-        ensures rows { let table = kind_of_key key.now in OnOk result (self.new.book ≡ with_rows self.old.book table (without_key key.now (rows_of self.old.book table))) }
+        ensures rows { let table = kind_of_key key.now in
+            OnOk result (self.new.book ≡ with_rows self.old.book table (without_key key.now (rows_of self.old.book table))) }
         ensures base { self.new.base ≡ self.old.base }
         ensures kept { OnErr result (self.new ≡ self.old) }
     {

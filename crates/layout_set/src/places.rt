@@ -47,13 +47,12 @@ impl<'a> Group<'a> {
         }
     }
 
-    // The group with one more place behind the others. An error is want of memory.
-    fn with(self, place: &'a PlfRow) -> Result<Group<'a>, AllocError>
-        ensures { IfOk result (λ group. group ≡ self.entry ++ place.now ∷ []) }
+    // Puts a place behind the others. An error is want of memory.
+    fn add(&mut self, place: &'a PlfRow) -> Result<(), AllocError>
+        ensures { OnOk result (self.new ≡ self.old ++ place.now ∷ []) }
     {
-        let Group { mut places } = self;
-        places.push(place)?;
-        Ok(Group { places })
+        self.places.push(place)?;
+        Ok(())
     }
 
     // Its places. An error is want of memory.
@@ -102,13 +101,8 @@ fn put<'a>(
     ensures { OnOk result ((spid : ℕ) → rows_of (get nat_eq groups.new spid) ≡
         (if place.now.spid == spid then rows_of (get nat_eq groups.old spid) ++ place.now ∷ [] else rows_of (get nat_eq groups.old spid))) }
 {
-    let spid = place.spid;
-    let group = match groups.remove(&spid) {
-        Some(group) => group,
-        None => Group::empty(alloc),
-    };
-    groups.insert(spid, group.with(place)?)?;
-    Ok(())
+    let group = groups.entry(place.spid)?.or_insert(Group::empty(alloc));
+    group.add(place)
 }
 
 // The places of each packet.
