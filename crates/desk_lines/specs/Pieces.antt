@@ -9,7 +9,8 @@ use Rattle.desk_lines.specs.Ahead.{HasNoFeed}
 
 -- the next octet was taken, or none is left; where the source fails, none was taken
 abbrev pub TakesOctet : {F : Type 0} → Result (Option ℕ) F → Option (List ℕ) → Option (List ℕ) → Type 0
-TakesOctet result old new = MatchResult result (λ next. MatchOption next (Consumes old new [] × IsAtEnd new) (λ c. Consumes old new (c ∷ []))) (λ _. Consumes old new [])
+TakesOctet result old new =
+    MatchResult result (λ next. MatchOption next (Consumes old new [] × IsAtEnd new) (λ c. Consumes old new (c ∷ []))) (λ _. Consumes old new [])
 
 -- what was taken of a line's octets, and why no more were: with its LF, all that was left, as many as there is room for, or those before a fault
 abbrev pub Ends : PieceEnd → List ℕ → ℕ → Option (List ℕ) → Option (List ℕ) → Type 0

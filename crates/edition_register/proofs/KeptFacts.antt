@@ -1,8 +1,8 @@
 -- What each entry does to a register of one activation in use and those that are pending.
-use Rattle.std.proofs.Common.{◌≡◌, ℕ, ◌+◌, ◌-◌, ◌<◌, ◌≤◌, Bool, true, false, not, cond, ◌||◌, List, [], ◌∷◌, ◌++◌, map, length, Option, Some, None, option_map, unwrap_or, sym, refl, ap, subst, ◌∙◌, arith, nat_le, nat_lt, nat_eq, ◌==◌}
+use Rattle.std.proofs.Common.{◌≡◌, ℕ, ◌+◌, ◌-◌, ◌<◌, Bool, true, false, not, cond, ◌||◌, List, [], ◌∷◌, ◌++◌, length, Option, Some, None, option_map, unwrap_or, sym, refl, ap, ◌∙◌, arith, nat_le, nat_lt, ◌==◌}
 use Rattle.std.proofs.lemmas.Bool.{ltb-false, eqb-true, eqb-false}
 use Rattle.std.proofs.lemmas.List.Elements.{filter-append}
-use Rattle.std.specs.List.{AllByRecursion, last_or, list_any, slice_index_or}
+use Rattle.std.specs.List.{last_or, list_any, slice_index_or}
 use Rattle.mib_model.specs.declared.database.Database.{Database}
 use Rattle.mib_model.specs.declared.plan.Plan.{Plan}
 use Rattle.mib_model.specs.declared.register.Answer.{Answer}
@@ -11,11 +11,11 @@ use Rattle.mib_model.specs.declared.register.Entry.TheVariants.{Stamp, Add, AddO
 use Rattle.mib_model.specs.declared.register.Register.{Register}
 use Rattle.mib_model.specs.declared.register.Scheduled.{Scheduled}
 use Rattle.mib_model.specs.Database.{no_rows}
-use Rattle.mib_model.specs.Register.{answer_to, after, added, used_from, with_tables, with_activation, has_edition, is_disorder, last_pending, pending, most_pending, most_editions, tables_of}
+use Rattle.mib_model.specs.Register.{answer_to, after, added, with_tables, with_activation, has_edition, is_disorder, last_pending, pending, most_pending, most_editions, tables_of}
 use Rattle.edition_register.specs.Bounded.{bounded, bounded_after, begun, edition_of}
 use Rattle.edition_register.specs.Starts.{Rises}
 use Rattle.edition_register.specs.Stored.{begins}
-use Rattle.edition_register.proofs.BoundedFacts.{Below, trim, past, pend, trim-kept, rises-pend, stamp-moves, edition-first, rises-one, below-all, below-pend, below-past, rises-past}
+use Rattle.edition_register.proofs.BoundedFacts.{trim, past, pend, trim-kept, rises-pend, stamp-moves, edition-first, rises-one, below-all, below-pend, below-past, rises-past}
 
 past-front : (n : ℕ) (used : Scheduled) (waiting : List Scheduled) → used.from < n → Rises n waiting → past n (used ∷ waiting) ≡ used ∷ []
 past-front n used waiting before rises =

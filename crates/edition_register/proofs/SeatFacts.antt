@@ -1,7 +1,6 @@
 -- What a seat of a register knows when it has its turn.
-use Rattle.std.proofs.Common.{◌≡◌, ◌≢◌, ℕ, ◌+◌, ◌<◌, ◌≤◌, Bool, true, false, not, cond, ◌||◌, List, [], ◌∷◌, ◌++◌, filter, length, Option, Some, None, Result, Ok, Err, MatchOption, IfSome, is_some, sym, refl, ap, subst, ◌∙◌, arith, nat_le, nat_eq, ◌==◌, eq-eqb}
+use Rattle.std.proofs.Common.{◌≡◌, ◌≢◌, ℕ, ◌+◌, ◌<◌, Bool, true, false, cond, ◌||◌, List, [], ◌∷◌, ◌++◌, length, Option, Some, None, Result, MatchOption, IfSome, is_some, sym, refl, ap, subst, ◌∙◌, arith, nat_eq, ◌==◌, eq-eqb}
 use Rattle.std.proofs.lemmas.Bool.{false≢true, eqb-false}
-use Rattle.std.proofs.lemmas.Bool.Decides.{nat_tests}
 use Rattle.std.specs.List.{AllByRecursion, list_any}
 use Rattle.histories.specs.History.{IsLegal, IsOfSeatsBelow, Permits, StartsWith, move, moves_of, state_after}
 use Rattle.mib_model.specs.declared.database.Database.{Database}
@@ -22,7 +21,7 @@ use Rattle.edition_register.specs.declared.entry.Reply.{Reply}
 use Rattle.edition_register.specs.declared.entry.Reply.TheVariants as reply
 use Rattle.edition_register.specs.declared.outcome.UseFault.{UseFault}
 use Rattle.edition_register.specs.Seats.{IsUsed, Moves, RegisterSeat, StartFits, Uses, shown_in}
-use Rattle.edition_register.specs.Shown.{HasItsTables, NoneBegins, last_stamped}
+use Rattle.edition_register.specs.Shown.{HasItsTables, last_stamped}
 use Rattle.edition_register.specs.Starts.{IsStart}
 use Rattle.edition_register.specs.Stored.{FitsUse, GivesUse, answer_of, begins}
 use Rattle.edition_register.proofs.BoundedFacts.{In, Below, bounded-serves, in-after, past, pend, past-below, last-below, same-answer, split}

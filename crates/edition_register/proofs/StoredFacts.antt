@@ -1,5 +1,5 @@
 -- What is ready stays ready, and the tables of a handle.
-use Rattle.std.proofs.Common.{◌≡◌, ℕ, ◌+◌, ◌-◌, ◌<◌, ◌≤◌, Bool, true, false, List, [], ◌∷◌, ◌++◌, map, length, Option, Some, None, IfOk, Result, Ok, Err, sym, refl, ap, subst, ◌∙◌, arith, nat_eq, zero, suc, option_map, length-append}
+use Rattle.std.proofs.Common.{◌≡◌, ℕ, ◌+◌, ◌-◌, ◌<◌, Bool, true, false, List, [], ◌∷◌, ◌++◌, map, length, Option, Some, None, IfOk, Result, Ok, Err, sym, refl, ap, subst, ◌∙◌, arith, nat_eq, zero, suc, option_map, length-append}
 use Rattle.std.proofs.lemmas.List.{get_or_append_left, get_or-map}
 use Rattle.std.proofs.lemmas.Bool.{false≢true}
 use Rattle.std.proofs.lemmas.Bool.Decides.{nat_tests}
@@ -7,7 +7,7 @@ use Rattle.std.specs.Arc.{arc_value}
 use Rattle.std.specs.declared.alloc.AllocError.{AllocError}
 use Rattle.std.specs.declared.alloc.Global.{Global}
 use Rattle.std.specs.declared.sync.Arc.{Arc}
-use Rattle.std.specs.List.{AllByRecursion, last_or, slice_index_or}
+use Rattle.std.specs.List.{last_or, slice_index_or}
 use Rattle.mib_model.specs.declared.database.Database.{Database}
 use Rattle.mib_model.specs.declared.register.Scheduled.{Scheduled}
 use Rattle.mib_model.specs.Database.{no_rows}

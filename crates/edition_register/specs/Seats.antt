@@ -44,7 +44,8 @@ module _ {E B P Q : Type 0} {rows : Rows.Ghosts E} {boards : MadeFor.Ghosts B} w
   first_of register = tables_of (state_of (first_state register.turn)) 1
 
   -- the seat is this one of the register: it has no ticket, holds its number alone, and lists its moves
-  pub record IsSeat (number : ℕ) (register : Over (Lock P (View Register seen_entry.Entry seen_answer.Answer) (About (Editions E B rows boards)) Q)) (seat : RegisterSeat P) : Type 0 where
+  pub record IsSeat (number : ℕ) (register : Over (Lock P (View Register seen_entry.Entry seen_answer.Answer) (About (Editions E B rows boards)) Q))
+      (seat : RegisterSeat P) : Type 0 where
     pub opens : state_of (first_state register.turn) ≡ opening (first_of register)
     pub callers : callers_of register.turn ≡ 2
     pub of : IsSeatOf state_of register.turn seat
@@ -87,7 +88,8 @@ module _ {E P : Type 0} where
   -- an edition was added with its plans, or its payload comes back
   abbrev pub Adds : Database → RegisterSeat P → RegisterSeat P → Database → List Plan → Arc E Global → Result ℕ (AddFault E) → Type 0
   Adds first old new tables plans payload (Ok e) = Moves 1 first old new (event.Add tables plans) (answer.Added e)
-  Adds first old new tables plans payload (Err refused) = Moves 1 first old new (event.Add tables plans) answer.FullEditions × (refused ≡ add_fault.Full payload)
+  Adds first old new tables plans payload (Err refused) = Moves 1 first old new (event.Add tables plans) answer.FullEditions
+      × (refused ≡ add_fault.Full payload)
 
 module _ {E B : Type 0} where
   -- the reply and the start of a refusal

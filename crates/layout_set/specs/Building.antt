@@ -23,4 +23,5 @@ one_if b = if b then 1 else 0
 
 -- packets of which none has the SPID of one before it
 abbrev pub AreApart : List PidRow → Type 0
-AreApart rows = (i : ℕ) (row : PidRow) → i < length rows → row ≡ slice_index_or rows i row → list_any (λ earlier. row.spid == earlier.spid) (take i rows) ≡ false
+AreApart rows = (i : ℕ) (row : PidRow) → i < length rows → row ≡ slice_index_or rows i row →
+    list_any (λ earlier. row.spid == earlier.spid) (take i rows) ≡ false

@@ -57,7 +57,8 @@ pub record RanBeside {F D O P : Type 0} (c : Code) (history : RegisterHistory) (
   pub feed_turned : HasTurned feed
   pub desk_turned : HasTurned desk
   pub handed : c ≢ code.OutFault → out.handed out.before ≡ out.written out.before → out.handed out.now ≡ out.written out.now
-  pub lives : OfFile desk name (λ found. IsSomeAnd found (λ script. Lives c first history (read_of feed) (opened desk script) (written_to out) (written_to replies)))
+  pub lives : OfFile desk name (λ found. IsSomeAnd found (λ script. Lives c first history (read_of feed) (opened desk script) (written_to out)
+      (written_to replies)))
 
 -- what it says of its objects
 abbrev pub LivedBeside : {F D O P : Type 0} → Code → Option RegisterHistory → Database → List ℕ → ShelfView F → ShelfView D

@@ -72,7 +72,8 @@ module _ {S N C E A : Type 0} (mean : S → C) (reply : C → E → A) (after : 
     pub shared : AreShared start.callers s.views
     -- the tickets drawn are the turns passed and those that seats have, which differ
     pub waiting : sum_by (λ (v : View C E A). bit (has_ticket v.standing)) s.views + serving ≡ tickets
-    pub apart : (i j : ℕ) (u v : View C E A) → get_elem? s.views i ≡ some u → get_elem? s.views j ≡ some v → has_ticket u.standing ≡ true → has_ticket v.standing ≡ true → ticket_of u.standing ≡ ticket_of v.standing → i ≡ j
+    pub apart : (i j : ℕ) (u v : View C E A) → get_elem? s.views i ≡ some u → get_elem? s.views j ≡ some v → has_ticket u.standing ≡ true →
+        has_ticket v.standing ≡ true → ticket_of u.standing ≡ ticket_of v.standing → i ≡ j
     pub each : (i : ℕ) (v : View C E A) → get_elem? s.views i ≡ some v → Fits start tickets serving log v
     pub desk : Free start.state serving log s.homes s.views ⊎ Busy serving log s.homes s.views
 
@@ -82,7 +83,8 @@ module _ {S N C E A : Type 0} (mean : S → C) (reply : C → E → A) (after : 
       (x : S) × (log : List (Move E A))
       × (n ≡ (turned m.0 log, (0, Home x) ∷ m.1))
       × StartsWith log m.0.seen × AreListed log m.0.holdings × Permits may log
-      × ((opening : C) (callers : ℕ) → m.0.origin ≡ Some (origin_of opening callers) → (mean x ≡ state_after after opening log) × IsLegal reply after opening log × IsOfSeatsBelow callers log)
+      × ((opening : C) (callers : ℕ) → m.0.origin ≡ Some (origin_of opening callers) → (mean x ≡ state_after after opening log)
+      × IsLegal reply after opening log × IsOfSeatsBelow callers log)
 
   -- where another ticket is served, nothing changed
   abbrev pub Looks : Me (Slot S N) (View C E A) → ℕ → Me (Slot S N) (View C E A) → Type 0

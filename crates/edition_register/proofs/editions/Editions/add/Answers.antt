@@ -1,11 +1,10 @@
-use Rattle.std.proofs.Common.{rules, ap, sym, subst, refl, ◌∙◌, ◌∷◌, [], ◌++◌, ◌≡◌, ◌≤◌, ◌<◌, ◌+◌, ◌-◌, map, length, arith, ℕ, List, true, false, Some, None, nat_le, nat_eq}
-use Rattle.std.proofs.lemmas.Bool.{le-leb, leb-false, lt-leb}
+use Rattle.std.proofs.Common.{ap, sym, subst, refl, ◌∙◌, ◌∷◌, [], ◌≡◌, ◌+◌, ◌-◌, map, length, arith}
+use Rattle.std.proofs.lemmas.Bool.{le-leb, lt-leb}
 use Rattle.std.proofs.lemmas.List.{map-append, length-map}
 use Rattle.std.specs.Arc.{arc_value}
 use Rattle.mib_model.specs.declared.register.Answer.TheVariants as answer
 use Rattle.mib_model.specs.declared.register.Scheduled.{Scheduled}
-use Rattle.edition_register.specs.Starts.{AllReady, Rises, pair_of}
-use Rattle.edition_register.specs.Stored.{begins, state_of}
+use Rattle.edition_register.specs.Starts.{AllReady, pair_of}
 use Rattle.edition_register.proofs.KeptFacts.{kept, add-full, add-takes}
 use Rattle.edition_register.proofs.StoredFacts.{ready-more}
 use Rattle.edition_register.proofs.editions.Editions.add.Goals as goal

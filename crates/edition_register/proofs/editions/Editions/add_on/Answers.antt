@@ -1,19 +1,12 @@
-use Rattle.std.proofs.Common.{rules, ap, sym, subst, refl, ◌∙◌, ◌∷◌, [], ◌++◌, ◌≡◌, ◌≤◌, ◌<◌, ◌+◌, ◌-◌, map, length, arith, ℕ, List, true, false, Some, None, nat_le, nat_lt, nat_eq, slice_index_or, option_map, ◌==◌}
-use Rattle.std.proofs.lemmas.Bool.{eq-eqb, le-leb, lt-leb, lt-ltb, le-ltb}
-use Rattle.std.proofs.lemmas.List.{map-append, length-map}
+use Rattle.std.proofs.Common.{ap, sym, refl, ◌∙◌, ◌-◌, map, length}
+use Rattle.std.proofs.lemmas.Bool.{eq-eqb}
 use Rattle.std.specs.Arc.{arc_value}
-use Rattle.std.specs.List.{last_or}
 use Rattle.mib_model.specs.declared.register.Answer.TheVariants as answer
-use Rattle.mib_model.specs.declared.register.Entry.TheVariants as event
 use Rattle.mib_model.specs.declared.register.Scheduled.{Scheduled}
-use Rattle.mib_model.specs.Register.{answer_to}
-use Rattle.edition_register.specs.Bounded.{bounded_after}
-use Rattle.edition_register.specs.declared.start.Pending.{Pending}
-use Rattle.edition_register.specs.Starts.{AllReady, IsReady, IsStart, Rises, pair_of}
-use Rattle.edition_register.specs.Stored.{begins, state_of, FitsUse}
-use Rattle.edition_register.proofs.KeptFacts.{kept, add-on, add-stale}
+use Rattle.edition_register.specs.Starts.{pair_of}
+use Rattle.edition_register.specs.Stored.{state_of}
+use Rattle.edition_register.proofs.KeptFacts.{add-on, add-stale}
 use Rattle.edition_register.proofs.StoredFacts.{added-on, differ}
-use Rattle.edition_register.proofs.RegisterFacts.{has_edition-stands}
 use Rattle.edition_register.proofs.editions.Editions.add_on.Goals as goal
 
 pub returns-then-base-newest : goal.returns-then-base-newest

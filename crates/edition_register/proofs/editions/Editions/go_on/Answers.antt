@@ -1,12 +1,9 @@
-use Rattle.std.proofs.Common.{rules, ap, sym, subst, refl, ◌∙◌, ◌∷◌, [], ◌++◌, ◌≡◌, ◌≤◌, ◌<◌, ◌+◌, ◌-◌, map, length, arith, ℕ, List, true, false, Some, None, nat_le, nat_eq}
-use Rattle.std.proofs.lemmas.Bool.{le-leb, leb-false}
-use Rattle.std.proofs.lemmas.List.{map-append, length-map}
+use Rattle.std.proofs.Common.{ap, sym, ◌∙◌, ◌-◌, map, arith}
 use Rattle.std.specs.Arc.{arc_value}
 use Rattle.mib_model.specs.declared.register.Answer.TheVariants as answer
 use Rattle.mib_model.specs.declared.register.Scheduled.{Scheduled}
-use Rattle.edition_register.specs.Starts.{AllReady, Rises, pair_of}
-use Rattle.edition_register.specs.Stored.{begins, state_of}
-use Rattle.edition_register.proofs.KeptFacts.{kept, goes-on, rises-on, begins-kept}
+use Rattle.edition_register.specs.Starts.{pair_of}
+use Rattle.edition_register.proofs.KeptFacts.{goes-on, rises-on, begins-kept}
 use Rattle.edition_register.proofs.StoredFacts.{tables-at}
 use Rattle.edition_register.proofs.editions.Editions.go_on.Goals as goal
 

@@ -1,16 +1,12 @@
-use Rattle.std.proofs.Common.{rules, ap, sym, subst, refl, ◌∙◌, ◌∷◌, [], ◌++◌, ◌≡◌, ◌≤◌, ◌<◌, ◌+◌, ◌-◌, map, length, arith, ℕ, List, true, false, Some, None, nat_le, nat_lt, nat_eq, slice_index_or, option_map, ◌==◌}
+use Rattle.std.proofs.Common.{ap, sym, subst, ◌∙◌, ◌∷◌, [], ◌≡◌, ◌-◌, map, length, arith, false, nat_le}
 use Rattle.std.proofs.lemmas.Bool.{le-leb, lt-leb, lt-ltb, le-ltb}
 use Rattle.std.proofs.lemmas.List.{map-append, length-map}
 use Rattle.std.specs.Arc.{arc_value}
-use Rattle.std.specs.List.{last_or}
 use Rattle.mib_model.specs.declared.register.Answer.TheVariants as answer
-use Rattle.mib_model.specs.declared.register.Entry.TheVariants as event
 use Rattle.mib_model.specs.declared.register.Scheduled.{Scheduled}
-use Rattle.mib_model.specs.Register.{answer_to}
-use Rattle.edition_register.specs.Bounded.{bounded_after}
 use Rattle.edition_register.specs.declared.start.Pending.{Pending}
-use Rattle.edition_register.specs.Starts.{AllReady, IsReady, IsStart, Rises, pair_of}
-use Rattle.edition_register.specs.Stored.{begins, state_of, FitsUse}
+use Rattle.edition_register.specs.Starts.{AllReady, Rises, pair_of}
+use Rattle.edition_register.specs.Stored.{state_of, FitsUse}
 use Rattle.edition_register.proofs.KeptFacts.{kept, use_from-none, use_from-late, use_from-disorder, use_from-full, use_from-takes, from-rises}
 use Rattle.edition_register.proofs.StoredFacts.{ready-one}
 use Rattle.edition_register.proofs.RegisterFacts.{has_edition-stands}

@@ -1,8 +1,8 @@
-use Rattle.std.proofs.Common.{◌≡◌, ◌++◌, ◌∷◌, [], ap, sym, subst, ◌∙◌, length, arith, refl}
+use Rattle.std.proofs.Common.{ap, sym, subst, ◌∙◌, length, arith}
 use Rattle.std.specs.List.{AllByRecursion}
 use Rattle.mib_model.specs.RegisterHistories.{register_after}
 use Rattle.edition_register.specs.Shown.{HasItsTables}
-use Rattle.histories.specs.History.{IsOfSeatsBelow, move, moves_of}
+use Rattle.histories.specs.History.{IsOfSeatsBelow}
 use Rattle.mib_model.specs.declared.register.Answer.TheVariants as answer
 use Rattle.mib_model.specs.declared.register.Entry.TheVariants as event
 use Rattle.turn_cell.specs.Views.{least, listed}

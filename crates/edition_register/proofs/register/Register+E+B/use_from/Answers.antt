@@ -1,11 +1,8 @@
-use Rattle.std.proofs.Common.{◌≡◌, ◌++◌, ◌∷◌, [], ap, sym, subst, ◌∙◌, length, arith, refl}
-use Rattle.std.specs.Arc.{arc_value}
+use Rattle.std.proofs.Common.{ap, sym, subst, ◌∙◌}
 use Rattle.histories.specs.History.{IsOfSeatsBelow}
-use Rattle.mib_model.specs.declared.register.Answer.TheVariants as answer
 use Rattle.mib_model.specs.declared.register.Entry.TheVariants as event
 use Rattle.turn_cell.specs.Views.{least, listed}
 use Rattle.turn_cell.specs.Seats.{holdings_of, own_moves, seen_by}
-use Rattle.edition_register.specs.declared.outcome.AddFault.TheVariants as add_fault
 use Rattle.edition_register.specs.Seats.{first_of}
 use Rattle.edition_register.specs.Stored.{answer_of}
 use Rattle.edition_register.proofs.SeatFacts.{moves-of, own-in, own-listed, start-fits, uses-of}
