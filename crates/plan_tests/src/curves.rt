@@ -77,46 +77,36 @@ fn a_value_lies_on_the_line_between_its_points(rt: HostRuntime) -> Result<(), Fa
     Ok(())
 }
 
+// A curve of two status texts.
+fn two_texts<R: Abort>(rt: &R, alloc: Global, first: TxpRow, next: TxpRow) -> Result<Curve, Fail> {
+    let txf = TxfRow {
+        numbr: name(rt),
+        rawfmt: b'U',
+    };
+    let txps = Vec::from_slice(alloc, &[first, next])?;
+    Ok(Curve::compile(alloc, CurveRows::Texts { txf, txps })?)
+}
+
 #[test]
 fn the_first_text_in_file_order_stands(rt: HostRuntime) -> Result<(), Fail> {
     let alloc = rt.alloc();
-    let txf = TxfRow {
-        numbr: name(&rt),
-        rawfmt: b'U',
-    };
-    let separate = Vec::from_slice(
+    let separate = two_texts(
+        &rt,
         alloc,
-        &[
-            range(&rt, b"2000", b"2000", b"EXACT"),
-            range(&rt, b"0", b"1999", b"LOW"),
-        ],
+        range(&rt, b"2000", b"2000", b"EXACT"),
+        range(&rt, b"0", b"1999", b"LOW"),
     )?;
-    let curve = Curve::compile(
+    assert_eq!(rt; first_letter(separate.apply(5)), b'L');
+    assert_eq!(rt; first_letter(separate.apply(2000)), b'E');
+    assert!(rt; matches!(separate.apply(2001), Cal::NoText));
+    let overlapping = two_texts(
+        &rt,
         alloc,
-        CurveRows::Texts {
-            txf,
-            txps: separate,
-        },
+        range(&rt, b"5", b"9", b"HIGH"),
+        range(&rt, b"0", b"9", b"ALL"),
     )?;
-    assert_eq!(rt; first_letter(curve.apply(5)), b'L');
-    assert_eq!(rt; first_letter(curve.apply(2000)), b'E');
-    assert!(rt; matches!(curve.apply(2001), Cal::NoText));
-    let overlapping = Vec::from_slice(
-        alloc,
-        &[
-            range(&rt, b"5", b"9", b"HIGH"),
-            range(&rt, b"0", b"9", b"ALL"),
-        ],
-    )?;
-    let curve = Curve::compile(
-        alloc,
-        CurveRows::Texts {
-            txf,
-            txps: overlapping,
-        },
-    )?;
-    assert_eq!(rt; first_letter(curve.apply(9)), b'H');
-    assert_eq!(rt; first_letter(curve.apply(4)), b'A');
+    assert_eq!(rt; first_letter(overlapping.apply(9)), b'H');
+    assert_eq!(rt; first_letter(overlapping.apply(4)), b'A');
     Ok(())
 }
 
