@@ -1,9 +1,9 @@
 -- The class by sorted checks is that by the rows.
-use Rattle.std.proofs.Common.{◌≡◌, ℕ, ◌+◌, ◌≤◌, ℤ, ◌-ℤ◌, int_lt, Bool, true, false, ◌&&◌, ◌||◌, not, cond, if◌then◌else◌, List, [], ◌∷◌, ◌++◌, length, length-append, append_assoc, take, drop, arith, map, filter, Option, Some, None, Ok, Err, Result, refl, sym, ap, ◌∙◌}
-use Rattle.std.proofs.Math.Seq.{drop-append_seam, take-append_seam}
+use Rattle.std.proofs.Common.{◌≡◌, ℕ, ℤ, ◌-ℤ◌, int_lt, Bool, true, false, ◌&&◌, ◌||◌, ◌==◌, not, cond, if◌then◌else◌, List, [], ◌∷◌, map, filter, Option, Some, None, Ok, Err, Result, refl, sym, ap, ◌∙◌}
+use Rattle.std.proofs.lemmas.Bool.{eqb-true}
 use Rattle.std.specs.List.{list_any}
+use Rattle.std.specs.Option.{is_some}
 use Rattle.check_plan.specs.declared.check_set.CheckSet.{CheckSet}
-use Rattle.check_plan.specs.declared.limit.Limit.{Limit}
 use Rattle.mib_model.specs.declared.check.Class.{Class}
 use Rattle.mib_model.specs.declared.check.Class.TheVariants.{Nominal, Hard, Status, Delta, Soft}
 use Rattle.mib_model.specs.declared.number.Dec.{Dec}
@@ -11,11 +11,12 @@ use Rattle.mib_model.specs.declared.number.DecFault.{DecFault}
 use Rattle.mib_model.specs.declared.rows.Bound.{Bound}
 use Rattle.mib_model.specs.declared.rows.Bound.TheVariants as bound
 use Rattle.mib_model.specs.declared.rows.OcpRow.{OcpRow}
-use Rattle.mib_model.specs.Checks.{Sample, Numbered, Worded, is_hard, is_status, is_delta, is_soft, applies, is_below, is_above, is_out, violates_limit, violates_delta, is_count_of, agrees_with, class_of}
+use Rattle.mib_model.specs.Checks.{Sample, Numbered, Worded, is_status, is_delta, applies, is_below, is_above, is_out, violates_limit, violates_delta, is_count_of, agrees_with, class_of}
 use Rattle.mib_model.specs.Decimals.{dec_of}
-use Rattle.mib_model.specs.Kept.{Memory}
-use Rattle.check_plan.specs.CheckSets.{any_outside, any_violated, any_far, is_unexpected, class_in, limits_of, IsSetOf}
-use Rattle.check_plan.specs.Limits.{binds, bound_count, limit_of, is_outside, applies_to}
+use Rattle.mib_model.specs.Kept.{Memory, is_met}
+use Rattle.mib_model.specs.Letters.{letter}
+use Rattle.check_plan.specs.CheckSets.{any_violated, any_far, is_unexpected, class_in, IsSetOf}
+use Rattle.check_plan.specs.Limits.{binds, bound_count, limit_of, is_outside, is_passed, is_unasked, is_asked, asked_limit_of, applies_to, any_passed}
 use Rattle.check_plan.specs.States.{count_read, has_count, state_of, is_in_state, asked_of}
 
 -- what passes among images of the items of a kind
@@ -81,19 +82,90 @@ none-any kind (row ∷ rows) = go (kind row) (none-any kind rows) where
   go true others = others
   go false others = others
 
+-- what passes among images passes among the items
+any-image : {Y : Type 0} (h : OcpRow → Y) (f : Y → Bool) (out : OcpRow → Bool) → ((row : OcpRow) → f (h row) ≡ out row)
+    → (rows : List OcpRow) → list_any f (map h rows) ≡ list_any out rows
+any-image h f out same [] = refl
+any-image h f out same (row ∷ rows) = λ i. same row i || any-image h f out same rows i
+
+-- an item that is there under a condition
+any-where : (p : OcpRow → Bool) (b : Bool) (row : OcpRow) (rows : List OcpRow) → list_any p (cond b (row ∷ rows) rows) ≡ cond b (p row || list_any p rows) (list_any p rows)
+any-where p true row rows = refl
+any-where p false row rows = refl
+
+-- one more row: of a kind and out of bounds or not, whose condition is met, among those without a condition, and among those with one
+one-more : (k o m f s : Bool) → (f ≡ true → m ≡ true) → (k ≡ true → s ≡ not f) → (free asked all : Bool) → (free || asked) ≡ all
+    → (cond f ((k && o) || free) free || cond s ((k && o && m) || asked) asked) ≡ cond m ((k && o) || all) all
+one-more false o true true true met only free asked all same = same
+one-more false o true true false met only free asked all same = same
+one-more false o true false true met only free asked all same = same
+one-more false o true false false met only free asked all same = same
+one-more false o false true true met only free asked all same = same
+one-more false o false true false met only free asked all same = same
+one-more false o false false true met only free asked all same = same
+one-more false o false false false met only free asked all same = same
+one-more true o false true s met only free asked all same = let e : false ≡ true = met refl in absurd (cc e)
+one-more true o true true true met only free asked all same = let e : true ≡ false = only refl in absurd (cc e)
+one-more true true true true false met only free asked all same = refl
+one-more true false true true false met only free asked all same = same
+one-more true o m false false met only free asked all same = let e : false ≡ true = only refl in absurd (cc e)
+one-more true true true false true met only true asked all same = refl
+one-more true true true false true met only false asked all same = refl
+one-more true true false false true met only free asked all same = same
+one-more true false true false true met only free asked all same = same
+one-more true false false false true met only free asked all same = same
+
+-- what is out among the rows of a kind whose condition is met is out among those without one, or among those with one that is met
+module _ (free asked met kind out : OcpRow → Bool) (unasked : (row : OcpRow) → free row ≡ true → met row ≡ true)
+    (only : (row : OcpRow) → kind row ≡ true → asked row ≡ not (free row)) where
+  any-parted : (rows : List OcpRow) → (list_any (λ row. kind row && out row) (filter free rows) || list_any (λ row. kind row && out row && met row) (filter asked rows))
+      ≡ list_any (λ row. kind row && out row) (filter met rows)
+  any-parted [] = refl
+  any-parted (row ∷ rows) =
+      let one = any-where (λ r. kind r && out r) (free row) row (filter free rows) in
+      let two = any-where (λ r. kind r && out r && met r) (asked row) row (filter asked rows) in
+      let all = any-where (λ r. kind r && out r) (met row) row (filter met rows) in
+      (λ i. one i || two i) ∙
+      (one-more (kind row) (out row) (met row) (free row) (asked row) (unasked row) (only row) _ _ _ (any-parted rows) ∙ sym all)
+
+-- a limit without a condition applies
+unasked-met : (memory : Memory) (row : OcpRow) → is_unasked row ≡ true → applies memory row ≡ true
+unasked-met memory row = by (is_status row) row.rlchk where
+  by : (b : Bool) (name : Option (List ℕ)) → (not b && not (is_some name)) ≡ true → is_met memory name row.valpar ≡ true
+  by b None h = refl
+  by true (Some name) h = absurd (cc h)
+  by false (Some name) h = absurd (cc h)
+
+-- of a type that isn't that of states, the rows with a condition are those that aren't without one
+asked-other : (sort : ℕ) → (sort == letter "C") ≡ false → (row : OcpRow) → (row.sort == sort) ≡ true → is_asked row ≡ not (is_unasked row)
+asked-other sort apart row is = by (row.sort == letter "C") (is_some row.rlchk) (ap (λ (n : ℕ). n == letter "C") (eqb-true row.sort sort is) ∙ apart) where
+  by : (c b : Bool) → c ≡ false → (not c && b) ≡ not (not c && not b)
+  by true b h = absurd (cc h)
+  by false true h = refl
+  by false false h = refl
+
 module _ (memory : Memory) (rows : List OcpRow) where
-  limits-same : (kind : OcpRow → Bool) (count : ℤ) → any_outside memory count (map limit_of (filter kind rows)) ≡ list_any (λ row. kind row && is_out row count) (filter (applies memory) rows)
-  limits-same kind count = any-mapped limit_of kind (applies memory) (applies_to memory) (λ row. refl) (λ limit. is_outside limit count) (λ row. is_out row count) (outside-same count) rows
+  passed-same : (sort : ℕ) → (sort == letter "C") ≡ false → (count : ℤ) → any_passed memory sort count (map limit_of (filter is_unasked rows)) (map asked_limit_of (filter is_asked rows))
+      ≡ list_any (λ row. row.sort == sort && is_out row count) (filter (applies memory) rows)
+  passed-same sort apart count =
+      let one = any-image limit_of (is_passed sort count) (λ row. row.sort == sort && is_out row count)
+      (λ row i. row.sort == sort && outside-same count row i) (filter is_unasked rows) in
+      let two = any-image asked_limit_of (λ asked. is_passed sort count asked.limit && applies_to memory asked)
+      (λ row. row.sort == sort && is_out row count && applies memory row) (λ row i. row.sort == sort && outside-same count row i && applies memory row) (filter is_asked rows) in
+      (λ i. one i || two i) ∙
+      any-parted is_unasked is_asked (applies memory) (λ row. row.sort == sort) (λ row. is_out row count) (unasked-met memory) (asked-other sort apart) rows
 
-  violated-same : (kind : OcpRow → Bool) (sample : Sample) → any_violated memory sample (map limit_of (filter kind rows)) ≡ list_any (λ row. kind row && violates_limit sample row) (filter (applies memory) rows)
-  violated-same kind (Numbered count) = limits-same kind count
-  violated-same kind (Worded text) = sym (none-any kind (filter (applies memory) rows))
+  violated-same : (sort : ℕ) → (sort == letter "C") ≡ false → (sample : Sample) → any_violated memory sample sort (map limit_of (filter is_unasked rows)) (map asked_limit_of (filter is_asked rows))
+      ≡ list_any (λ row. row.sort == sort && violates_limit sample row) (filter (applies memory) rows)
+  violated-same sort apart (Numbered count) = passed-same sort apart count
+  violated-same sort apart (Worded text) = sym (none-any (λ row. row.sort == sort) (filter (applies memory) rows))
 
-  far-same : (kind : OcpRow → Bool) (previous : Option ℤ) (sample : Sample) → any_far memory previous sample (map limit_of (filter kind rows)) ≡ list_any (λ row. kind row && violates_delta previous sample row) (filter (applies memory) rows)
-  far-same kind None (Numbered count) = sym (none-any kind (filter (applies memory) rows))
-  far-same kind None (Worded text) = sym (none-any kind (filter (applies memory) rows))
-  far-same kind (Some before) (Numbered count) = limits-same kind (count -ℤ before)
-  far-same kind (Some before) (Worded text) = sym (none-any kind (filter (applies memory) rows))
+  far-same : (previous : Option ℤ) (sample : Sample) → any_far memory previous sample (map limit_of (filter is_unasked rows)) (map asked_limit_of (filter is_asked rows))
+      ≡ list_any (λ row. is_delta row && violates_delta previous sample row) (filter (applies memory) rows)
+  far-same None (Numbered count) = sym (none-any is_delta (filter (applies memory) rows))
+  far-same None (Worded text) = sym (none-any is_delta (filter (applies memory) rows))
+  far-same (Some before) (Numbered count) = passed-same (letter "D") refl (count -ℤ before)
+  far-same (Some before) (Worded text) = sym (none-any is_delta (filter (applies memory) rows))
 
   unexpected-same : (sample : Sample) → is_unexpected memory sample (map state_of (filter is_status rows))
       ≡ (list_any is_status (filter (applies memory) rows) && not (list_any (λ row. is_status row && agrees_with sample row.lvalu) (filter (applies memory) rows)))
@@ -102,46 +174,15 @@ module _ (memory : Memory) (rows : List OcpRow) where
       let agreed = any-mapped state_of is_status (applies memory) (asked_of memory) (λ row. refl) (is_in_state sample) (λ row. agrees_with sample row.lvalu) (state-same sample) rows in
       λ i. asked i && not (agreed i)
 
--- three lists behind each other
-module _ {X : Type 0} (xs ys zs all : List X) (one : all ≡ xs ++ ys ++ zs) where
-  front : all ≡ xs ++ (ys ++ zs)
-  front = one ∙ append_assoc xs ys zs
-
-  behind : drop (length xs) all ≡ ys ++ zs
-  behind = ap (drop (length xs)) front ∙ drop-append_seam xs (ys ++ zs)
-
-  pub first-part : (m : ℕ) → m ≡ length xs → take m all ≡ xs
-  first-part m is = (λ i. take (is i) (front i)) ∙ take-append_seam xs (ys ++ zs)
-
-  pub second-part : (m n : ℕ) → m ≡ length xs → n ≡ length ys → take n (drop m all) ≡ ys
-  second-part m n is two = (λ i. take (two i) (drop (is i) all)) ∙ (ap (take (length ys)) behind ∙ take-append_seam ys zs)
-
-  pub third-part : (m n : ℕ) → m ≡ length xs → n ≡ length ys → drop n (drop m all) ≡ zs
-  third-part m n is two = (λ i. drop (two i) (drop (is i) all)) ∙ (ap (drop (length ys)) behind ∙ drop-append_seam ys zs)
-
 -- the first that holds of four
-abbrev first_class : Bool → Bool → Bool → Bool → Class
+abbrev pub first_class : Bool → Bool → Bool → Bool → Class
 first_class hard status delta soft = if hard then Hard else if status then Status else if delta then Delta else if soft then Soft else Nominal
 
 pub class-same : (set : CheckSet) (rows : List OcpRow) → IsSetOf set rows → (sample : Sample) (previous : Option ℤ) (memory : Memory) → class_in memory set sample previous ≡ class_of rows sample previous memory
 unfolding class_of
 class-same set rows is sample previous memory =
-    let hards = first-part (limits_of is_hard rows) (limits_of is_delta rows) (limits_of is_soft rows) set.limits.items is.limits set.hard is.hard in
-    let deltas = second-part (limits_of is_hard rows) (limits_of is_delta rows) (limits_of is_soft rows) set.limits.items is.limits set.hard set.deltas is.hard is.deltas in
-    let softs = third-part (limits_of is_hard rows) (limits_of is_delta rows) (limits_of is_soft rows) set.limits.items is.limits set.hard set.deltas is.hard is.deltas in
-    let hard = ap (any_violated memory sample) hards ∙ violated-same memory rows is_hard sample in
+    let hard = (λ i. any_violated memory sample (letter "H") (is.limits i) (is.asked i)) ∙ violated-same memory rows (letter "H") refl sample in
     let status = ap (is_unexpected memory sample) is.states ∙ unexpected-same memory rows sample in
-    let delta = ap (any_far memory previous sample) deltas ∙ far-same memory rows is_delta previous sample in
-    let soft = ap (any_violated memory sample) softs ∙ violated-same memory rows is_soft sample in
+    let delta = (λ i. any_far memory previous sample (is.limits i) (is.asked i)) ∙ far-same memory rows previous sample in
+    let soft = (λ i. any_violated memory sample (letter "S") (is.limits i) (is.asked i)) ∙ violated-same memory rows (letter "S") refl sample in
     λ i. first_class (hard i) (status i) (delta i) (soft i)
-
--- so many hard limits and deltas lie among the limits
-pub counts-within : (set : CheckSet) (rows : List OcpRow) → IsSetOf set rows → set.hard + set.deltas ≤ length set.limits.items
-counts-within set rows is =
-    let hards = limits_of is_hard rows in
-    let deltas = limits_of is_delta rows in
-    let softs = limits_of is_soft rows in
-    let long : length set.limits.items ≡ length (hards ++ deltas ++ softs) = ap (λ (limits : List Limit). length limits) is.limits in
-    let one : length (hards ++ deltas ++ softs) ≡ length (hards ++ deltas) + length softs = simp length-append in
-    let two : length (hards ++ deltas) ≡ length hards + length deltas = simp length-append in
-    omega (arith, is.hard, is.deltas, long, one, two)

@@ -1,43 +1,61 @@
-// The checks of a parameter by their types.
-ghost use Rattle.std.specs.Prelude.{◌≡◌, ◌≤◌, ◌+◌, length, option_map, IfOk};
-ghost use Rattle.check_plan.specs.CheckSets.{any_violated, any_far, is_unexpected, class_in, IsSetOf};
+// The checks of a parameter: limits without a condition, limits with one, and states.
+ghost use Rattle.std.specs.Prelude.{◌≡◌, option_map, IfOk};
+ghost use Rattle.check_plan.specs.CheckSets.{any_violated, any_far, is_unexpected, class_in, IsCalmSet, IsSetOf};
 ghost use Rattle.check_plan.specs.Samples.{count_of, sample_of};
 
+use crate::apart::{Apart, apart_of, asked_behind, states_behind};
+use crate::asked::{AskedLimit, any_asked_passed, any_asked_step_passed};
+use crate::calm::Calm;
 use crate::condition::Holds;
-use crate::limit::{Limit, any_outside, any_step_outside, limits_of};
+use crate::limit::{Limit, all_limits, any_passed, any_step_passed};
 use crate::sample::Sample;
-use crate::state::{State, any_agrees, any_applies, states_of};
+use crate::state::{State, any_agrees, any_applies};
 use mib_model::{Class, Eng, OcpRow};
 use std::alloc::{AllocError, Global};
 
-/// The limits and states of a parameter, each type in the order of the rows: so many hard limits, so many deltas, and the
-/// soft limits lie together.
+/// The limits and states of a parameter. Limits without a condition lie together in the order of their rows, and what few
+/// parameters have lies apart. The counts of which nothing is told stand first, since nearly all samples are of them.
 #[derive(Drop)]
 pub struct CheckSet {
-    hard: usize,
-    deltas: usize,
+    calm: Calm,
     limits: Vec<Limit>,
-    states: Vec<State>,
+    apart: Option<Box<Apart>>,
 }
 
-// Whether a sample is a number outside one of the limits that apply.
-fn is_out_of<K: Holds>(limits: &[Limit], sample: Sample, kept: &K) -> bool
-    ensures { result ≡ any_violated (K.memory kept.now) (sample_of sample.entry) limits.now }
+// Whether a sample is a number outside one of the limits of a type that apply.
+fn is_out_of<K: Holds>(
+    limits: &[Limit],
+    asked: &[AskedLimit],
+    sort: u8,
+    sample: Sample,
+    kept: &K,
+) -> bool
+    ensures { result ≡ any_violated (K.memory kept.now) (sample_of sample.entry) sort limits.now asked.now }
 {
     match sample {
-        Sample::Number(value) => any_outside(limits, value.count, kept),
+        Sample::Number(value) => {
+            any_passed(limits, sort, value.count)
+                || any_asked_passed(asked, sort, value.count, kept)
+        }
         Sample::Text(_) => false,
     }
 }
 
 // Whether a sample is a number too far from the one before, if there was one.
-fn is_far<K: Holds>(limits: &[Limit], sample: Sample, previous: Option<Eng>, kept: &K) -> bool
-    ensures { result ≡ any_far (K.memory kept.now) (option_map count_of previous) (sample_of sample.entry) limits.now }
+fn is_far<K: Holds>(
+    limits: &[Limit],
+    asked: &[AskedLimit],
+    sample: Sample,
+    previous: Option<Eng>,
+    kept: &K,
+) -> bool
+    ensures { result ≡ any_far (K.memory kept.now) (option_map count_of previous) (sample_of sample.entry) limits.now asked.now }
 {
     let (Some(from), Sample::Number(to)) = (previous, sample) else {
         return false;
     };
-    any_step_outside(limits, from.count, to.count, kept)
+    any_step_passed(limits, b'D', from.count, to.count)
+        || any_asked_step_passed(asked, b'D', from.count, to.count, kept)
 }
 
 // Whether states are expected and a sample agrees with none of them.
@@ -47,53 +65,41 @@ fn is_unexpected<K: Holds>(states: &[State], sample: Sample, kept: &K) -> bool
     any_applies(states, kept) && !any_agrees(states, sample, kept)
 }
 
-// A number made of a limit, if there is one.
-fn touch(limit: Option<&Limit>) -> usize {
-    match limit {
-        Some(limit) => limit.touch(),
-        None => 0,
-    }
-}
-
 impl CheckSet {
-    /// A number made of the first limit and the last.
+    /// A number made of the counts of which nothing is told.
     pub fn touch(&self) -> usize {
-        touch(self.limits.first()) ^ touch(self.limits.last())
+        self.calm.touch()
     }
 
-    /// Sorts rows of ocp by their types.
+    /// Sorts rows of ocp into limits without a condition, limits with one, and states.
     pub fn compile(alloc: Global, ocps: &[OcpRow]) -> Result<CheckSet, AllocError>
         ensures { IfOk result (λ set. IsSetOf set ocps.now) }
     {
-        let mut limits = limits_of(alloc, ocps, b'H')?;
-        let mut deltas = limits_of(alloc, ocps, b'D')?;
-        let mut soft = limits_of(alloc, ocps, b'S')?;
-        let states = states_of(alloc, ocps)?;
-        let counts = (limits.len(), deltas.len());
-        limits.append(&mut deltas)?;
-        limits.append(&mut soft)?;
+        let limits = all_limits(alloc, ocps)?;
+        let apart = apart_of(alloc, ocps)?;
         Ok(CheckSet {
-            hard: counts.0,
-            deltas: counts.1,
+            calm: Calm::of(&limits, &apart),
             limits: Vec::from_slice(alloc, &limits)?,
-            states: Vec::from_slice(alloc, &states)?,
+            apart,
         })
     }
 
     /// The class of a sample: the first that holds of Hard, Status, Delta and Soft, else Nominal.
     pub fn class_of<K: Holds>(&self, sample: Sample, previous: Option<Eng>, kept: &K) -> Class
-        requires { self.now.hard + self.now.deltas ≤ length self.now.limits.items }
+        requires { IsCalmSet self.now }
         ensures { result ≡ class_in (K.memory kept.now) self.now (sample_of sample.entry) (option_map count_of previous) }
     {
-        let (hard, others) = self.limits.split_at(self.hard);
-        let (deltas, soft) = others.split_at(self.deltas);
-        if is_out_of(hard, sample, kept) {
+        if self.calm.holds(sample) {
+            return Class::Nominal;
+        }
+        let asked = asked_behind(&self.apart);
+        if is_out_of(&self.limits, asked, b'H', sample, kept) {
             Class::Hard
-        } else if is_unexpected(&self.states, sample, kept) {
+        } else if is_unexpected(states_behind(&self.apart), sample, kept) {
             Class::Status
-        } else if is_far(deltas, sample, previous, kept) {
+        } else if is_far(&self.limits, asked, sample, previous, kept) {
             Class::Delta
-        } else if is_out_of(soft, sample, kept) {
+        } else if is_out_of(&self.limits, asked, b'S', sample, kept) {
             Class::Soft
         } else {
             Class::Nominal

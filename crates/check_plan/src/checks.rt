@@ -21,15 +21,14 @@ pub struct Checks {
 }
 
 impl Model for Checks {
-    ghost use Rattle.std.specs.Prelude.{◌≡◌};
-    ghost use Rattle.check_plan.specs.CheckSets.{IsSetOf};
+    ghost use Rattle.check_plan.specs.CheckSets.{ArePartsOf};
     ghost use Rattle.check_plan.specs.Rows.{CheckRows};
 
     ghost Value = { CheckRows };
 
     ghost view = { λ checks. record { ocf = checks.ocf.value; ocps = checks.ocps.value.items } };
 
-    ghost invariant = { λ checks. (checks.inter ≡ checks.ocf.value.inter) × (checks.nbchck ≡ checks.ocf.value.nbchck) × IsSetOf checks.set checks.ocps.value.items };
+    ghost invariant = { λ checks. ArePartsOf checks.ocf.value checks.ocps.value.items checks.inter checks.nbchck checks.set };
 }
 
 impl Checks {

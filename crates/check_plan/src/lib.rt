@@ -6,6 +6,9 @@
 #![tactic(auto)]
 
 mod alarm;
+mod apart;
+mod asked;
+mod calm;
 mod check_set;
 mod checks;
 mod condition;

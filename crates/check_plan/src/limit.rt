@@ -1,23 +1,22 @@
-// Limits and deltas.
-ghost use Rattle.std.specs.Prelude.{◌≡◌, ◌-ℤ◌, ◌==◌, ◌&&◌, int_lt, map, filter, IfOk};
+// Limits and deltas without a condition.
+ghost use Rattle.std.specs.Prelude.{◌≡◌, ℤ, ◌&&◌, not, ◌-ℤ◌, int_lt, map, filter, IfOk};
 ghost use Rattle.std.specs.List.{list_any};
-ghost use Rattle.check_plan.specs.Limits.{binds, bound_count, limit_of, is_outside, applies_to};
+ghost use Rattle.check_plan.specs.Calms.{is_in, may_tell};
+ghost use Rattle.check_plan.specs.Limits.{binds, bound_count, limit_of, is_outside, is_passed, is_unasked};
 
-use crate::condition::{Holds, is_met};
+use crate::calm::Calm;
 use dec_num::eng_of;
-use mib_model::{Bound, Name, OcpRow};
+use mib_model::{Bound, OcpRow};
 use std::alloc::{AllocError, Global};
 
-/// A limit of a count, or of the step from the count before. A bound that isn't there doesn't bind. The condition, which is
-/// asked only outside the bounds, lies behind them.
+/// The type of a limit, and the bounds of a count or of the step from the count before. A bound that isn't there doesn't bind.
 #[derive(Clone, Copy)]
 pub struct Limit {
     low: i128,
     high: i128,
     has_low: bool,
     has_high: bool,
-    rlchk: Option<Name>,
-    valpar: i128,
+    sort: u8,
 }
 
 // Whether a bound binds counts.
@@ -37,7 +36,8 @@ fn bound_count(bound: &Bound) -> i128
     }
 }
 
-fn limit_of(row: &OcpRow) -> Limit
+/// The type and the bounds of a row.
+pub fn limit_of(row: &OcpRow) -> Limit
     ensures { result ≡ limit_of row.now }
 {
     Limit {
@@ -45,17 +45,16 @@ fn limit_of(row: &OcpRow) -> Limit
         high: bound_count(&row.hvalu),
         has_low: binds(&row.lvalu),
         has_high: binds(&row.hvalu),
-        rlchk: row.rlchk,
-        valpar: row.valpar,
+        sort: row.sort,
     }
 }
 
-/// The limits that the rows of a type stand for, in their order.
-pub fn limits_of(alloc: Global, ocps: &[OcpRow], sort: u8) -> Result<Vec<Limit>, AllocError>
-    ensures { IfOk result (λ limits. limits.items ≡ map limit_of (filter (λ row. row.sort == sort) ocps.now)) }
+/// The limits that have no condition, in the order of their rows.
+pub fn all_limits(alloc: Global, ocps: &[OcpRow]) -> Result<Vec<Limit>, AllocError>
+    ensures { IfOk result (λ limits. limits.items ≡ map limit_of (filter is_unasked ocps.now)) }
 {
     ocps.iter()
-        .filter(|row| row.sort == sort)
+        .filter(|row| row.sort != b'C' && row.rlchk.is_none())
         .map(limit_of)
         .collect(alloc)
 }
@@ -81,9 +80,15 @@ fn is_step_above(high: i128, from: i128, to: i128) -> bool
 }
 
 impl Limit {
-    /// A number made of its bounds.
-    pub fn touch(&self) -> usize {
-        usize::from(self.low < 0) ^ usize::from(self.has_high)
+    /// Those of these counts of which the limit doesn't tell, whatever the one before was: none where it is of steps.
+    pub fn narrowed(&self, calm: Calm) -> Calm
+        ensures { (count : ℤ) → is_in result count ≡ (is_in calm count && not (may_tell count self.now)) }
+    {
+        if self.sort == b'D' {
+            return Calm::none();
+        }
+        let raised = calm.raised(self.has_low, self.low);
+        raised.lowered(self.has_high, self.high)
     }
 
     fn is_outside(&self, count: i128) -> bool
@@ -99,25 +104,33 @@ impl Limit {
             || (self.has_high && is_step_above(self.high, from, to))
     }
 
-    fn applies<K: Holds>(&self, kept: &K) -> bool
-        ensures { result ≡ applies_to (K.memory kept.now) self.now }
+    /// Whether the limit is of a type, and a count is outside its bounds.
+    pub fn is_passed(&self, sort: u8, count: i128) -> bool
+        ensures { result ≡ is_passed sort count self.now }
     {
-        is_met(self.rlchk, self.valpar, kept)
+        self.sort == sort && self.is_outside(count)
+    }
+
+    /// Whether the limit is of a type, and the step from one count to another is outside its bounds.
+    pub fn is_step_passed(&self, sort: u8, from: i128, to: i128) -> bool
+        ensures { result ≡ is_passed sort (to -ℤ from) self.now }
+    {
+        self.sort == sort && self.is_step_outside(from, to)
     }
 }
 
-/// Whether a count is outside one of the limits that apply.
-pub fn any_outside<K: Holds>(limits: &[Limit], count: i128, kept: &K) -> bool
-    ensures { result ≡ list_any (λ limit. is_outside limit count && applies_to (K.memory kept.now) limit) limits.now }
+/// Whether a count is outside one of the limits of a type.
+pub fn any_passed(limits: &[Limit], sort: u8, count: i128) -> bool
+    ensures { result ≡ list_any (is_passed sort count) limits.now }
+{
+    limits.iter().any(|limit| limit.is_passed(sort, count))
+}
+
+/// Whether a step is outside one of the limits of a type.
+pub fn any_step_passed(limits: &[Limit], sort: u8, from: i128, to: i128) -> bool
+    ensures { result ≡ list_any (is_passed sort (to -ℤ from)) limits.now }
 {
     limits
         .iter()
-        .any(|limit| limit.is_outside(count) && limit.applies(kept))
-}
-
-/// Whether a step is outside one of the limits that apply.
-pub fn any_step_outside<K: Holds>(limits: &[Limit], from: i128, to: i128, kept: &K) -> bool
-    ensures { result ≡ list_any (λ limit. is_outside limit (to -ℤ from) && applies_to (K.memory kept.now) limit) limits.now }
-{
-    limits.iter().any(|limit| limit.is_step_outside(from, to) && limit.applies(kept))
+        .any(|limit| limit.is_step_passed(sort, from, to))
 }

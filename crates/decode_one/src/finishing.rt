@@ -5,6 +5,7 @@ ghost use Rattle.decode_one.specs.Halves.{IsHalf};
 ghost use Rattle.decode_one.specs.Steps.{ComesTo, HasStepped};
 ghost use Rattle.edition_plans.specs.Params.{param_slices};
 ghost use Rattle.fold_state.specs.Boards.{memory_of, plan_names};
+ghost use Rattle.fold_state.specs.declared.finish.TheConstants.{TEXT_BEFORE};
 ghost use Rattle.mib_model.specs.Interpreter.{Course, StampedPacket, title_of};
 ghost use Rattle.record_text.specs.declared.lines.TheConstants.{LINES_ROOM, LINE_MOST};
 
@@ -26,7 +27,8 @@ fn title<'a, P: Plans>(plans: &'a P, found: &Found) -> Option<&'a Text>
 }
 
 /// Finishes a packet that was decoded so: appends its record, without the line of its edition, and leaves what is kept. The
-/// board was made for the parameters of these plans, and the text before has at most 100 octets. It takes no memory.
+/// board was made for the parameters of these plans, and the text before has at most `TEXT_BEFORE` octets. It takes
+/// no memory.
 pub fn finish<P: Plans>(
     plans: &P,
     number: u64,
@@ -38,7 +40,7 @@ pub fn finish<P: Plans>(
 )
     requires half { IsHalf (P.tables plans.now) packet.now half.now values.now }
     requires board { board.old.names ≡ plan_names (param_slices (P.tables plans.now)) }
-    requires room { length out.old ≤ 100 }
+    requires room { length out.old ≤ TEXT_BEFORE }
     ensures names { board.new.names ≡ board.old.names }
     ensures step { (c : Course) (s : StampedPacket) → ComesTo c s number packet.now (P.tables plans.now) (memory_of board.old)
         → HasStepped c s (memory_of board.new) out.old out.new }

@@ -1,5 +1,5 @@
 -- Records of packets of one edition, in parts.
-use Rattle.std.proofs.Common.{◌≡◌, ◌<◌, ◌+◌, ℕ, zero, suc, List, [], ◌∷◌, ◌++◌, Option, Some, None, true, cond, ◌==◌, length, take, drop, get_or, refl, sym, ap, ◌∙◌, append-nil, zero-add, arith, subst}
+use Rattle.std.proofs.Common.{◌≡◌, ◌<◌, ◌+◌, ℕ, zero, suc, List, [], ◌∷◌, ◌++◌, Option, Some, None, true, cond, ◌==◌, length, take, drop, get_or, refl, sym, ap, ◌∙◌, append-nil, append_assoc, zero-add, arith, subst}
 use Rattle.std.proofs.lemmas.List.{take_more, map-append, take-append-drop}
 use Rattle.std.proofs.lemmas.Grind.{flat_map-append}
 use Rattle.std.proofs.KnownBytes.{Appends-trans}
@@ -9,6 +9,7 @@ use Rattle.decode_one.specs.Steps.{ComesTo, HasStepped}
 use Rattle.decode_session.specs.declared.cell.Cell.{Cell}
 use Rattle.decode_session.specs.Cells.{packet_in, stamped_in, all_stamped}
 use Rattle.decode_session.specs.Finishing.{standing, next_text, batch_text, Leaves, LeavesAfter}
+use Rattle.decode_session.specs.Moving.{Moves}
 use Rattle.mib_laws.proofs.RunFacts.{interpret-append}
 use Rattle.mib_model.specs.declared.database.Database.{Database}
 use Rattle.mib_model.specs.Interpreter.{Course, StampedPacket, record_for, course_after, interpret, course_after_all, records_text}
@@ -30,10 +31,9 @@ body-text : (edition : ℕ) (db : Database) (memory : Memory) (cell : Cell) → 
 unfolding record_text record_for
 body-text edition db memory cell = ap (λ b. edition_text_of (cond b None (Some edition)) ++ record_body (record_for (standing edition db memory) (stamped_in edition db cell))) (same-edition edition)
 
-pub stepped-text : (edition : ℕ) (db : Database) (memory after : Memory) (cell : Cell) (old new : List ℕ) → old ≡ []
-    → HasStepped (standing edition db memory) (stamped_in edition db cell) after old new → new ≡ next_text edition db memory (stamped_in edition db cell)
-stepped-text edition db memory after cell old new none step =
-    step.text ∙ ap (λ t. t ++ record_body (record_for (standing edition db memory) (stamped_in edition db cell))) none ∙ sym (body-text edition db memory cell)
+pub stepped-text : (edition : ℕ) (db : Database) (memory after : Memory) (cell : Cell) (old new : List ℕ)
+    → HasStepped (standing edition db memory) (stamped_in edition db cell) after old new → new ≡ old ++ next_text edition db memory (stamped_in edition db cell)
+stepped-text edition db memory after cell old new step = step.text ∙ ap (λ t. old ++ t) (sym (body-text edition db memory cell))
 
 pub stepped-leaves : (edition : ℕ) (db : Database) (memory after : Memory) (cell : Cell) (old new : List ℕ)
     → HasStepped (standing edition db memory) (stamped_in edition db cell) after old new → Leaves edition db memory (stamped_in edition db cell) after
@@ -103,39 +103,58 @@ stamped-more edition db cells i cell below is =
     ap (all_stamped edition db) (take_more cells i cell below) ∙ map-append (stamped_in edition db) (take i cells) (get_or cells i cell ∷ [])
     ∙ ap (λ x. all_stamped edition db (take i cells) ++ stamped_in edition db x ∷ []) (sym is)
 
-stamped-parts : (edition : ℕ) (db : Database) (cells : List Cell) (i : ℕ) (cell : Cell) → i < length cells → cell ≡ get_or cells i cell
-    → all_stamped edition db cells ≡ (all_stamped edition db (take i cells) ++ stamped_in edition db cell ∷ []) ++ all_stamped edition db (drop (i + 1) cells)
-stamped-parts edition db cells i cell below is =
-    ap (all_stamped edition db) (sym (take-append-drop (i + 1) cells)) ∙ map-append (stamped_in edition db) (take (i + 1) cells) (drop (i + 1) cells)
-    ∙ ap (λ s. s ++ all_stamped edition db (drop (i + 1) cells)) (stamped-more edition db cells i cell below is)
-
 module _ (edition : ℕ) (db : Database) (memory middle : Memory) (cells : List Cell) (i : ℕ) (cell : Cell) (below : i < length cells) (is : cell ≡ get_or cells i cell) (leaves : LeavesAfter edition db memory (all_stamped edition db (take i cells)) middle) where
   text-push : batch_text edition db memory (all_stamped edition db (take i cells) ++ stamped_in edition db cell ∷ []) ≡ batch_text edition db memory (all_stamped edition db (take i cells)) ++ next_text edition db middle (stamped_in edition db cell)
   text-push =
       text-append edition db memory middle (all_stamped edition db (take i cells)) (stamped_in edition db cell ∷ []) leaves
       ∙ ap (λ t. batch_text edition db memory (all_stamped edition db (take i cells)) ++ t) (text-one edition db middle (stamped_in edition db cell))
 
-  -- one cell more was finished
-  pub finished-more : (old mid new : Option (List ℕ)) → Appends old mid (batch_text edition db memory (all_stamped edition db (take i cells))) → Appends mid new (next_text edition db middle (stamped_in edition db cell))
-      → Appends old new (batch_text edition db memory (all_stamped edition db (take (i + 1) cells)))
-  finished-more old mid new wrote printed =
-      subst (Appends old new) (sym (ap (batch_text edition db memory) (stamped-more edition db cells i cell below is) ∙ text-push))
-      (Appends-trans old mid new (batch_text edition db memory (all_stamped edition db (take i cells))) (next_text edition db middle (stamped_in edition db cell)) wrote printed)
+  -- the text of one cell more
+  pub text-more : batch_text edition db memory (all_stamped edition db (take (i + 1) cells))
+      ≡ batch_text edition db memory (all_stamped edition db (take i cells)) ++ next_text edition db middle (stamped_in edition db cell)
+  text-more = ap (batch_text edition db memory) (stamped-more edition db cells i cell below is) ∙ text-push
 
   pub leaves-more : (after : Memory) → Leaves edition db middle (stamped_in edition db cell) after → LeavesAfter edition db memory (all_stamped edition db (take (i + 1) cells)) after
   leaves-more after next =
       subst (λ s. LeavesAfter edition db memory s after) (sym (stamped-more edition db cells i cell below is))
       (leaves-append edition db memory middle after (all_stamped edition db (take i cells)) (stamped_in edition db cell ∷ []) leaves (leaves-one edition db middle after (stamped_in edition db cell) next))
 
-  -- writing stopped in the record of a cell
-  pub finished-part : (after : Memory) (old mid new : Option (List ℕ)) → Leaves edition db middle (stamped_in edition db cell) after → Appends old mid (batch_text edition db memory (all_stamped edition db (take i cells)))
-      → AppendsPrefix mid new (next_text edition db middle (stamped_in edition db cell)) → AppendsPrefix old new (batch_text edition db memory (all_stamped edition db cells))
-  finished-part after old mid new next wrote printed =
-      let first = all_stamped edition db (take i cells) ++ stamped_in edition db cell ∷ [] in
-      let others = all_stamped edition db (drop (i + 1) cells) in
-      let left = leaves-append edition db memory middle after (all_stamped edition db (take i cells)) (stamped_in edition db cell ∷ []) leaves (leaves-one edition db middle after (stamped_in edition db cell) next) in
-      let parts : batch_text edition db memory (all_stamped edition db cells) ≡ (batch_text edition db memory (all_stamped edition db (take i cells)) ++ next_text edition db middle (stamped_in edition db cell)) ++ batch_text edition db after others =
-      ap (batch_text edition db memory) (stamped-parts edition db cells i cell below is) ∙ text-append edition db memory after first others left ∙ ap (λ t. t ++ batch_text edition db after others) text-push in
-      subst (AppendsPrefix old new) (sym parts)
-      (part-longer (batch_text edition db memory (all_stamped edition db (take i cells)) ++ next_text edition db middle (stamped_in edition db cell)) (batch_text edition db after others) old new
-      (part-behind (batch_text edition db memory (all_stamped edition db (take i cells))) (next_text edition db middle (stamped_in edition db cell)) old mid new wrote printed))
+-- ---- text that moves to an output
+
+-- more was appended to what is left
+pub moves-more : (text left more longer : List ℕ) (old new : Option (List ℕ)) → Moves text left old new → longer ≡ text ++ more → Moves longer (left ++ more) old new
+moves-more text left more longer old new moved is =
+    record {
+      first = moved.first;
+      parts = is ∙ (ap (λ t. t ++ more) moved.parts ∙ append_assoc moved.first left more);
+      wrote = moved.wrote;
+    }
+
+-- a first part of what was left was written
+pub moves-on : (text left rest : List ℕ) (old mid new : Option (List ℕ)) → Moves text left old mid → Moves left rest mid new → Moves text rest old new
+moves-on text left rest old mid new moved next =
+    record {
+      first = moved.first ++ next.first;
+      parts = moved.parts ∙ (ap (λ t. moved.first ++ t) next.parts ∙ sym (append_assoc moved.first next.first rest));
+      wrote = Appends-trans old mid new moved.first next.first moved.wrote next.wrote;
+    }
+
+-- all that was left was written
+pub moved-all : (text left : List ℕ) (old mid new : Option (List ℕ)) → Moves text left old mid → Appends mid new left → Appends old new text
+moved-all text left old mid new moved wrote = subst (Appends old new) (sym moved.parts) (Appends-trans old mid new moved.first left moved.wrote wrote)
+
+-- writing stopped in what was left
+pub moved-part : (text left : List ℕ) (old mid new : Option (List ℕ)) → Moves text left old mid → AppendsPrefix mid new left → AppendsPrefix old new text
+moved-part text left old mid new moved wrote = subst (AppendsPrefix old new) (sym moved.parts) (part-behind moved.first left old mid new moved.wrote wrote)
+
+-- a first part of the text of the first cells is one of the text of all
+pub part-of-all : (edition : ℕ) (db : Database) (memory middle : Memory) (cells : List Cell) (i : ℕ) (old new : Option (List ℕ))
+    → LeavesAfter edition db memory (all_stamped edition db (take i cells)) middle
+    → AppendsPrefix old new (batch_text edition db memory (all_stamped edition db (take i cells))) → AppendsPrefix old new (batch_text edition db memory (all_stamped edition db cells))
+part-of-all edition db memory middle cells i old new leaves wrote =
+    let others = all_stamped edition db (drop i cells) in
+    let parts : batch_text edition db memory (all_stamped edition db cells) ≡ batch_text edition db memory (all_stamped edition db (take i cells)) ++ batch_text edition db middle others =
+    ap (λ s. batch_text edition db memory (all_stamped edition db s)) (sym (take-append-drop i cells))
+    ∙ ap (batch_text edition db memory) (map-append (stamped_in edition db) (take i cells) (drop i cells))
+    ∙ text-append edition db memory middle (all_stamped edition db (take i cells)) others leaves in
+    subst (AppendsPrefix old new) (sym parts) (part-longer (batch_text edition db memory (all_stamped edition db (take i cells))) (batch_text edition db middle others) old new wrote)

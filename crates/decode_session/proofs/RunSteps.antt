@@ -144,7 +144,7 @@ ready-all db [] [] decoded = All-nil (IsReady db)
 ready-all db [] (d ∷ ds) decoded = absurd decoded
 ready-all db (c ∷ cs) [] decoded = absurd decoded
 ready-all db (c ∷ cs) (d ∷ ds) decoded =
-    All-cons (IsReady db) d ds (subst (λ packet. IsHalf db packet d.half d.slots) (sym decoded.0.same_packet) decoded.0.is_half) (ready-all db cs ds decoded.1)
+    All-cons (IsReady db) d ds (subst (λ packet. IsHalf db packet d.buffers.value.half d.buffers.value.slots) (sym decoded.0.same_packet) decoded.0.is_half) (ready-all db cs ds decoded.1)
 
 -- decoding leaves their packets as they are
 pub stamped-same : (edition : ℕ) (db : Database) (cells done : List Cell) → AllZip (IsDecoded db) cells done → all_stamped edition db done ≡ all_stamped edition db cells

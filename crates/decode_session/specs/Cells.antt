@@ -7,7 +7,7 @@ use Rattle.mib_model.specs.Interpreter.{StampedPacket}
 
 -- the packet of a cell
 abbrev pub packet_in : Cell → List ℕ
-packet_in cell = take cell.octets cell.frame
+packet_in cell = take cell.octets cell.buffers.value.frame
 
 -- the packets of cells
 abbrev pub packets_in : List Cell → List (List ℕ)
@@ -23,10 +23,10 @@ all_stamped edition db cells = map (stamped_in edition db) cells
 
 -- a cell's packet was decoded by a database
 abbrev pub IsReady : Database → Cell → Type 0
-IsReady db cell = IsHalf db (packet_in cell) cell.half cell.slots
+IsReady db cell = IsHalf db (packet_in cell) cell.buffers.value.half cell.buffers.value.slots
 
 -- a worker decoded a cell's packet by a database
 pub record IsDecoded (db : Database) (before after : Cell) : Type 0 where
   pub same_number : after.number ≡ before.number
   pub same_packet : packet_in after ≡ packet_in before
-  pub is_half : IsHalf db (packet_in before) after.half after.slots
+  pub is_half : IsHalf db (packet_in before) after.buffers.value.half after.buffers.value.slots

@@ -1,7 +1,6 @@
 -- Rooms that are out. [This project's own.]
 use Rattle.std.specs.Prelude.{◌≡◌, ℕ}
 use Rattle.decode_session.specs.declared.stock.Home.{Home}
-use Rattle.decode_session.specs.Run.{most_in_flight}
 use Rattle.mib_model.specs.Fixed.{most_values}
 use Rattle.packet_feed.specs.declared.feed.TheConstants.{PACKET_SIZE}
 
@@ -10,7 +9,3 @@ abbrev pub AreOutOf : ℕ → ℕ → Home → Type 0
 AreOutOf rooms count home =
     (home.frames ≡ record { pieces = rooms; size = PACKET_SIZE; out = count })
     × (home.slots ≡ record { pieces = rooms; size = most_values; out = count })
-
--- the buffers of so many packets are out, of those for a batch
-abbrev pub AreOut : ℕ → Home → Type 0
-AreOut count home = AreOutOf most_in_flight count home

@@ -5,3 +5,4 @@ pub mod Frames
 pub mod Cells
 pub mod Batches
 pub mod Finishing
+pub mod Moving

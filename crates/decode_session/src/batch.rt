@@ -47,7 +47,7 @@ pub fn read_packet<S: Source>(
     ensures missed { S.missed (source_of feed.new) ≡ S.missed (source_of feed.old) }
     ensures borrow { S.borrow (source_of feed.new) ≡ S.borrow (source_of feed.old) }
 {
-    match feed.next(room.frame.slice_mut()) {
+    match feed.next(room.buffers.frame.slice_mut()) {
         Next::Packet { octets, header } => Ok(Cell::new(number, octets, header, room)),
         Next::End => Err(Unread {
             room,

@@ -4,6 +4,7 @@ ghost use Rattle.std.specs.List.{AllZip};
 ghost use Rattle.decode_session.specs.Cells.{IsDecoded};
 
 use crate::cell::Cell;
+use crate::room::Buffers;
 use decode_pool::{Work, run_batch};
 use edition_plans::Plans;
 use std::thread::Threads;
@@ -20,9 +21,9 @@ impl<P: Plans + Sync> Work for Decoding<'_, P> {
     ghost made = { λ work before after. IsDecoded (P.tables work.plans.now) before after };
 
     fn work(&self, cell: &mut Cell) {
-        let packet = &cell.frame.slice()[..cell.octets as usize];
-        let slots = cell.slots.slice_mut();
-        cell.half.decode(self.plans, &cell.header, packet, slots);
+        let Buffers { frame, slots, half } = &mut *cell.buffers;
+        let packet = &frame.slice()[..cell.octets as usize];
+        half.decode(self.plans, &cell.header, packet, slots.slice_mut());
     }
 }
 
@@ -34,6 +35,9 @@ fn workers_for(cells: &[Cell], workers: u8) -> u8
     requires { 1 ≤ workers }
     ensures { 1 ≤ result }
 {
+    if workers == 1 {
+        return 1;
+    }
     let mut octets = 0_u64;
     for cell in cells {
         octets = octets.saturating_add(u64::from(cell.octets));

@@ -1,11 +1,13 @@
 // A batch is finished.
-ghost use Rattle.std.specs.Prelude.{◌≡◌, ℕ, ◌+◌, ◌≤◌, [], vec_len, vec_capacity, OnOk, OnErr};
+ghost use Rattle.std.specs.Prelude.{◌≡◌, ℕ, ◌+◌, ◌++◌, ◌≤◌, [], length, vec_len, vec_capacity, OnOk, OnErr};
 ghost use Rattle.std.specs.List.{All};
 ghost use Rattle.std.specs.Io.KnownBytes.{Appends};
 ghost use Rattle.decode_session.specs.Cells.{IsReady, stamped_in, all_stamped};
 ghost use Rattle.decode_session.specs.Finishing.{next_text, batch_text, Leaves, LeavesAfter};
+ghost use Rattle.decode_session.specs.Moving.{Moves};
 ghost use Rattle.edition_plans.specs.Params.{param_slices};
 ghost use Rattle.fold_state.specs.Boards.{memory_of, plan_names};
+ghost use Rattle.fold_state.specs.declared.finish.TheConstants.{TEXT_BEFORE};
 ghost use Rattle.tm_io.specs.Causes.{HasCause};
 ghost use Rattle.tm_io.specs.Octets.{AppendsPrefix};
 
@@ -13,40 +15,47 @@ use crate::cell::Cell;
 use crate::room::Room;
 use decode_one::finish;
 use edition_plans::Plans;
-use fold_state::Board;
+use fold_state::{Board, TEXT_BEFORE};
 use record_text::Lines;
 use tm_io::{Failed, Sink, write_all};
 
-// Writes the record of a packet that was decoded, without the line of its edition.
-fn finish_cell<P: Plans, O: Sink>(
-    plans: &P,
-    cell: &Cell,
-    board: &mut Board,
-    lines: &mut Lines,
-    out: &mut O,
-) -> Result<(), Failed>
+// Appends the record of a packet that was decoded, without the line of its edition.
+fn add_record<P: Plans>(plans: &P, cell: &Cell, board: &mut Board, lines: &mut Lines)
     requires ready { IsReady (P.tables plans.now) cell.now }
     requires board { board.old.names ≡ plan_names (param_slices (P.tables plans.now)) }
+    requires room { length lines.old ≤ TEXT_BEFORE }
     ensures board { board.new.names ≡ board.old.names }
     ensures kept { (edition : ℕ) → Leaves edition (P.tables plans.now) (memory_of board.old) (stamped_in edition (P.tables plans.now) cell.now)
         (memory_of board.new) }
-    ensures all { (edition : ℕ) → let text = next_text edition (P.tables plans.now) (memory_of board.old) (stamped_in edition (P.tables plans.now) cell.now) in
-        OnOk result (Appends (O.written out.old) (O.written out.new) text) }
-    ensures part { (edition : ℕ) → let text = next_text edition (P.tables plans.now) (memory_of board.old) (stamped_in edition (P.tables plans.now) cell.now) in
-        OnErr result (AppendsPrefix (O.written out.old) (O.written out.new) text) }
-    ensures cause { HasCause (O.faults out.old) (O.faults out.new) result }
+    ensures text { (edition : ℕ) → let text = next_text edition (P.tables plans.now) (memory_of board.old) (stamped_in edition (P.tables plans.now) cell.now) in
+        lines.new ≡ lines.old ++ text }
 {
-    lines.clear();
     finish(
         plans,
         cell.number,
         cell.packet(),
-        &cell.half,
-        cell.slots.slice(),
+        &cell.buffers.half,
+        cell.buffers.slots.slice(),
         board,
         lines,
     );
-    write_all(out, lines.bytes())
+}
+
+// Writes the text of records where no other record may be appended to it.
+fn make_room<O: Sink>(lines: &mut Lines, out: &mut O) -> Result<(), Failed>
+    ensures room { OnOk result (length lines.new ≤ TEXT_BEFORE) }
+    ensures moved { OnOk result (Moves lines.old lines.new (O.written out.old) (O.written out.new)) }
+    ensures part { OnErr result (AppendsPrefix (O.written out.old) (O.written out.new) lines.old) }
+    ensures cause { HasCause (O.faults out.old) (O.faults out.new) result }
+{
+    if lines.bytes().len() <= TEXT_BEFORE {
+        return Ok(());
+    }
+    let Ok(()) = write_all(out, lines.bytes()) else {
+        return Err(Failed);
+    };
+    lines.clear();
+    Ok(())
 }
 
 /// Writes the records of packets that were decoded, in their order. They are of one edition, which is in use already.
@@ -70,10 +79,14 @@ pub fn finish_batch<P: Plans, O: Sink>(
         OnErr result (AppendsPrefix (O.written out.old) (O.written out.new) text) }
     ensures cause { HasCause (O.faults out.old) (O.faults out.new) result }
 {
+    lines.clear();
     for cell in cells {
-        finish_cell(plans, cell, board, lines, out)?;
+        let Ok(()) = make_room(lines, out) else {
+            return Err(Failed);
+        };
+        add_record(plans, cell, board, lines);
     }
-    Ok(())
+    write_all(out, lines.bytes())
 }
 
 /// Frees the rooms of cells.

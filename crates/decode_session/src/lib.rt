@@ -21,6 +21,6 @@ pub use cell::Cell;
 pub use decoding::decode_batch;
 pub use ending::{RunEnd, RunFault, Stop};
 pub use finishing::{finish_batch, free_rooms};
-pub use room::Room;
+pub use room::{Buffers, Room};
 pub use run::{decode_run, hand_on_before_wait, write_cut};
-pub use stock::{Home, Stock};
+pub use stock::{Home, Stock, rooms_for};

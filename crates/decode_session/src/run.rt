@@ -15,16 +15,13 @@ use crate::batch::{Filled, MOST_PACKETS, fill};
 use crate::decoding::decode_batch;
 use crate::ending::{RunEnd, RunFault, Stop};
 use crate::finishing::{finish_batch, free_rooms};
-use crate::stock::{BATCH, Home, Stock};
+use crate::stock::{Home, Stock, rooms_for};
 use edition_plans::Plans;
 use packet_feed::Feed;
 use record_text::{Lines, cut_line};
 use std::alloc::Global;
 use std::thread::Threads;
 use tm_io::{Failed, Sink, Source, write_all};
-
-// The packets of a batch for one worker.
-const ALONE: u16 = 4;
 
 /// Writes the line of a rest.
 pub fn write_cut<O: Sink>(octets: u32, lines: &mut Lines, out: &mut O) -> Result<(), Failed>
@@ -100,14 +97,6 @@ fn run_batches<P: Plans + Sync, S: Source, O: Sink, R: Threads + Sync>(
         }
     }
     Ok(RunEnd::Limit)
-}
-
-// How many packets are read ahead for so many workers: few for one, which is done with each at once.
-fn rooms_for(workers: u8) -> u16
-    ensures some { 0 < result }
-    ensures few { result ≤ most_in_flight }
-{
-    if workers == 1 { ALONE } else { BATCH }
 }
 
 /// Decodes the packets of a feed by one edition, with so many workers, and hands on what was written. It ends at the end of the

@@ -1,25 +1,37 @@
 // The buffers of a run.
-ghost use Rattle.std.specs.Prelude.{◌≡◌, ◌+◌, ◌≤◌, [], vec_len, vec_capacity, IfOk, OnOk};
+ghost use Rattle.std.specs.Prelude.{◌≡◌, ◌+◌, ◌<◌, ◌≤◌, [], vec_len, vec_capacity, IfOk, OnOk};
 ghost use Rattle.edition_plans.specs.Params.{param_slices};
 ghost use Rattle.fold_state.specs.Boards.{memory_of, plan_names};
 ghost use Rattle.mib_model.specs.Kept.{empty_memory};
-ghost use Rattle.decode_session.specs.Homes.{AreOut, AreOutOf};
+ghost use Rattle.decode_session.specs.Homes.{AreOutOf};
 ghost use Rattle.decode_session.specs.Run.{most_in_flight};
 
 use crate::cell::Cell;
 use crate::finishing::free_rooms;
-use crate::room::Room;
+use crate::room::{Buffers, Room};
 use bit_field::{MOST_VALUES, shape_of};
+use decode_one::Half;
 use edition_plans::Plans;
 use fold_state::Board;
 use frame_region::Region;
-use mib_model::{Endian, Name, Shape, Value};
+use mib_model::{Ended, Endian, Found, Header, Name, Shape, Value};
 use packet_feed::PACKET_SIZE;
 use record_text::Lines;
 use std::alloc::{AllocError, Global};
 
-/// The most packets of a batch.
-pub const BATCH: u16 = 64;
+// The packets of a batch for one worker.
+const ALONE: u16 = 4;
+
+// The packets of a batch for more workers.
+const BATCH: u16 = 64;
+
+/// How many packets are read ahead for so many workers: few for one, which is done with each at once.
+pub fn rooms_for(workers: u8) -> u16
+    ensures some { 0 < result }
+    ensures few { result ≤ most_in_flight }
+{
+    if workers == 1 { ALONE } else { BATCH }
+}
 
 /// Where the buffers of packets are at home.
 #[derive(Drop)]
@@ -75,6 +87,16 @@ fn unused() -> Value {
     }
 }
 
+// What stands in buffers before a packet is decoded.
+fn unheard() -> Half {
+    Half {
+        header: Header::read(&[0; 6]),
+        found: Found::Idle,
+        ended: Ended::Whole,
+        used: 0,
+    }
+}
+
 impl Home {
     /// Buffers for so many packets, all at home. An error is want of memory.
     pub fn with_rooms(alloc: Global, rooms: u16) -> Result<Home, AllocError>
@@ -84,13 +106,6 @@ impl Home {
             frames: Region::new(alloc, rooms, PACKET_SIZE, 0)?,
             slots: Region::new(alloc, rooms, MOST_VALUES as usize, unused())?,
         })
-    }
-
-    /// Buffers for a batch, all at home. An error is want of memory.
-    pub fn new(alloc: Global) -> Result<Home, AllocError>
-        ensures { IfOk result (λ home. AreOut 0 home) }
-    {
-        Home::with_rooms(alloc, BATCH)
     }
 
     // Takes all rooms, which are so many.
@@ -108,7 +123,14 @@ impl Home {
             let Some(slots) = self.slots.take() else {
                 unreachable!()
             };
-            rooms.push_reserved(Room { frame, slots });
+            let buffers = Buffers {
+                frame,
+                slots,
+                half: unheard(),
+            };
+            rooms.push_reserved(Room {
+                buffers: Box::new(alloc, buffers)?,
+            });
         }
         Ok(rooms)
     }
@@ -118,7 +140,12 @@ impl Home {
         requires { AreOutOf all (vec_len rooms) self.old }
         ensures { AreOutOf all 0 self.new }
     {
-        while let Some(Room { frame, slots }) = rooms.pop() {
+        while let Some(Room { buffers }) = rooms.pop() {
+            let Buffers {
+                frame,
+                slots,
+                half: _,
+            } = Box::into_inner(buffers);
             self.frames.give(frame);
             self.slots.give(slots);
         }
@@ -151,20 +178,6 @@ impl Stock {
         })
     }
 
-    /// What a run that begins by these plans needs, which keeps nothing yet. An error is want of memory.
-    pub fn new<P: Plans>(alloc: Global, plans: &P, home: &mut Home) -> Result<Stock, AllocError>
-        requires { AreOut 0 home.old }
-        ensures out { OnOk result (AreOut most_in_flight home.new) }
-        ensures free { IfOk result (λ stock. vec_len stock.rooms ≡ most_in_flight) }
-        ensures rooms { IfOk result (λ stock. most_in_flight ≤ vec_capacity stock.rooms) }
-        ensures empty { IfOk result (λ stock. stock.cells.items ≡ []) }
-        ensures cells { IfOk result (λ stock. most_in_flight ≤ vec_capacity stock.cells) }
-        ensures names { IfOk result (λ stock. stock.board.names ≡ plan_names (param_slices (P.tables plans.now))) }
-        ensures memory { IfOk result (λ stock. memory_of stock.board ≡ empty_memory) }
-    {
-        Stock::with_rooms(alloc, plans, home, BATCH)
-    }
-
     /// Gives all rooms back, those of cells too, to the home of so many.
     pub fn close_rooms(self, home: &mut Home, all: u16)
         requires out { AreOutOf all (vec_len self.rooms + vec_len self.cells) home.old }
@@ -179,14 +192,5 @@ impl Stock {
         } = self;
         free_rooms(&mut cells, &mut rooms);
         home.give_rooms(rooms, all);
-    }
-
-    /// Gives all rooms back, those of cells too.
-    pub fn close(self, home: &mut Home)
-        requires out { AreOut (vec_len self.rooms + vec_len self.cells) home.old }
-        requires rooms { vec_len self.rooms + vec_len self.cells ≤ vec_capacity self.rooms }
-        ensures { AreOut 0 home.new }
-    {
-        self.close_rooms(home, BATCH);
     }
 }

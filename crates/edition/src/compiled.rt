@@ -4,8 +4,8 @@ ghost use Rattle.std.specs.Option.{option_copied};
 ghost use Rattle.edition_plans.specs.Layouts.{layout_of, HasPlaces};
 ghost use Rattle.mib_model.specs.Soundness.{IsSound};
 
-use crate::sets::PlanSets;
 use crate::ways::ByTitled;
+use edition_diff::PlanSets;
 use edition_plans::Plans;
 use first_rows::FirstRows;
 use ident_plan::Ident;
@@ -20,7 +20,6 @@ use struct_plan::{Structure, Structures};
 
 /// The plans of sound tables, which are let go themselves. Contracts see the database of the tables.
 pub struct Compiled {
-    pub(crate) ident: Arc<Ident>,
     pub(crate) sets: PlanSets,
     pub(crate) titles: Arc<FirstRows<ByTitled>>,
     pub(crate) book: Snapshot<Book>,
@@ -30,7 +29,6 @@ pub struct Compiled {
 impl Drop for Compiled {
     fn drop(self) {
         let Compiled {
-            ident: _ident,
             sets: _sets,
             titles: _titles,
             book: _book,
@@ -41,7 +39,6 @@ impl Drop for Compiled {
 impl Model for Compiled {
     ghost use Rattle.std.specs.Prelude.{◌≡◌};
     ghost use Rattle.std.specs.Arc.{arc_value};
-    ghost use Rattle.edition.specs.Editions.{ident_rows};
     ghost use Rattle.mib_model.specs.declared.database.Database.{Database};
     ghost use Rattle.mib_model.specs.Soundness.{IsSound};
 
@@ -49,8 +46,8 @@ impl Model for Compiled {
 
     ghost view = { λ compiled. compiled.book.value };
 
-    ghost invariant = { λ compiled. IsSound compiled.book.value × (arc_value compiled.ident ≡ ident_rows compiled.book.value)
-        × (compiled.sets ≡ compiled.book.value) × (arc_value compiled.titles ≡ compiled.book.value.tpcf) };
+    ghost invariant = { λ compiled. IsSound compiled.book.value × (compiled.sets ≡ compiled.book.value)
+        × (arc_value compiled.titles ≡ compiled.book.value.tpcf) };
 }
 
 impl Rows for Compiled {
@@ -65,21 +62,21 @@ impl Structures for Compiled {
     ghost tables = { λ compiled. compiled };
 
     fn structure(&self, tpsd: i128) -> Option<&Structure> {
-        self.sets.structures().structure(tpsd)
+        self.sets.structure(tpsd)
     }
 
     fn deduced(&self, pid: i128) -> Option<TypeItem> {
-        self.sets.structures().deduced(pid)
+        self.sets.deduced(pid)
     }
 }
 
 impl Plans for Compiled {
     fn ident(&self) -> &Ident {
-        &self.ident
+        self.sets.ident()
     }
 
     fn layout(&self, spid: u32) -> Option<&Layout> {
-        self.sets.layouts().layout(spid)
+        self.sets.layout(spid)
     }
 
     fn params(&self) -> &Params {

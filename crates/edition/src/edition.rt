@@ -10,10 +10,9 @@ ghost use Rattle.mib_model.specs.Touched.{touched};
 
 use crate::compiled::Compiled;
 use crate::fault::SaveFault;
-use crate::ident::{ident_beside, ident_of};
-use crate::sets::{Made, PlanSets};
 use crate::titles::{titles_beside, titles_of};
 use crate::ways::ByTitled;
+use edition_diff::{Made, PlanName, PlanSets};
 use edition_plans::Plans;
 use first_rows::FirstRows;
 use ident_plan::Ident;
@@ -32,7 +31,6 @@ use struct_plan::{Structure, Structures};
 /// Sound tables with their plans. Contracts see the database of the tables.
 pub struct Edition {
     book: Book,
-    ident: Arc<Ident>,
     sets: PlanSets,
     titles: Arc<FirstRows<ByTitled>>,
 }
@@ -42,7 +40,6 @@ impl Drop for Edition {
     fn drop(self) {
         let Edition {
             book: _book,
-            ident: _ident,
             sets: _sets,
             titles: _titles,
         } = self;
@@ -52,7 +49,6 @@ impl Drop for Edition {
 impl Model for Edition {
     ghost use Rattle.std.specs.Prelude.{◌≡◌};
     ghost use Rattle.std.specs.Arc.{arc_value};
-    ghost use Rattle.edition.specs.Editions.{ident_rows};
     ghost use Rattle.mib_model.specs.declared.database.Database.{Database};
     ghost use Rattle.mib_model.specs.Soundness.{IsSound};
 
@@ -60,15 +56,15 @@ impl Model for Edition {
 
     ghost view = { λ edition. edition.book };
 
-    ghost invariant = { λ edition. IsSound edition.book × (arc_value edition.ident ≡ ident_rows edition.book)
-        × (edition.sets ≡ edition.book) × (arc_value edition.titles ≡ edition.book.tpcf) };
+    ghost invariant = { λ edition. IsSound edition.book × (edition.sets ≡ edition.book) × (arc_value edition.titles ≡ edition.book.tpcf) };
 }
 
-/// An edition, and how many of its plans were compiled, not shared with the base.
+/// An edition, how many of its plans were compiled, not shared with the base, and their names, in the order of all plans.
 #[derive(Drop)]
 pub struct Amended {
     pub edition: Edition,
     pub plans: u32,
+    pub touched: Vec<PlanName>,
 }
 
 impl Edition {
@@ -83,14 +79,8 @@ impl Edition {
         ensures steps { OnOk result (steps.new ≡ steps.old + length (plans book)) }
     {
         let sets = PlanSets::alone(alloc, &book, steps)?;
-        let ident = ident_of(alloc, &book, steps)?;
         let titles = titles_of(alloc, book.tpcf())?;
-        Ok(Edition {
-            book,
-            ident,
-            sets,
-            titles,
-        })
+        Ok(Edition { book, sets, titles })
     }
 
     // Compiles the plans of a sound book, of which those of the same rows are shared with a base.
@@ -105,21 +95,24 @@ impl Edition {
         requires same { AreSameIn same base.now book.now }
         ensures edition { IfOk result (λ amended. amended.edition ≡ book.now) }
         ensures plans { IfOk result (λ amended. amended.plans ≡ length (touched base.now book.now)) }
+        ensures touched { IfOk result (λ amended. amended.touched.items ≡ touched base.now book.now) }
         ensures steps { OnOk result (steps.new ≡ steps.old + length (touched base.now book.now)) }
     {
-        let Made { sets, compiled } = PlanSets::new(
+        let Made { sets, touched } = PlanSets::beside(
             alloc, &base.sets, &base.book, same, book, steps,
         )?;
-        let made = ident_beside(alloc, &base.ident, &base.book, book, steps)?;
-        let plans = compiled + made.compiled;
+        let plans = touched.len() as u32;
         let titles = titles_beside(alloc, &base.titles, same.tpcf, book.tpcf())?;
         let edition = Edition {
             book: book.copy()?,
-            ident: made.ident,
             sets,
             titles,
         };
-        Ok(Amended { edition, plans })
+        Ok(Amended {
+            edition,
+            plans,
+            touched,
+        })
     }
 
     /// Compiles all plans of a book: refused where it isn't sound.
@@ -148,6 +141,7 @@ impl Edition {
         requires { AreSameIn known base.now book.now }
         ensures edition { IfOk result (λ amended. amended.edition ≡ book.now) }
         ensures plans { IfOk result (λ amended. amended.plans ≡ length (touched base.now book.now)) }
+        ensures touched { IfOk result (λ amended. amended.touched.items ≡ touched base.now book.now) }
         ensures sound { OnOk result (IsSound book.now) }
         ensures refused { IfErr result (Refuses book.now) }
         ensures steps { OnOk result (steps.new ≡ steps.old + length (touched base.now book.now)) }
@@ -167,6 +161,7 @@ impl Edition {
     ) -> Result<Amended, SaveFault>
         ensures edition { IfOk result (λ amended. amended.edition ≡ book.now) }
         ensures plans { IfOk result (λ amended. amended.plans ≡ length (touched base.now book.now)) }
+        ensures touched { IfOk result (λ amended. amended.touched.items ≡ touched base.now book.now) }
         ensures sound { OnOk result (IsSound book.now) }
         ensures refused { IfErr result (Refuses book.now) }
         ensures steps { OnOk result (steps.new ≡ steps.old + length (touched base.now book.now)) }
@@ -187,14 +182,8 @@ impl Edition {
     pub fn into_plans(self) -> Compiled
         ensures { result ≡ self }
     {
-        let Edition {
-            book,
-            ident,
-            sets,
-            titles,
-        } = self;
+        let Edition { book, sets, titles } = self;
         Compiled {
-            ident,
             sets,
             titles,
             book: Snapshot::of(&book),
@@ -214,21 +203,21 @@ impl Structures for Edition {
     ghost tables = { λ edition. edition };
 
     fn structure(&self, tpsd: i128) -> Option<&Structure> {
-        self.sets.structures().structure(tpsd)
+        self.sets.structure(tpsd)
     }
 
     fn deduced(&self, pid: i128) -> Option<TypeItem> {
-        self.sets.structures().deduced(pid)
+        self.sets.deduced(pid)
     }
 }
 
 impl Plans for Edition {
     fn ident(&self) -> &Ident {
-        &self.ident
+        self.sets.ident()
     }
 
     fn layout(&self, spid: u32) -> Option<&Layout> {
-        self.sets.layouts().layout(spid)
+        self.sets.layout(spid)
     }
 
     fn params(&self) -> &Params {

@@ -18,4 +18,9 @@ impl By for ByTitled {
     fn key(row: &TpcfRow) -> Option<u32> {
         Some(row.spid)
     }
+
+    #[inline(always)]
+    fn number(spid: &u32) -> u64 {
+        u64::from(*spid)
+    }
 }

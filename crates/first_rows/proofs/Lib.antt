@@ -1,1 +1,2 @@
 pub mod FindFacts
+pub mod NearFacts

@@ -1,8 +1,10 @@
-ghost use Rattle.std.specs.Prelude.{◌≡◌, Option, Some, None, OnOk, IfOk, if◌then◌else◌};
+ghost use Rattle.std.specs.Prelude.{◌≡◌, List, Option, Some, None, OnOk, IfOk, if◌then◌else◌};
 ghost use Rattle.std.specs.List.{find};
 ghost use Rattle.std.specs.Option.{option_eq, option_or, option_copied};
 ghost use Rattle.std.specs.HashMap.{get};
+ghost use Rattle.first_rows.specs.Near.{IsAtHand, IsFirst};
 
+use crate::near::Near;
 use crate::seen::Seen;
 use std::alloc::{AllocError, Global};
 use std::collections::HashMap;
@@ -20,12 +22,18 @@ pub trait By {
     /// The key of a row.
     fn key(row: &Self::Row) -> Option<Self::Key>
         ensures { result ≡ key_of row.now };
+
+    /// A number for a key, by which its row is looked for first. Any will do: keys that have one number are found by the map.
+    fn number(_key: &Self::Key) -> u64 {
+        0
+    }
 }
 
 /// The first row of each key. Contracts see all the rows that it was made of, in their order.
 #[derive(Drop)]
 pub struct FirstRows<B: By> {
     firsts: HashMap<B::Key, B::Row>,
+    near: Near<B::Row>,
     count: usize,
     rows: Seen<B::Row>,
 }
@@ -35,13 +43,15 @@ impl<B: By> Model for FirstRows<B> {
     ghost use Rattle.std.specs.List.{find};
     ghost use Rattle.std.specs.Option.{option_eq};
     ghost use Rattle.std.specs.HashMap.{get};
+    ghost use Rattle.first_rows.specs.Near.{IsAtHand, IsFirst};
 
     ghost Value = { List B.Row };
 
     ghost view = { λ all. all.rows };
 
     ghost invariant = { λ all. (all.count ≡ length all.rows)
-        × ((key : B.Key) → get B.Key.eq all.firsts key ≡ find (λ row. option_eq B.Key.eq (B.key_of row) (Some key)) all.rows) };
+        × ((key : B.Key) → get B.Key.eq all.firsts key ≡ find (λ row. option_eq B.Key.eq (B.key_of row) (Some key)) all.rows)
+        × ((row : B.Row) → IsAtHand all.near row → IsFirst (λ key row. option_eq B.Key.eq (B.key_of row) (Some key)) all.rows row) };
 }
 
 // Notes a row whose key has none yet.
@@ -69,6 +79,45 @@ fn firsts<B: By>(alloc: Global, rows: &[B::Row]) -> Result<HashMap<B::Key, B::Ro
     Ok(firsts)
 }
 
+// Puts the first row of a row's key at the place of its number.
+fn put<B: By>(near: &mut Near<B::Row>, firsts: &HashMap<B::Key, B::Row>, row: &B::Row)
+    ensures { (rows : List B.Row) → ((key : B.Key) → get B.Key.eq firsts.now key ≡ find (λ row. option_eq B.Key.eq (B.key_of row) (Some key)) rows)
+        → ((held : B.Row) → IsAtHand near.old held → IsFirst (λ key row. option_eq B.Key.eq (B.key_of row) (Some key)) rows held)
+        → (held : B.Row) → IsAtHand near.new held → IsFirst (λ key row. option_eq B.Key.eq (B.key_of row) (Some key)) rows held }
+{
+    let Some(key) = B::key(row) else {
+        return;
+    };
+    if let Some(first) = firsts.get(&key) {
+        near.put(B::number(&key), *first);
+    }
+}
+
+// First rows at the places of their numbers.
+fn nears<B: By>(
+    alloc: Global,
+    firsts: &HashMap<B::Key, B::Row>,
+    rows: &[B::Row],
+) -> Result<Near<B::Row>, AllocError>
+    requires { (key : B.Key) → get B.Key.eq firsts.now key ≡ find (λ row. option_eq B.Key.eq (B.key_of row) (Some key)) rows.now }
+    ensures { IfOk result (λ near. (held : B.Row) → IsAtHand near held
+        → IsFirst (λ key row. option_eq B.Key.eq (B.key_of row) (Some key)) rows.now held) }
+{
+    let mut near = Near::with_room(alloc, rows.len())?;
+    for row in rows {
+        put::<B>(&mut near, firsts, row);
+    }
+    Ok(near)
+}
+
+// Whether a row has a key.
+#[inline(always)]
+fn has_key<B: By>(row: &B::Row, key: &B::Key) -> bool
+    ensures { result ≡ option_eq B.Key.eq (B.key_of row.now) (Some key.now) }
+{
+    B::key(row) == Some(*key)
+}
+
 impl<B: By> FirstRows<B> {
     /// The first of these rows for each key. An error is want of memory.
     pub fn new(alloc: Global, rows: &[B::Row]) -> Result<FirstRows<B>, AllocError>
@@ -76,17 +125,38 @@ impl<B: By> FirstRows<B> {
     {
         Ok(FirstRows {
             firsts: firsts::<B>(alloc, rows)?,
+            near: Near::none(alloc),
             count: rows.len(),
             rows: Seen::of(alloc, rows)?,
         })
     }
 
-    /// The first row that has this key, in one probe.
+    /// As `new`, with most rows also at the places of their numbers, where they are found without a probe.
+    pub fn with_near(alloc: Global, rows: &[B::Row]) -> Result<FirstRows<B>, AllocError>
+        ensures { IfOk result (λ all. all ≡ rows.now) }
+    {
+        let firsts = firsts::<B>(alloc, rows)?;
+        let near = nears::<B>(alloc, &firsts, rows)?;
+        Ok(FirstRows {
+            firsts,
+            near,
+            count: rows.len(),
+            rows: Seen::of(alloc, rows)?,
+        })
+    }
+
+    /// The first row that has this key, in one probe at most.
+    #[inline]
     pub fn find(&self, key: &B::Key) -> Option<&B::Row>
         ensures { option_copied result ≡ find (λ row. option_eq B.Key.eq (B.key_of row) (Some key.now)) self.now }
     {
         if self.count == 0 {
             return None;
+        }
+        if let Some(row) = self.near.at(B::number(key)) {
+            if has_key::<B>(row, key) {
+                return Some(row);
+            }
         }
         self.firsts.get(key)
     }

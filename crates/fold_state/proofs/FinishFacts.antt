@@ -22,7 +22,7 @@ use Rattle.mib_model.specs.Parameters.{parameter}
 use Rattle.mib_model.specs.Plans.{has_plan}
 use Rattle.mib_model.specs.Tails.{Tail, Invalid, Plain, Told}
 use Rattle.mib_model.specs.Texts.{told_text}
-use Rattle.param_plan.specs.Plain.{is_plain}
+use Rattle.param_plan.specs.Plain.{is_plain, plain_at}
 use Rattle.param_plan.specs.Slices.{ParamSlice, curve_in, slice_for}
 use Rattle.param_plan.proofs.LawFacts.{have-curves}
 use Rattle.param_plan.proofs.PlainFacts.{plain-curve, plain-ocf, plain-valid}
@@ -131,15 +131,15 @@ some-item [] i below = absurd (omega (arith, below))
 some-item (x ∷ xs) i below = x
 
 -- a value whose plan, at the place of its name, is plain
-pub finish-plain-at : (db : Database) (memory : Memory) (v : Value) (params : List ParamSlice) (board : Slots) (i : ℕ) → IsParamsOf db params → board.names ≡ plan_names params
-    → place_of board v.name ≡ Some i → ((s : ParamSlice) → is_plain (get_or params i s) ≡ true)
+pub finish-plain-at : (db : Database) (memory : Memory) (v : Value) (params : List ParamSlice) (board : Slots) (i : ℕ)
+    → IsParamsOf db params → board.names ≡ plan_names params → place_of board v.name ≡ Some i → plain_at params i ≡ true
     → ◌≡◌ {A = Finished} (memory, record { value = v; tail = Plain; change = None }) (finished db memory v)
 finish-plain-at db memory v params board i plans made at plain =
     let within = plan-within params board v.name i made at in
     let item = some-item params i within in
     let s = get_or params i item in
     let found = plan-found params board v.name i s made at (get_or_default params i item s within) in
-    finish-plain db memory v s (slice-found db params v.name s plans found) (plain item)
+    finish-plain db memory v s (slice-found db params v.name s plans found) (sym (get_or-map is_plain params i item false within) ∙ plain)
 
 -- values finished, and one more
 pub finished-more : (db : Database) (memory : Memory) (vs : List Value) (v : Value)

@@ -1,5 +1,5 @@
 -- What a board keeps, as mib_model defines it. [This profile.]
-use Rattle.std.specs.Prelude.{ℕ, ℤ, Bool, List, map, filter, Option, Some, None, if◌then◌else◌, pos, false}
+use Rattle.std.specs.Prelude.{ℕ, ℤ, ◌-ℤ◌, Bool, List, map, filter, Option, Some, None, if◌then◌else◌, pos, false}
 use Rattle.std.specs.Arc.{arc_value}
 use Rattle.std.specs.Cmp.Lexicographic.{pointwise}
 use Rattle.std.specs.List.{find, position, zip}
@@ -26,10 +26,14 @@ pub record Slots : Type 0 where
 abbrev pub number_if : Bool → ℤ → Option ℤ
 number_if there number = if there then Some number else None
 
+-- a number of which the last 64 bits are kept, and whether it is below zero
+abbrev pub turned_back : Bool → ℕ → ℤ
+turned_back is_low bits = if is_low then pos bits -ℤ pos 18446744073709551616 else pos bits
+
 -- what a slot keeps
 abbrev pub kept_as : Slot → Kept
 kept_as slot = record {
-  latest = number_if slot.has_latest slot.latest;
+  latest = number_if slot.has_latest (turned_back slot.is_low slot.latest);
   spoken = slot.alarm.0;
   run = slot.alarm.1;
   previous = number_if slot.has_previous slot.previous.count;
@@ -46,12 +50,13 @@ slot_name slot = slot.name
 -- a slot of a name that keeps nothing
 abbrev pub vacant : List ℕ → Slot
 vacant name = record {
-  latest = pos 0;
-  previous = record { count = pos 0 };
+  latest = 0;
+  name = name;
+  is_low = false;
   has_latest = false;
   has_previous = false;
   alarm = (None, 0);
-  name = name;
+  previous = record { count = pos 0 };
 }
 
 -- slots with their names

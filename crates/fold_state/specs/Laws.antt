@@ -26,6 +26,10 @@ pub record IsStep (c : Course) (s : StampedPacket) (values : List Value) (ended 
   pub text : record_body (record_for c s) ≡ body_text s (values_finished s (memory_for c s) values).1 ended
   pub memory : (course_after c s).memory ≡ (values_finished s (memory_for c s) values).0
 
+-- values and how they end are those that a packet has by its tables
+abbrev pub AreDecoded : StampedPacket → List Value → Ended → Type 0
+AreDecoded s values ended = (values, ended) ≡ values_of s.tables s.packet (match_of s.tables s.packet)
+
 -- each packet with the values that its tables give
 abbrev pub FinishIsAStep : Type 0
-FinishIsAStep = (c : Course) (s : StampedPacket) (values : List Value) (ended : Ended) → (values, ended) ≡ values_of s.tables s.packet (match_of s.tables s.packet) → IsStep c s values ended
+FinishIsAStep = (c : Course) (s : StampedPacket) (values : List Value) (ended : Ended) → AreDecoded s values ended → IsStep c s values ended

@@ -8,11 +8,12 @@ use Rattle.fold_state.specs.Boards.{Slots, place_of, plan_names}
 use Rattle.mib_model.specs.declared.packet.Value.{Value}
 use Rattle.mib_model.specs.declared.rows.PcfRow.{PcfRow}
 use Rattle.mib_model.specs.Alarms.{alarm}
+use Rattle.mib_model.specs.Calibrated.{Calibrated}
 use Rattle.mib_model.specs.Carry.{check_of, same_check}
 use Rattle.mib_model.specs.Checks.{Sample, checks_of, class_of}
 use Rattle.mib_model.specs.Curves.{curve_of}
 use Rattle.mib_model.specs.declared.database.Database.{Database}
-use Rattle.mib_model.specs.Finish.{Checked, with_alarm, finished, all_finished}
+use Rattle.mib_model.specs.Finish.{Checked, with_alarm, checked_by, finished, all_finished}
 use Rattle.mib_model.specs.Kept.{Memory}
 use Rattle.mib_model.specs.Parameters.{parameter}
 use Rattle.mib_model.specs.Plans.{has_plan}
@@ -72,6 +73,10 @@ abbrev pub checked_in : Memory → List ℕ → CheckRows → Sample → Checked
 checked_in memory name rows sample =
     with_alarm memory name sample
     (alarm ((memory name).spoken, (memory name).run) (class_of rows.ocps sample (memory name).previous memory) rows.ocf.nbchck)
+
+-- what is kept and told after a value, by what a curve makes of it and by the check of its name
+abbrev pub checked_given : Database → Memory → Value → Option Calibrated → Checked
+checked_given db memory v given = checked_by db memory v given (check_of db v.name)
 
 -- whether what is kept of a parameter stays, by the rows of its plans
 abbrev pub is_same_slice : ParamSlice → ParamSlice → Bool

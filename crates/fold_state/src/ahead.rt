@@ -3,15 +3,12 @@
 use crate::slot::Slot;
 use param_plan::{Param, Params};
 
-// The plan at a place, where there is one that isn't known to be plain.
+// The plan at a place, where there is one that isn't plain.
 fn plan_at(params: &Params, at: usize) -> Option<&Param> {
     if params.is_plain(at) {
         return None;
     }
-    match params.plans().get(at) {
-        Some(plan) => Some(plan),
-        None => None,
-    }
+    params.plans().get(at).map(|plan| &**plan)
 }
 
 // The slot at a place, and the plan itself.

@@ -1,9 +1,10 @@
-ghost use Rattle.std.specs.Prelude.{◌≡◌, ◌<◌, [], List, ℕ, Some, get_or, length, map, nat_lt, true, IfOk, IsTrue};
+ghost use Rattle.std.specs.Prelude.{◌≡◌, ◌<◌, ◌≤ℤ◌, [], List, ℕ, Some, get_or, length, map, nat_lt, true, IfOk, IsTrue};
 ghost use Rattle.check_plan.specs.Samples.{sample_of};
 ghost use Rattle.mib_model.specs.Alarms.{alarm};
 ghost use Rattle.mib_model.specs.Finish.{with_alarm};
 ghost use Rattle.mib_model.specs.Kept as Spec;
 ghost use Rattle.mib_model.specs.Kept.{has_number};
+ghost use Rattle.mib_model.specs.WholeNumbers.{least_raw, greatest_raw};
 ghost use Rattle.mib_model.specs.declared.packet.Value.{Value};
 ghost use Rattle.fold_state.specs.Boards.{kept_as, memory_of, place_of, plan_names, vacant_for};
 
@@ -202,7 +203,9 @@ impl Board {
 
     /// Keeps the raw number of a value of the name at a place.
     pub(crate) fn set_latest(&mut self, at: usize, raw: i128)
-        requires { at < length self.old.names }
+        requires at { at < length self.old.names }
+        requires low { least_raw ≤ℤ raw }
+        requires high { raw ≤ℤ greatest_raw }
         ensures names { self.new.names ≡ self.old.names }
         ensures memory { (v : Value) → place_of self.old v.name ≡ Some at → has_number v.shape.sort ≡ true → v.raw ≡ raw
             → memory_of self.new ≡ Spec.entered (memory_of self.old) v }

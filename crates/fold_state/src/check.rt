@@ -2,12 +2,10 @@
 ghost use Rattle.std.specs.Prelude.{◌≡◌, ◌<◌, List, ℕ, None, Some, length, option_map, if◌then◌else◌};
 ghost use Rattle.check_plan.specs.Samples.{sample_of};
 ghost use Rattle.fold_state.specs.Boards.{memory_of, place_of};
-ghost use Rattle.fold_state.specs.Premises.{IsRaw, IsSliceOf, checked_in};
+ghost use Rattle.fold_state.specs.Premises.{IsRaw, IsSliceOf, checked_given, checked_in};
 ghost use Rattle.mib_model.specs.CalibrationViews.{calibrated_as};
-ghost use Rattle.mib_model.specs.Carry.{check_of};
 ghost use Rattle.mib_model.specs.Curves.{calibration};
 ghost use Rattle.mib_model.specs.declared.database.Database.{Database};
-ghost use Rattle.mib_model.specs.Finish as Spec;
 ghost use Rattle.mib_model.specs.Kept.{has_number};
 ghost use Rattle.param_plan.specs.Slices.{curve_in};
 
@@ -51,7 +49,7 @@ impl Board {
         requires { at < length self.old.names }
         ensures names { self.new.names ≡ self.old.names }
         ensures checked { (db : Database) → IsSliceOf db value.now.name plan.now → place_of self.old value.now.name ≡ Some at → IsRaw value.now
-            → (memory_of self.new, result) ≡ Spec.checked_by db (memory_of self.old) value.now (option_map calibrated_as given.entry) (check_of db value.now.name) }
+            → (memory_of self.new, result) ≡ checked_given db (memory_of self.old) value.now (option_map calibrated_as given.entry) }
     {
         if !is_raw(value) {
             return None;

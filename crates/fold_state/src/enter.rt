@@ -2,13 +2,12 @@
 ghost use Rattle.std.specs.Prelude.{◌≡◌, ◌≤◌, ◌<◌, Some, length, slice_set};
 ghost use Rattle.std.specs.List.{All};
 ghost use Rattle.fold_state.specs.Boards.{memory_of, place_of};
-ghost use Rattle.fold_state.specs.Premises.{AreSeated, HasSlot};
+ghost use Rattle.fold_state.specs.Premises.{AreSeated, HasSlot, IsRaw};
 ghost use Rattle.mib_model.specs.Kept as Spec;
-ghost use Rattle.mib_model.specs.Kept.{has_number};
 ghost use Rattle.mib_model.specs.declared.packet.Value.{Value};
 
 use crate::board::Board;
-use crate::value::has_number;
+use crate::value::is_raw;
 use mib_model::Value;
 
 // Notes the place of the k-th value, where there is a seat for it.
@@ -27,12 +26,12 @@ impl Board {
     fn enter(&mut self, value: &Value, near: usize) -> usize
         ensures names { self.new.names ≡ self.old.names }
         ensures seat { HasSlot self.old value.now.name → place_of self.old value.now.name ≡ Some result }
-        ensures memory { HasSlot self.old value.now.name → memory_of self.new ≡ Spec.entered (memory_of self.old) value.now }
+        ensures memory { HasSlot self.old value.now.name → IsRaw value.now → memory_of self.new ≡ Spec.entered (memory_of self.old) value.now }
     {
         let Some(at) = self.place_near(near, &value.name) else {
             return usize::MAX;
         };
-        if has_number(value.shape.sort()) {
+        if is_raw(value) {
             self.set_latest(at, value.raw);
         }
         at
@@ -43,7 +42,7 @@ impl Board {
     pub(crate) fn enter_all(&mut self, values: &[Value], first: usize, seats: &mut Vec<usize>)
         ensures names { self.new.names ≡ self.old.names }
         ensures seats { All (λ v. HasSlot self.old v.name) values.now → AreSeated self.old values.now (length values.now) seats.new.items }
-        ensures memory { All (λ v. HasSlot self.old v.name) values.now → memory_of self.new ≡ Spec.all_entered (memory_of self.old) values.now }
+        ensures memory { All (λ v. HasSlot self.old v.name) values.now → All IsRaw values.now → memory_of self.new ≡ Spec.all_entered (memory_of self.old) values.now }
     {
         for k in 0..values.len() {
             let at = self.enter(&values[k], first.saturating_add(k));

@@ -2,6 +2,7 @@ ghost use Rattle.std.specs.Prelude.{◌≡◌, ◌≤◌, ◌<◌, ◌+◌, ◌*
 ghost use Rattle.std.specs.List.{All, flat_map};
 ghost use Rattle.std.specs.Option.{option_copied};
 ghost use Rattle.fold_state.specs.Boards.{memory_of, place_of, plan_names};
+ghost use Rattle.fold_state.specs.declared.finish.TheConstants.{TEXT_BEFORE};
 ghost use Rattle.fold_state.specs.Premises.{AreFinished, AreSeated, Fits, HasSlot, IsFinished, IsParamsOf, IsRaw, IsSliceOf};
 ghost use Rattle.mib_model.specs.AlarmTexts.{change_text_of};
 ghost use Rattle.mib_model.specs.Bits.{is_inside};
@@ -19,6 +20,9 @@ use crate::check::calibrated;
 use mib_model::{Cal, Change, Ended, Found, Header, Text, Value};
 use param_plan::{Param, Params};
 use record_text::{Lines, Tail, change_line, ended_line, head_line, value_line};
+
+/// The most octets of text behind which a record may be appended.
+pub const TEXT_BEFORE: usize = 65_536;
 
 /// A packet that was decoded: its number, its header, what it is, its values and how they end, its octets, and its name
 /// where there is one.
@@ -73,7 +77,7 @@ impl Board {
         requires { at < length self.old.names }
         ensures names { self.new.names ≡ self.old.names }
         ensures finished { (db : Database) → IsSliceOf db value.now.name plan.now → place_of self.old value.now.name ≡ Some at → IsRaw value.now
-            → (memory_of self.new, record { value = value.now; tail = tail_as result.0; change = result.1 }) ≡ Spec.finished db (memory_of self.old) value.now }
+            → Spec.told value.now (tail_as result.0) (memory_of self.new, result.1) ≡ Spec.finished db (memory_of self.old) value.now }
     {
         if !plan.valid(self) {
             return (Tail::Invalid, None);
@@ -93,7 +97,7 @@ impl Board {
         ensures names { self.new.names ≡ self.old.names }
         ensures finished { (db : Database) → IsParamsOf db params.now → self.old.names ≡ plan_names params.now
             → place_of self.old value.now.name ≡ Some seat → IsRaw value.now
-            → (memory_of self.new, record { value = value.now; tail = tail_as result.0; change = result.1 }) ≡ Spec.finished db (memory_of self.old) value.now }
+            → Spec.told value.now (tail_as result.0) (memory_of self.new, result.1) ≡ Spec.finished db (memory_of self.old) value.now }
     {
         if params.is_plain(seat) {
             return (Tail::Plain, None);
@@ -180,13 +184,13 @@ impl Board {
 
     /// Finishes the values of a packet: enters their raw numbers, then calibrates and checks each in its order, and appends
     /// the packet's record without its edition. There are at most 8,192 values, whose bits are in the packet, and the text
-    /// before has at most 100 octets. What is kept and appended is that of the definitions where the board was made for
-    /// these plans, each value's name has a plan, and its number is a raw number; else some text that fits is appended and
-    /// the names stay. It takes no memory.
+    /// before has at most `TEXT_BEFORE` octets. What is kept and appended is that of the definitions where the board was made
+    /// for these plans, each value's name has a plan, and its number is a raw number; else some text that fits is appended
+    /// and the names stay. It takes no memory.
     pub fn finish(&mut self, params: &Params, seen: &Seen<'_>, out: &mut Lines)
         requires few { length seen.now.values.now ≤ most_values }
         requires inside { All (λ v. is_inside seen.now.packet.now v.at v.shape.width ≡ true) seen.now.values.now }
-        requires room { length out.old ≤ 100 }
+        requires room { length out.old ≤ TEXT_BEFORE }
         ensures names { self.new.names ≡ self.old.names }
         ensures memory { (db : Database) → Fits db params.now self.old seen.now.values.now
             → memory_of self.new ≡ (Spec.all_finished db (all_entered (memory_of self.old) seen.now.values.now) seen.now.values.now).0 }

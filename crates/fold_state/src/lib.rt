@@ -19,6 +19,6 @@ mod value;
 
 pub use board::Board;
 pub use check_plan::Holds;
-pub use finish::Seen;
+pub use finish::{Seen, TEXT_BEFORE};
 pub use laws::finish_is_a_step;
 pub use mib_model::MadeFor;

@@ -1,25 +1,31 @@
 // What is kept of a parameter.
-ghost use Rattle.std.specs.Prelude.{◌≡◌, Some, option_map};
+ghost use Rattle.std.specs.Prelude.{◌≡◌, ◌≤ℤ◌, Some, option_map};
 ghost use Rattle.std.specs.Option.{option_eq};
 ghost use Rattle.std.specs.Ordering.{int_eq};
 ghost use Rattle.check_plan.specs.Samples.{count_of, sample_of};
 ghost use Rattle.mib_model.specs.Alarms.{alarm};
 ghost use Rattle.mib_model.specs.Finish.{previous_after};
-ghost use Rattle.fold_state.specs.Boards.{kept_as, stepped, vacant};
+ghost use Rattle.mib_model.specs.WholeNumbers.{least_raw, greatest_raw};
+ghost use Rattle.fold_state.specs.Boards.{kept_as, stepped, turned_back, vacant};
 
 use check_plan::{Alarm, Sample};
 use mib_model::{Change, Class, Eng, Name};
 
+// How far a number below zero lies from the one that is kept for it.
+const TURN: i128 = 18_446_744_073_709_551_616;
+
 /// What is kept of the parameter of a name: its latest raw number and its last checked number, where there are such, and its
-/// alarm. The name lies beside them, and they have few octets, since those of many parameters are asked for in any order.
+/// alarm. The name lies beside them, and all have 64 octets, since those of many parameters are asked for in any order. Of a
+/// raw number its last 64 bits are kept, and whether it is below zero.
 #[derive(Clone, Copy)]
 pub struct Slot {
-    pub previous: Eng,
+    pub latest: u64,
+    pub name: Name,
+    pub is_low: bool,
     pub has_latest: bool,
     pub has_previous: bool,
     pub alarm: Alarm,
-    pub name: Name,
-    pub latest: i128,
+    pub previous: Eng,
 }
 
 impl Slot {
@@ -28,18 +34,19 @@ impl Slot {
         ensures { result ≡ vacant name }
     {
         Slot {
-            previous: Eng { count: 0 },
+            latest: 0,
+            name,
+            is_low: false,
             has_latest: false,
             has_previous: false,
             alarm: Alarm::new(),
-            name,
-            latest: 0,
+            previous: Eng { count: 0 },
         }
     }
 
     /// A number made of its first octets and of its last: who asks for it early has the slot at hand later.
     pub fn touch(&self) -> usize {
-        usize::from(self.previous.count < 0) ^ usize::from(self.latest < 0)
+        usize::from(self.latest == 0) ^ usize::from(self.previous.count < 0)
     }
 
     /// Keeps what another slot keeps.
@@ -55,18 +62,36 @@ impl Slot {
 
     /// Keeps a latest raw number.
     pub fn enter(&mut self, raw: i128)
+        requires low { least_raw ≤ℤ raw }
+        requires high { raw ≤ℤ greatest_raw }
         ensures kept { kept_as self.new ≡ (record (kept_as self.old) { latest = Some raw }) }
         ensures name { self.new.name ≡ self.old.name }
     {
-        self.latest = raw;
+        self.is_low = raw < 0;
+        self.latest = if raw < 0 {
+            (raw + TURN) as u64
+        } else {
+            raw as u64
+        };
         self.has_latest = true;
+    }
+
+    // The number that is kept as the latest one.
+    fn latest_number(&self) -> i128
+        ensures { result ≡ turned_back self.now.is_low self.now.latest }
+    {
+        if self.is_low {
+            i128::from(self.latest) - TURN
+        } else {
+            i128::from(self.latest)
+        }
     }
 
     /// Whether the latest raw number is this number.
     pub fn holds(&self, number: i128) -> bool
         ensures { result ≡ option_eq int_eq (kept_as self.now).latest (Some number) }
     {
-        self.has_latest && self.latest == number
+        self.has_latest && self.latest_number() == number
     }
 
     /// The last checked number.

@@ -1,2 +1,3 @@
 pub mod Own
 pub mod KinFacts
+pub mod KeyFacts

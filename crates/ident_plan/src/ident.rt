@@ -144,8 +144,8 @@ impl Ident {
         let has_own = have_apids(pics);
         let is_bare = are_none(pics);
         let kins = kins_of(alloc, pids)?;
-        let pids = FirstRows::new(alloc, pids)?;
-        let pics = FirstRows::new(alloc, pics)?;
+        let pids = FirstRows::with_near(alloc, pids)?;
+        let pics = FirstRows::with_near(alloc, pics)?;
         steps.tick();
         Ok(Ident {
             pids,
@@ -257,8 +257,54 @@ impl Ident {
         found_by(row, service, subtype)
     }
 
-    // What a packet is whose header and types refuse nothing.
-    fn among(&self, header: &Header, packet: &[u8]) -> Found
+    // The first row of pid with this key, if it is the only one of its APID.
+    #[inline(always)]
+    fn lone_row(&self, key: PacketKey) -> Option<&PidRow>
+        ensures { IfSome result (λ row. Some row.now ≡ find (λ row. (row.apid == key.apid) && (row.service == key.service)
+            && (row.subtype == key.subtype) && (row.pi1_val == key.pi1_val) && (row.pi2_val == key.pi2_val)) self.now.pids) }
+    {
+        match kin_at(&self.kins, key.apid) {
+            Some(Kin::One(row)) if agrees(row, &key) => Some(row),
+            _ => None,
+        }
+    }
+
+    // What a packet whose discriminants are 0 is by the only row of its APID, if it agrees with that.
+    #[inline(always)]
+    fn by_lone_row(&self, header: &Header, packet: &[u8]) -> Option<Found>
+        requires header { header.now ≡ header_of packet.now }
+        requires long { lacks_service packet.now ≡ false }
+        ensures { IfSome result (λ found. found ≡ found_with self.now.pids packet.now (Some (0, 0))) }
+    {
+        let (service, subtype) = types(packet, header.secondary);
+        let row = self.lone_row(PacketKey {
+            apid: header.apid,
+            service,
+            subtype,
+            pi1_val: 0,
+            pi2_val: 0,
+        })?;
+        Some(found_by(Some(row), service, subtype))
+    }
+
+    // What a packet is by the only row of its APID, if it agrees with that and pic has no rows.
+    #[tactic(auto, unfolding(mib_model::specs::Match::criterion))]
+    #[inline(always)]
+    fn at_once(&self, header: &Header, packet: &[u8]) -> Option<Found>
+        requires header { header.now ≡ header_of packet.now }
+        requires long { lacks_service packet.now ≡ false }
+        ensures { IfSome result (λ found. found ≡ found_with self.now.pids packet.now
+            (Spec.discriminants packet.now (Spec.criterion self.now.pics packet.now))) }
+    {
+        if !self.is_bare {
+            return None;
+        }
+        self.by_lone_row(header, packet)
+    }
+
+    // What a packet is whose header and types refuse nothing, by its discriminants.
+    #[inline(never)]
+    fn among_rows(&self, header: &Header, packet: &[u8]) -> Found
         requires header { header.now ≡ header_of packet.now }
         requires long { lacks_service packet.now ≡ false }
         ensures { result ≡ found_with self.now.pids packet.now (Spec.discriminants packet.now (Spec.criterion self.now.pics packet.now)) }
@@ -266,6 +312,19 @@ impl Ident {
         match self.values(header, packet) {
             Some(values) => self.identified(header, packet, values),
             None => Found::Bad(BadWhy::Short),
+        }
+    }
+
+    // What a packet is whose header and types refuse nothing.
+    #[inline(always)]
+    fn among(&self, header: &Header, packet: &[u8]) -> Found
+        requires header { header.now ≡ header_of packet.now }
+        requires long { lacks_service packet.now ≡ false }
+        ensures { result ≡ found_with self.now.pids packet.now (Spec.discriminants packet.now (Spec.criterion self.now.pics packet.now)) }
+    {
+        match self.at_once(header, packet) {
+            Some(found) => found,
+            None => self.among_rows(header, packet),
         }
     }
 

@@ -3,6 +3,11 @@
 use first_rows::By;
 use mib_model::{PicRow, PidRow};
 
+// Odd numbers without pattern, which keep the discriminants apart from the types and from each other.
+const FIRST_SPREAD: u64 = 0xBF58_476D_1CE4_E5B9;
+
+const SECOND_SPREAD: u64 = 0x94D0_49BB_1331_11EB;
+
 /// The types and the APID that a row of pic stands for.
 #[derive(Clone, Copy, Debug, PartialEq, Eq, Hash)]
 pub struct CriterionKey {
@@ -42,6 +47,15 @@ impl By for ByCriterion {
             apid: row.apid,
         })
     }
+
+    #[inline(always)]
+    fn number(key: &CriterionKey) -> u64 {
+        let apid = match key.apid {
+            Some(apid) => u64::from(apid) + 1,
+            None => 0,
+        };
+        apid * 65536 + u64::from(key.service) * 256 + u64::from(key.subtype)
+    }
 }
 
 /// Rows of pid by what a packet must agree with.
@@ -66,5 +80,15 @@ impl By for ByPacket {
             pi1_val: row.pi1_val,
             pi2_val: row.pi2_val,
         })
+    }
+
+    #[inline(always)]
+    fn number(key: &PacketKey) -> u64 {
+        let types = u64::from(key.apid) * 65536
+            + u64::from(key.service) * 256
+            + u64::from(key.subtype);
+        types
+            .wrapping_add(key.pi1_val.wrapping_mul(FIRST_SPREAD))
+            .wrapping_add(key.pi2_val.wrapping_mul(SECOND_SPREAD))
     }
 }

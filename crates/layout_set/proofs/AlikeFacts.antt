@@ -11,6 +11,7 @@ use Rattle.mib_model.specs.declared.rows.PidRow.{PidRow}
 use Rattle.mib_model.specs.declared.rows.PlfRow.{PlfRow}
 use Rattle.mib_model.specs.Fixed.{has_layout}
 use Rattle.mib_model.specs.LayoutTables.{plf, plf_cells}
+use Rattle.mib_model.specs.Orders.{sorted_by, sorted_by_number}
 use Rattle.mib_model.specs.PacketTables.{pid, pid_cells}
 use Rattle.mib_model.specs.Plans.{layout_rows, type_items}
 use Rattle.mib_model.specs.SameRows.{same_plf}
@@ -65,8 +66,8 @@ module _ (old new : Database) (alike : AreLaidAlike old new) where
 
   -- no layout is new where the packets are those of a sound database
   pub none-new : IsSound new → new_layouts old new ≡ []
-  unfolding layout_of
-  none-new sound = none-left (is_new old new) new.pid (λ i row below is. go i row below is (has_layout row) refl) where
+  unfolding layout_of sorted_by
+  none-new sound = ap (λ (rows : List PidRow). sorted_by_number (λ (spid : ℕ). spid) (map (λ r. r.spid) rows)) (none-left (is_new old new) new.pid (λ i row below is. go i row below is (has_layout row) refl)) where
     go : (i : ℕ) (row : PidRow) → i < length new.pid → row ≡ get_or new.pid i row → (b : Bool) → has_layout row ≡ b → is_new old new row ≡ false
     go i row below is false laid = ap (λ b. b && not (has_same (layout_of old row.spid) (layout_slice new row))) laid
     go i row below is true laid =

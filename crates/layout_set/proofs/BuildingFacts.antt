@@ -1,13 +1,17 @@
 -- Layouts of packets that are taken one after the other.
-use Rattle.std.proofs.Common.{◌≡◌, ℕ, ◌+◌, ◌<◌, ◌≤◌, nat_eq, Bool, true, false, cond, ◌&&◌, List, [], ◌∷◌, take, length, get_or, filter, Option, Some, None, option_map, refl, sym, ap, ◌∙◌, arith, if◌then◌else◌}
+use Rattle.std.proofs.Common.{◌≡◌, ℕ, ◌+◌, ◌<◌, ◌≤◌, nat_eq, nat_le, Bool, true, false, cond, ◌&&◌, List, [], ◌∷◌, ◌++◌, take, length, get_or, map, filter, Option, Some, None, option_map, refl, sym, ap, ◌∙◌, arith, if◌then◌else◌}
 use Rattle.std.proofs.lemmas.Bool.{eqb-false, ne_eqb}
+use Rattle.std.proofs.lemmas.List.{length-map, map-append}
+use Rattle.std.proofs.lemmas.List.Elements.{filter_more}
 use Rattle.std.proofs.lemmas.List.Filters.{length-filter_more}
+use Rattle.std.proofs.lemmas.List.Sums.{count_by-le-length, length-filter}
 use Rattle.std.specs.List.{find, list_any}
 use Rattle.std.specs.Option.{option_or}
 use Rattle.first_rows.proofs.FindFacts.{find-more}
 use Rattle.edition_plans.specs.Layouts.{is_layout_row, layout_slice}
-use Rattle.layout_set.specs.Building.{found_among, one_if}
-use Rattle.layout_set.specs.Sets.{is_new}
+use Rattle.layout_set.specs.Building.{found_among, new_among, one_if, spid_if}
+use Rattle.layout_set.proofs.NumberFacts.{long-sorted}
+use Rattle.layout_set.specs.Sets.{is_new, new_layouts}
 use Rattle.mib_model.specs.declared.database.Database.{Database}
 use Rattle.mib_model.specs.declared.rows.PidRow.{PidRow}
 use Rattle.mib_model.specs.Fixed.{has_layout}
@@ -29,6 +33,28 @@ pub new-more : (base db : Database) (rows : List PidRow) (i : ℕ) (row : PidRow
 new-more base db rows i row below is =
     length-filter_more (is_new base db) rows i row below ∙ ap (λ (r : PidRow). length (filter (is_new base db) (take i rows)) + one_if (is_new base db r)) (sym is)
 
+-- one packet more: the SPIDs of those whose layouts are compiled
+pub spids-more : (base db : Database) (rows : List PidRow) (i : ℕ) (row : PidRow) → i < length rows → row ≡ get_or rows i row
+    → new_among base db (take (i + 1) rows) ≡ new_among base db (take i rows) ++ spid_if (is_new base db row) row
+spids-more base db rows i row below is =
+    ap (map (λ (r : PidRow). r.spid)) (filter_more (is_new base db) rows i row below)
+    ∙ map-append (λ (r : PidRow). r.spid) (filter (is_new base db) (take i rows)) (cond (is_new base db (get_or rows i row)) (get_or rows i row ∷ []) [])
+    ∙ ap (λ (r : PidRow). new_among base db (take i rows) ++ map (λ (r : PidRow). r.spid) (cond (is_new base db r) (r ∷ []) [])) (sym is)
+    ∙ ap (λ (spids : List ℕ). new_among base db (take i rows) ++ spids) (of-one (is_new base db row)) where
+      of-one : (b : Bool) → map (λ (r : PidRow). r.spid) (cond b (row ∷ []) []) ≡ spid_if b row
+      of-one true = refl
+      of-one false = refl
+
+-- as many SPIDs as packets whose layouts are compiled
+pub long-new : (base db : Database) → length (new_layouts base db) ≡ length (filter (is_new base db) db.pid)
+long-new base db =
+    long-sorted (λ (x y : ℕ). nat_le x y) (map (λ (r : PidRow). r.spid) (filter (is_new base db) db.pid))
+    ∙ length-map (filter (is_new base db) db.pid) (λ (r : PidRow). r.spid)
+
+-- no more than there are packets
+pub few-new : (base db : Database) → length (new_layouts base db) ≤ length db.pid
+few-new base db = omega (arith, long-new base db, length-filter (is_new base db) db.pid, count_by-le-length (is_new base db) db.pid)
+
 -- no packet of a SPID is found where none has it
 none-found : (spid : ℕ) (rows : List PidRow) → list_any (λ r. nat_eq spid r.spid) rows ≡ false → find (is_layout_row spid) rows ≡ None
 none-found spid [] h = refl
@@ -46,8 +72,3 @@ none-found spid (r ∷ rs) h = go (nat_eq spid r.spid) refl (none-found spid rs)
 -- a packet's layout is not there yet, where no packet before it has its SPID
 pub fresh : (db : Database) (rows : List PidRow) (spid : ℕ) → list_any (λ r. nat_eq spid r.spid) rows ≡ false → found_among db rows spid ≡ None
 fresh db rows spid h = ap (option_map (layout_slice db)) (none-found spid rows h)
-
--- for a packet no more than one layout is compiled
-pub one-most : (b : Bool) → one_if b ≤ 1
-one-most true = omega arith
-one-most false = omega arith

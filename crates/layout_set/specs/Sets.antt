@@ -7,6 +7,7 @@ use Rattle.mib_model.specs.declared.plan.Slice.{Slice}
 use Rattle.mib_model.specs.declared.plan.Slice.TheVariants as slice
 use Rattle.mib_model.specs.declared.rows.PidRow.{PidRow}
 use Rattle.mib_model.specs.Fixed.{has_layout}
+use Rattle.mib_model.specs.Orders.{sorted_by_number}
 use Rattle.mib_model.specs.Plans.{type_item}
 use Rattle.mib_model.specs.Touched.{same_slice}
 
@@ -27,9 +28,9 @@ has_same (Some old) new = is_same old new
 abbrev pub is_new : Database → Database → PidRow → Bool
 is_new base db row = has_layout row && not (has_same (layout_of base row.spid) (layout_slice db row))
 
--- the packets of fixed layout whose layouts the base lacks, or has of other rows or type items
-abbrev pub new_layouts : Database → Database → List PidRow
-new_layouts base db = filter (is_new base db) db.pid
+-- the SPIDs of the layouts that the base lacks, or has of other rows or type items, in order
+abbrev pub new_layouts : Database → Database → List ℕ
+new_layouts base db = sorted_by_number (λ spid. spid) (map (λ row. row.spid) (filter (is_new base db) db.pid))
 
 -- the SPID of a packet of fixed layout
 abbrev pub laid_out : PidRow → Option ℕ

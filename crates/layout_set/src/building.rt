@@ -1,9 +1,9 @@
 // Layouts that are made one after the other.
-ghost use Rattle.std.specs.Prelude.{◌≡◌, ◌+◌, ◌<◌, ◌≤◌, ℕ, not, Some, None, IfOk, OnOk, filter, length, if◌then◌else◌};
+ghost use Rattle.std.specs.Prelude.{◌≡◌, ◌+◌, ◌++◌, ℕ, not, Some, None, IfOk, OnOk, filter, length, if◌then◌else◌};
 ghost use Rattle.std.specs.Arc.{arc_value};
 ghost use Rattle.std.specs.Option.{option_or};
 ghost use Rattle.edition_plans.specs.Layouts.{is_layout_row, layout_of, layout_slice};
-ghost use Rattle.layout_set.specs.Building.{AreApart, found_among, layout_at, one_if};
+ghost use Rattle.layout_set.specs.Building.{AreApart, found_among, layout_at, new_among, one_if, spid_if};
 ghost use Rattle.layout_set.specs.Sets.{has_same, is_new};
 
 use crate::before::Before;
@@ -22,11 +22,11 @@ struct Plan {
     is_new: bool,
 }
 
-/// Layouts by SPID, and how many of them were compiled, not shared.
+/// Layouts by SPID, and the SPIDs of those that were compiled, not shared.
 #[derive(Drop)]
 pub struct Building {
     pub layouts: HashMap<u32, Arc<Layout>>,
-    pub compiled: u32,
+    pub compiled: Vec<u32>,
 }
 
 // The layout of a packet: that of the base where it is of the same rows and type items.
@@ -66,11 +66,10 @@ impl Building {
         row: &PidRow,
         steps: &mut Steps<L>,
     ) -> Result<(), AllocError>
-        requires room { self.old.compiled < u32.MAX }
         requires fresh { layout_at self.old.layouts row.now.spid ≡ None }
         ensures layouts { OnOk result ((spid : ℕ) → layout_at self.new.layouts spid ≡ option_or (layout_at self.old.layouts spid)
             (if is_layout_row spid row.now then Some (layout_slice new.now row.now) else None)) }
-        ensures compiled { OnOk result (self.new.compiled ≡ self.old.compiled + one_if (is_new before.now new.now row.now)) }
+        ensures compiled { OnOk result (self.new.compiled.items ≡ self.old.compiled.items ++ spid_if (is_new before.now new.now row.now) row.now) }
         ensures steps { OnOk result (steps.new ≡ steps.old + one_if (is_new before.now new.now row.now)) }
     {
         if !row.has_layout() {
@@ -78,7 +77,9 @@ impl Building {
         }
         let plan = plan_for(alloc, before, new, row, steps)?;
         self.layouts.insert(row.spid, plan.layout)?;
-        self.compiled += u32::from(plan.is_new);
+        if plan.is_new {
+            self.compiled.push(row.spid)?;
+        }
         Ok(())
     }
 }
@@ -92,16 +93,14 @@ pub fn build<L: Ledger>(
     rows: &[PidRow],
     steps: &mut Steps<L>,
 ) -> Result<Building, AllocError>
-    requires few { length rows.now ≤ u32.MAX }
-    requires apart { AreApart rows.now }
+    requires { AreApart rows.now }
     ensures layouts { IfOk result (λ building. (spid : ℕ) → layout_at building.layouts spid ≡ found_among new.now rows.now spid) }
-    ensures few { IfOk result (λ building. building.compiled ≤ length rows.now) }
-    ensures compiled { IfOk result (λ building. building.compiled ≡ length (filter (is_new before.now new.now) rows.now)) }
+    ensures compiled { IfOk result (λ building. building.compiled.items ≡ new_among before.now new.now rows.now) }
     ensures steps { OnOk result (steps.new ≡ steps.old + length (filter (is_new before.now new.now) rows.now)) }
 {
     let mut building = Building {
         layouts: HashMap::new(alloc),
-        compiled: 0,
+        compiled: Vec::new(alloc),
     };
     for row in rows {
         building.note(alloc, before, new, row, steps)?;

@@ -1,4 +1,4 @@
-//! The fixed layouts of a book, compiled, each found by its SPID in one probe.
+//! The fixed layouts of a book, compiled, each found by its SPID in one probe at most.
 //!
 //! A `LayoutSet` is seen by contracts as the database whose layouts it has. It is made beside a base: a layout that the
 //! base has of the same rows and type items is shared with it, and each other one is compiled, in one step. It rests on
@@ -9,6 +9,8 @@
 mod alike;
 mod before;
 mod building;
+mod layouts;
+mod order;
 mod places;
 mod set;
 mod sources;

@@ -10,12 +10,13 @@ ghost use Rattle.mib_model.specs.declared.limits.TheConstants.{HELD_MOST};
 use crate::alike::are_laid_alike;
 use crate::before::Before;
 use crate::building::{Building, build};
+use crate::layouts::Layouts;
+use crate::order::in_order;
 use crate::sources::Sources;
 use layout_plan::Layout;
 use mib_model::Steps;
 use mib_tables::Book;
 use std::alloc::{AllocError, Global};
-use std::collections::HashMap;
 use std::marker::Model;
 use std::snapshot::Snapshot;
 use std::sync::Arc;
@@ -23,7 +24,7 @@ use std::sync::ledger::Ledger;
 
 /// The fixed layouts of a database, compiled. Contracts see the database.
 pub struct LayoutSet {
-    layouts: Arc<HashMap<u32, Arc<Layout>>>,
+    layouts: Arc<Layouts>,
     book: Snapshot<Book>,
 }
 
@@ -42,20 +43,22 @@ impl Model for LayoutSet {
     ghost use Rattle.std.specs.Arc.{arc_value};
     ghost use Rattle.edition_plans.specs.Layouts.{layout_of};
     ghost use Rattle.layout_set.specs.Building.{layout_at};
+    ghost use Rattle.layout_set.specs.Kept.{AreLayoutsOf};
     ghost use Rattle.mib_model.specs.declared.database.Database.{Database};
 
     ghost Value = { Database };
 
     ghost view = { λ set. set.book.value };
 
-    ghost invariant = { λ set. (spid : ℕ) → layout_at (arc_value set.layouts) spid ≡ layout_of set.book.value spid };
+    ghost invariant = { λ set. ((spid : ℕ) → layout_at (arc_value set.layouts).map spid ≡ layout_of set.book.value spid)
+        × AreLayoutsOf (arc_value set.layouts).map (arc_value set.layouts).near };
 }
 
-/// A set, and how many of its layouts were compiled for it, not shared.
+/// A set, and the SPIDs of its layouts that were compiled for it, not shared, in order.
 #[derive(Drop)]
 pub struct Made {
     pub set: LayoutSet,
-    pub compiled: u32,
+    pub compiled: Vec<u32>,
 }
 
 impl LayoutSet {
@@ -65,7 +68,7 @@ impl LayoutSet {
         ensures { IfOk result (λ set. set ≡ no_rows) }
     {
         Ok(LayoutSet {
-            layouts: Arc::new(alloc, HashMap::new(alloc))?,
+            layouts: Arc::new(alloc, Layouts::none(alloc))?,
             book: Snapshot::of(&Book::empty(alloc)),
         })
     }
@@ -83,16 +86,16 @@ impl LayoutSet {
 
     /// The set of a sound book that has the packets, places and type items of this one: all layouts are shared. An error is
     /// want of memory.
-    pub fn kept(&self, book: &Book) -> Result<Made, AllocError>
+    pub fn kept(&self, alloc: Global, book: &Book) -> Result<Made, AllocError>
         requires alike { AreLaidAlike self.now book.now }
         requires sound { IsSound book.now }
         ensures set { IfOk result (λ made. made.set ≡ book.now) }
-        ensures compiled { IfOk result (λ made. made.compiled ≡ length (new_layouts self.now book.now)) }
-        ensures few { IfOk result (λ made. made.compiled ≤ HELD_MOST) }
+        ensures compiled { IfOk result (λ made. made.compiled.items ≡ new_layouts self.now book.now) }
+        ensures few { IfOk result (λ made. length made.compiled.items ≤ HELD_MOST) }
     {
         Ok(Made {
             set: self.taken_over(book)?,
-            compiled: 0,
+            compiled: Vec::new(alloc),
         })
     }
 
@@ -107,13 +110,15 @@ impl LayoutSet {
         requires base { base.now ≡ old.now }
         requires sound { IsSound book.now }
         ensures set { IfOk result (λ made. made.set ≡ book.now) }
-        ensures compiled { IfOk result (λ made. made.compiled ≡ length (new_layouts base.now book.now)) }
-        ensures few { IfOk result (λ made. made.compiled ≤ HELD_MOST) }
+        ensures compiled { IfOk result (λ made. made.compiled.items ≡ new_layouts base.now book.now) }
+        ensures few { IfOk result (λ made. length made.compiled.items ≤ HELD_MOST) }
         ensures steps { OnOk result (steps.new ≡ steps.old + length (new_layouts base.now book.now)) }
     {
         let before = Before::new(alloc, base, old)?;
         let new = Sources::new(alloc, book)?;
         let Building { layouts, compiled } = build(alloc, &before, &new, book.pid(), steps)?;
+        let compiled = in_order(compiled)?;
+        let layouts = Layouts::of(alloc, layouts, book.pid())?;
         let set = LayoutSet {
             layouts: Arc::new(alloc, layouts)?,
             book: Snapshot::of(book),
@@ -134,27 +139,29 @@ impl LayoutSet {
         requires base { base.now ≡ old.now }
         requires sound { IsSound book.now }
         ensures set { IfOk result (λ made. made.set ≡ book.now) }
-        ensures compiled { IfOk result (λ made. made.compiled ≡ length (new_layouts base.now book.now)) }
-        ensures few { IfOk result (λ made. made.compiled ≤ HELD_MOST) }
+        ensures compiled { IfOk result (λ made. made.compiled.items ≡ new_layouts base.now book.now) }
+        ensures few { IfOk result (λ made. length made.compiled.items ≤ HELD_MOST) }
         ensures steps { OnOk result (steps.new ≡ steps.old + length (new_layouts base.now book.now)) }
     {
         if are_laid_alike(old, book) {
             return Ok(Made {
                 set: base.taken_over(book)?,
-                compiled: 0,
+                compiled: Vec::new(alloc),
             });
         }
         LayoutSet::beside(alloc, base, old, book, steps)
     }
 
     /// The layout of a SPID, which others may share.
+    #[inline]
     pub fn handle(&self, spid: u32) -> Option<&Arc<Layout>>
         ensures { option_map arc_value (option_copied result) ≡ layout_of self.now spid }
     {
-        self.layouts.get(&spid)
+        self.layouts.get(spid)
     }
 
-    /// The layout of a SPID, in one probe: none exactly where no packet of that SPID has a fixed layout.
+    /// The layout of a SPID, in one probe at most: none exactly where no packet of that SPID has a fixed layout.
+    #[inline]
     pub fn layout(&self, spid: u32) -> Option<&Layout>
         ensures rows { option_copied result ≡ layout_of self.now spid }
     {

@@ -6,7 +6,8 @@ use Rattle.std.proofs.MapsCrossing.{crosses as map_crosses}
 use Rattle.decode_session.proofs.SharedPlans.{ident-send, ident-sync, params-send, params-sync}
 use Rattle.edition.specs.contracts.compiled.Compiled as Compiled
 use Rattle.edition.specs.contracts.edition.Edition as Edition
-use Rattle.edition.specs.contracts.sets.PlanSets as PlanSets
+use Rattle.edition_diff.specs.contracts.keyed.KeyedPlans as KeyedPlans
+use Rattle.edition_diff.specs.contracts.plan_sets.PlanSets as PlanSets
 use Rattle.layout_plan.specs.contracts.layout.Layout as Layout
 use Rattle.layout_set.specs.contracts.set.LayoutSet as LayoutSet
 use Rattle.mib_model.specs.contracts.rows.CafRow as CafRow
@@ -123,17 +124,23 @@ layouts-send = search (layout-sync, layout-send, map_crosses, crosses, sendable)
 structures-send : IsSend StructureSet.the_row
 structures-send = search (structure-sync, structure-send, map_crosses, crosses, sendable) depth 60 fits 20000
 
+keyed-sync : IsSync KeyedPlans.the_row
+keyed-sync = search (params-sync, layouts-sync, structures-sync, crosses, sendable) depth 60 fits 20000
+
+keyed-send : IsSend KeyedPlans.the_row
+keyed-send = search (params-send, layouts-send, structures-send, crosses, sendable) depth 60 fits 20000
+
 sets-sync : IsSync PlanSets.the_row
-sets-sync = search (params-sync, layouts-sync, structures-sync, crosses, sendable) depth 60 fits 20000
+sets-sync = search (ident-sync, ident-send, keyed-sync, crosses, sendable) depth 60 fits 20000
 
 sets-send : IsSend PlanSets.the_row
-sets-send = search (params-send, layouts-send, structures-send, crosses, sendable) depth 60 fits 20000
+sets-send = search (ident-sync, ident-send, keyed-send, crosses, sendable) depth 60 fits 20000
 
 pub edition-sync : IsSync Edition.the_row
-edition-sync = search (ident-sync, ident-send, sets-sync, book-sync, map_crosses, crosses, sendable) depth 60 fits 20000
+edition-sync = search (sets-sync, book-sync, map_crosses, crosses, sendable) depth 60 fits 20000
 
 pub edition-send : IsSend Edition.the_row
-edition-send = search (ident-sync, ident-send, sets-send, book-send, map_crosses, crosses, sendable) depth 60 fits 20000
+edition-send = search (sets-send, book-send, map_crosses, crosses, sendable) depth 60 fits 20000
 
 pub compiled-sync : IsSync Compiled.the_row
-compiled-sync = search (ident-sync, ident-send, sets-sync, map_crosses, crosses, sendable) depth 60 fits 20000
+compiled-sync = search (sets-sync, map_crosses, crosses, sendable) depth 60 fits 20000

@@ -2,7 +2,7 @@
 ghost use Rattle.std.specs.Prelude.{◌≡◌, ◌≢◌, ◌<◌, ◌≤◌, [], Err, false, vec_len, vec_capacity, IsTrue};
 ghost use Rattle.std.specs.Arc.{arc_value};
 ghost use Rattle.decode_session.specs.Causes.{HasOutCause};
-ghost use Rattle.decode_session.specs.Run.{most_in_flight, most_packets};
+ghost use Rattle.decode_session.specs.Run.{most_packets};
 ghost use Rattle.edition_plans.specs.Params.{param_slices};
 ghost use Rattle.edition_register.specs.Seats.{IsSeat, first_of};
 ghost use Rattle.fold_state.specs.Boards.{memory_of, plan_names};
@@ -54,10 +54,9 @@ fn take_batches<R: Threads + Wait + Sync, S: Source, O: Sink>(
     requires unused { own_moves seat.old ≡ [] }
     requires course { course_of in_use.old stock.old.board ≡ start (first_of register.now) }
     requires names { stock.old.board.names ≡ plan_names (param_slices (arc_value in_use.old.handle)) }
-    requires free { vec_len stock.old.rooms ≡ most_in_flight }
-    requires rooms { most_in_flight ≤ vec_capacity stock.old.rooms }
+    requires some { 0 < vec_len stock.old.rooms }
     requires empty { stock.old.cells.items ≡ [] }
-    requires cells { most_in_flight ≤ vec_capacity stock.old.cells }
+    requires cells { vec_len stock.old.rooms ≤ vec_capacity stock.old.cells }
     ensures seat { IsSeat 0 register.now seat.new }
     ensures seen { StartsWith (seen_by seat.new) (seen_by seat.old) }
     ensures intakes { let first = first_of register.now in
@@ -120,8 +119,8 @@ fn take_batches<R: Threads + Wait + Sync, S: Source, O: Sink>(
 }
 
 /// Takes in the packets of a source: each is stamped as soon as it is read, and its record is written by the tables of its
-/// edition, in the order of the stamps. It reads at most 64 packets ahead of what it has written, hands on what it wrote before
-/// it may wait for the source, and at its end. It takes no memory.
+/// edition, in the order of the stamps. It reads at most as many packets ahead of what it has written as there are rooms, hands
+/// on what it wrote before it may wait for the source, and at its end. It takes no memory.
 #[tactic(auto, using(crate::proofs::EndFacts::unflushed))]
 pub fn take_in<R: Threads + Wait + Sync, S: Source, O: Sink>(
     rt: &R,
@@ -138,10 +137,9 @@ pub fn take_in<R: Threads + Wait + Sync, S: Source, O: Sink>(
     requires unused { own_moves seat.old ≡ [] }
     requires course { course_of in_use.old stock.old.board ≡ start (first_of register.now) }
     requires names { stock.old.board.names ≡ plan_names (param_slices (arc_value in_use.old.handle)) }
-    requires free { vec_len stock.old.rooms ≡ most_in_flight }
-    requires rooms { most_in_flight ≤ vec_capacity stock.old.rooms }
+    requires some { 0 < vec_len stock.old.rooms }
     requires empty { stock.old.cells.items ≡ [] }
-    requires cells { most_in_flight ≤ vec_capacity stock.old.cells }
+    requires cells { vec_len stock.old.rooms ≤ vec_capacity stock.old.cells }
     ensures seat { IsSeat 0 register.now seat.new }
     ensures seen { StartsWith (seen_by seat.new) (seen_by seat.old) }
     ensures intakes { let first = first_of register.now in

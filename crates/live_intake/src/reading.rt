@@ -2,7 +2,7 @@
 ghost use Rattle.std.specs.Prelude.{◌≡◌, ◌<◌, ◌≤◌, ◌+◌, false, length, vec_len, vec_capacity, IsTrue, IfOk, IfErr, OnOk};
 ghost use Rattle.decode_session.specs.Batches.{EndsFeed};
 ghost use Rattle.decode_session.specs.Causes.{HasFillCause};
-ghost use Rattle.decode_session.specs.Run.{most_packets, most_in_flight};
+ghost use Rattle.decode_session.specs.Run.{most_packets};
 ghost use Rattle.edition_register.specs.Seats.{IsSeat, first_of};
 ghost use Rattle.edition_register.specs.Shown.{last_stamped};
 ghost use Rattle.histories.specs.History.{StartsWith};
@@ -107,9 +107,8 @@ pub(crate) fn fill<R: Wait, S: Source>(
     requires number { number.old ≡ length (own_moves seat.old) + 1 }
     requires limit { number.old ≤ most_packets + 1 }
     requires some { vec_len cells.old ≡ 0 → number.old ≤ most_packets }
-    requires free { vec_len rooms.old + vec_len cells.old ≡ most_in_flight }
-    requires rooms { most_in_flight ≤ vec_capacity rooms.old }
-    requires cells { most_in_flight ≤ vec_capacity cells.old }
+    requires free { 0 < vec_len rooms.old + vec_len cells.old }
+    requires cells { vec_len rooms.old + vec_len cells.old ≤ vec_capacity cells.old }
     ensures seat { IsSeat 0 register.now seat.new }
     ensures seen { StartsWith (seen_by seat.new) (seen_by seat.old) }
     ensures fills { let last = last_stamped (1, first_of register.now) (own_moves seat.old) in
@@ -117,9 +116,9 @@ pub(crate) fn fill<R: Wait, S: Source>(
     ensures cause { HasReadingCause result (S.faults (source_of feed.old)) (S.faults (source_of feed.new)) }
     ensures number { number.new ≡ length (own_moves seat.new) + 1 }
     ensures limit { number.new ≤ most_packets + 1 }
-    ensures free { vec_len rooms.new + vec_len cells.new + held_by result ≡ most_in_flight }
-    ensures rooms { most_in_flight ≤ vec_capacity rooms.new }
-    ensures cells { most_in_flight ≤ vec_capacity cells.new }
+    ensures free { vec_len rooms.new + vec_len cells.new + held_by result ≡ vec_len rooms.old + vec_len cells.old }
+    ensures rooms { vec_capacity rooms.old ≤ vec_capacity rooms.new }
+    ensures cells { vec_capacity cells.old ≤ vec_capacity cells.new }
     ensures missed { S.missed (source_of feed.new) ≡ S.missed (source_of feed.old) }
     ensures borrow { S.borrow (source_of feed.new) ≡ S.borrow (source_of feed.old) }
 {

@@ -1,5 +1,5 @@
 -- What an intake begins with. [This profile.]
-use Rattle.std.specs.Prelude.{◌≡◌, ◌≤◌, [], vec_len, vec_capacity}
+use Rattle.std.specs.Prelude.{◌≡◌, ◌<◌, ◌≤◌, [], vec_len, vec_capacity}
 use Rattle.std.specs.Arc.{arc_value}
 use Rattle.decode_session.specs.declared.stock.Stock.{Stock}
 use Rattle.decode_session.specs.Run.{most_in_flight}
@@ -10,11 +10,12 @@ use Rattle.live_intake.specs.Opening.{course_of}
 use Rattle.mib_model.specs.declared.database.Database.{Database}
 use Rattle.mib_model.specs.Interpreter.{start}
 
--- it stands at the start with the first edition in use and a board for it, all rooms are free, and there are places for a batch
+-- it stands at the start with the first edition in use and a board for it; some rooms are free, not more than packets may be in flight,
+-- and there is a place for each
 pub record IsFresh (first : Database) (in_use : InUse) (stock : Stock) : Type 0 where
   pub course : course_of in_use stock.board ≡ start first
   pub names : stock.board.names ≡ plan_names (param_slices (arc_value in_use.handle))
-  pub free : vec_len stock.rooms ≡ most_in_flight
-  pub rooms : most_in_flight ≤ vec_capacity stock.rooms
+  pub some : 0 < vec_len stock.rooms
+  pub few : vec_len stock.rooms ≤ most_in_flight
   pub empty : stock.cells.items ≡ []
-  pub cells : most_in_flight ≤ vec_capacity stock.cells
+  pub cells : vec_len stock.rooms ≤ vec_capacity stock.cells

@@ -7,7 +7,7 @@ ghost use Rattle.mib_model.specs.Desk.{desk_start};
 ghost use Rattle.turn_cell.specs.Seats.{own_moves};
 
 use crate::sides::IntakeSide;
-use decode_session::{Home, Stock};
+use decode_session::{Home, Stock, rooms_for};
 use desk::Desk;
 use edition::Edition;
 use edition_register::{Editions, Register};
@@ -36,8 +36,9 @@ pub(crate) fn open(alloc: Global, first: Edition, workers: u8) -> Result<Opened,
     ensures draft { IfOk result (λ opened. desk_of opened.desk ≡ desk_start first) }
     ensures editions { IfOk result (λ opened. editions_of opened.desk ≡ first ∷ []) }
 {
-    let mut home = Home::new(alloc)?;
-    let stock = Stock::new(alloc, &first, &mut home)?;
+    let rooms = rooms_for(workers);
+    let mut home = Home::with_rooms(alloc, rooms)?;
+    let stock = Stock::with_rooms(alloc, &first, &mut home, rooms)?;
     let handle = Arc::new(alloc, first)?;
     let desk = Desk::new(alloc, Arc::try_clone(&handle)?)?;
     let (register, intake, seat) = Register::new(alloc, Arc::try_clone(&handle)?)?;

@@ -7,7 +7,8 @@ ghost use Rattle.std.specs.Str.{bytes_eq};
 ghost use Rattle.std.proofs.Common.{rules};
 ghost use Rattle.mib_model.specs.Hashes.{hashed, hashed_alike};
 ghost use Rattle.mib_model.specs.Names.{is_name, is_visible, name_of, text_of};
-ghost use Rattle.mib_model.specs.declared.limits.TheConstants.{TEXT_SIZE};
+ghost use Rattle.mib_model.specs.OctetsLayout.{padded};
+ghost use Rattle.mib_model.specs.declared.limits.TheConstants.{NAME_SIZE, TEXT_SIZE};
 
 use crate::limits::{NAME_SIZE, TEXT_SIZE};
 use crate::octets::Octets;
@@ -61,6 +62,13 @@ impl Name {
         ensures name { is_name result.now ≡ true }
     {
         self.octets.bytes()
+    }
+
+    /// Its octets, and zeros behind them.
+    pub fn room(&self) -> &[u8; NAME_SIZE]
+        ensures { result.now ≡ padded NAME_SIZE self.now }
+    {
+        self.octets.room()
     }
 }
 

@@ -2,6 +2,7 @@ ghost use Rattle.std.specs.Prelude.{◌≡◌, ◌≤◌, length};
 ghost use Rattle.std.specs.Cmp.{partial_equiv_from_equiv};
 ghost use Rattle.std.specs.Cmp.Lexicographic.{nat_list_eq_equiv};
 ghost use Rattle.std.specs.Str.{bytes_eq};
+ghost use Rattle.mib_model.specs.OctetsLayout.{padded};
 
 use crate::words::are_alike;
 use std::marker::Model;
@@ -49,6 +50,13 @@ impl<const N: usize> Octets<N> {
         ensures fits { length result.now ≤ N }
     {
         &self.room[..usize::from(self.used)]
+    }
+
+    /// The octets, and zeros behind them.
+    pub fn room(&self) -> &[u8; N]
+        ensures { result.now ≡ padded N self.now }
+    {
+        &self.room
     }
 }
 

@@ -36,11 +36,12 @@ pub enum Endian {
 }
 
 /// What the bits of a parameter's values are: a sort, a width in bits and an order of octets, as the table of
-/// types has them (`encoding_of`). Contracts see the three as an `Encoding`.
+/// types has them (`encoding_of`). The width lies first, so that a value with its shape has 64 octets. Contracts see the three
+/// as an `Encoding`.
 #[derive(Clone, Copy)]
 pub struct Shape {
-    sort: Sort,
     width: u16,
+    sort: Sort,
     order: Order,
 }
 

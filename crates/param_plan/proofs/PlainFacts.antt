@@ -1,7 +1,7 @@
 -- What holds of a plan that is plain.
 use Rattle.std.proofs.Common.{◌≡◌, ◌∙◌, ℕ, ◌<◌, Bool, true, false, ◌&&◌, ◌==◌, not, List, [], ◌∷◌, Option, Some, None, option_and_then, find, map, get_or, length, refl, sym, ap, arith, Global}
 use Rattle.std.proofs.lemmas.Bool.Decides.{nat_tests}
-use Rattle.std.proofs.lemmas.List.{get_or-map, length-map}
+use Rattle.std.proofs.lemmas.List.{get_or-map, get_or_default}
 use Rattle.std.specs.Arc.{arc_value}
 use Rattle.std.specs.declared.sync.Arc.{Arc}
 use Rattle.std.specs.Option.{is_some}
@@ -9,7 +9,7 @@ use Rattle.mib_model.specs.declared.plan.CurveRows.{CurveRows}
 use Rattle.mib_model.specs.Kept.{Memory}
 use Rattle.param_plan.specs.declared.choice.Selection.{Selection}
 use Rattle.param_plan.specs.Choices.{is_met, only_curve, selections_in}
-use Rattle.param_plan.specs.Plain.{is_plain, plain_behind}
+use Rattle.param_plan.specs.Plain.{has_no_curve, is_plain, plain_at, plain_behind}
 use Rattle.param_plan.specs.Slices.{ParamSlice, curve_in}
 use Rattle.param_plan.proofs.ChoiceFacts.{chosen-same}
 
@@ -26,28 +26,34 @@ no-items : {A : Type 0} (xs : List A) → (length xs == 0) ≡ true → xs ≡ [
 no-items [] h = refl
 no-items (x ∷ xs) h = absurd (grind (arith, nat_tests, h))
 
--- what a plan that is plain has none of, in the order of its tests
-parts : (s : ParamSlice) → is_plain s ≡ true
-    → (((not (is_some s.pcf.valid) ≡ true) × (not (is_some (only_curve s.pcf.curtx s.curves)) ≡ true)) × ((length (selections_in s.pcf.curtx s.curs s.curves) == 0) ≡ true)) × (not (is_some s.ocf) ≡ true)
+-- what a plan that is plain has none of: no condition, no curve by CURTX, no selection, no check
+record Parts (s : ParamSlice) : Type 0 where
+  condition : not (is_some s.pcf.valid) ≡ true
+  only : not (is_some (only_curve s.pcf.curtx s.curves)) ≡ true
+  selections : (length (selections_in s.pcf.curtx s.curs s.curves) == 0) ≡ true
+  check : not (is_some s.ocf) ≡ true
+
+parts : (s : ParamSlice) → is_plain s ≡ true → Parts s
 unfolding is_plain
 parts s plain =
-    let last = both ((not (is_some s.pcf.valid) && not (is_some (only_curve s.pcf.curtx s.curves))) && length (selections_in s.pcf.curtx s.curs s.curves) == 0) (not (is_some s.ocf)) plain in
-    let third = both (not (is_some s.pcf.valid) && not (is_some (only_curve s.pcf.curtx s.curves))) (length (selections_in s.pcf.curtx s.curs s.curves) == 0) last.0 in
-    ((both (not (is_some s.pcf.valid)) (not (is_some (only_curve s.pcf.curtx s.curves))) third.0, third.1), last.1)
+    let last = both (not (is_some s.pcf.valid) && has_no_curve s) (not (is_some s.ocf)) plain in
+    let front = both (not (is_some s.pcf.valid)) (has_no_curve s) last.0 in
+    let curves = both (not (is_some (only_curve s.pcf.curtx s.curves))) (length (selections_in s.pcf.curtx s.curs s.curves) == 0) front.1 in
+    record { condition = front.0; only = curves.0; selections = curves.1; check = last.1 }
 
 -- it has no condition
 pub plain-valid : (s : ParamSlice) → is_plain s ≡ true → s.pcf.valid ≡ None
-plain-valid s plain = nothing s.pcf.valid (parts s plain).0.0.0
+plain-valid s plain = nothing s.pcf.valid (parts s plain).condition
 
 -- it has no check
 pub plain-ocf : (s : ParamSlice) → is_plain s ≡ true → s.ocf ≡ None
-plain-ocf s plain = nothing s.ocf (parts s plain).1
+plain-ocf s plain = nothing s.ocf (parts s plain).check
 
 -- it has no curve
 pub plain-curve : (s : ParamSlice) → is_plain s ≡ true → (memory : Memory) → curve_in s memory ≡ None
 plain-curve s plain memory =
-    let only = nothing (only_curve s.pcf.curtx s.curves) (parts s plain).0.0.1 in
-    let none = no-items (selections_in s.pcf.curtx s.curs s.curves) (parts s plain).0.1 in
+    let only = nothing (only_curve s.pcf.curtx s.curves) (parts s plain).only in
+    let none = no-items (selections_in s.pcf.curtx s.curs s.curves) (parts s plain).selections in
     let chosen : List Selection → Option CurveRows = λ selections. option_and_then (λ selection. selection.choice) (find (is_met memory) selections) in
     sym (chosen-same memory s.pcf.curtx s.curs s.curves only) ∙ ap chosen none
 
@@ -55,13 +61,19 @@ map-again : {X Y Z : Type 0} (f : X → Y) (g : Y → Z) (xs : List X) → map (
 map-again f g [] = refl
 map-again f g (x ∷ xs) = ap (λ zs. g (f x) ∷ zs) (map-again f g xs)
 
--- a plan that is marked so is plain
-pub marked-plain : (plans : List (Arc ParamSlice Global)) (marks : List Bool) (params : List ParamSlice) (at : ℕ) (mark : Bool) (s : ParamSlice)
-    → marks ≡ map plain_behind plans → map arc_value plans ≡ params → at < length marks → mark ≡ get_or marks at mark → mark ≡ true
-    → is_plain (get_or params at s) ≡ true
-marked-plain plans marks params at mark s made seen below is marked =
-    let all : marks ≡ map is_plain params = made ∙ (map-again arc_value is_plain plans ∙ ap (λ (slices : List ParamSlice). map is_plain slices) seen) in
-    let long : length (map is_plain params) ≡ length params = simp length-map in
-    let same = ap (λ (marks : List Bool). length marks) all in
-    let within : at < length params = omega (arith, below, long, same) in
-    sym (get_or-map is_plain params at s mark within) ∙ (sym (ap (λ (marks : List Bool). get_or marks at mark) all) ∙ (sym is ∙ marked))
+-- marks beside plans are those of their slices
+pub marks-same : (plans : List (Arc ParamSlice Global)) (params : List ParamSlice) → map arc_value plans ≡ params
+    → map plain_behind plans ≡ map is_plain params
+marks-same plans params seen = map-again arc_value is_plain plans ∙ ap (λ (slices : List ParamSlice). map is_plain slices) seen
+
+-- the mark at a place says whether the plan there is plain
+pub mark-at : (marks : List Bool) (params : List ParamSlice) (at : ℕ) (mark : Bool) → marks ≡ map is_plain params → at < length marks
+    → mark ≡ get_or marks at mark → mark ≡ plain_at params at
+mark-at marks params at mark same below is =
+    is ∙ (get_or_default marks at mark false below ∙ ap (λ (marks : List Bool). get_or marks at false) same)
+
+-- the plan at a place is plain by its own slice
+pub plan-at : (plans : List (Arc ParamSlice Global)) (params : List ParamSlice) (at : ℕ) (plan : Arc ParamSlice Global) → map arc_value plans ≡ params
+    → at < length plans → plan ≡ get_or plans at plan → is_plain (arc_value plan) ≡ plain_at params at
+plan-at plans params at plan seen below is =
+    ap plain_behind is ∙ (sym (get_or-map plain_behind plans at plan false below) ∙ ap (λ (marks : List Bool). get_or marks at false) (marks-same plans params seen))

@@ -9,7 +9,8 @@ use Rattle.param_plan.specs.Slices.{ParamSlice, checks_in}
 
 -- whether VALID names a parameter, the decimals, whether there are no selections, the curve of CURTX, those of selections, and the checks, of a
 -- parameter's rows
-pub record ArePartsOf (s : ParamSlice) (conditional : Bool) (decim : ℕ) (without : Bool) (only : Option CurveRows) (selections : List Selection) (checks : Option CheckRows) : Type 0 where
+pub record ArePartsOf (s : ParamSlice) (conditional : Bool) (decim : ℕ) (without : Bool) (only : Option CurveRows)
+    (selections : List Selection) (checks : Option CheckRows) : Type 0 where
   pub valid : conditional ≡ is_some s.pcf.valid
   pub decimals : decim ≡ s.pcf.decim
   pub none : without ≡ true → selections ≡ []

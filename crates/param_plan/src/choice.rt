@@ -44,20 +44,14 @@ impl Choice {
     pub fn is_some(&self) -> bool
         ensures { result ≡ is_some self.now }
     {
-        match &self.curve {
-            Some(_) => true,
-            None => false,
-        }
+        self.curve.is_some()
     }
 
     /// The curve.
     pub fn curve(&self) -> Option<&Curve>
         ensures { option_copied result ≡ self.now }
     {
-        match &self.curve {
-            Some(curve) => Some(curve),
-            None => None,
-        }
+        self.curve.as_ref().map(|curve| &**curve)
     }
 }
 

@@ -1,11 +1,10 @@
-ghost use Rattle.std.specs.Prelude.{◌≡◌, map, get_or, true, IfOk, IsTrue};
+ghost use Rattle.std.specs.Prelude.{◌≡◌, map, IfOk};
 ghost use Rattle.std.specs.Arc.{arc_value};
 ghost use Rattle.std.specs.List.{find};
 ghost use Rattle.std.specs.Option.{option_copied};
 ghost use Rattle.std.specs.Str.{bytes_eq};
 ghost use Rattle.param_plan.specs.Names.{Ascend};
-ghost use Rattle.param_plan.specs.Plain.{is_plain, plain_behind};
-ghost use Rattle.param_plan.specs.Slices.{ParamSlice};
+ghost use Rattle.param_plan.specs.Plain.{plain_at, plain_behind};
 
 use crate::param::Param;
 use mib_model::Name;
@@ -70,14 +69,21 @@ impl Params {
         &self.plans
     }
 
-    /// Whether the plan at a place is known to be plain: its parameter has no condition, no curve and no check.
+    // Whether the plan at a place is plain, by the plan itself.
+    fn is_plain_plan(&self, at: usize) -> bool
+        ensures { result ≡ plain_at self.now at }
+    {
+        at < self.plans.len() && self.plans[at].is_plain()
+    }
+
+    /// Whether there is a plan at a place, and it is plain: its parameter has no condition, no curve and no check.
     #[inline(always)]
     pub fn is_plain(&self, at: usize) -> bool
-        ensures { (slice : ParamSlice) → IsTrue result → is_plain (get_or self.now at slice) ≡ true }
+        ensures { result ≡ plain_at self.now at }
     {
         match &self.plain {
             Some(plain) => at < plain.len() && plain[at],
-            None => false,
+            None => self.is_plain_plan(at),
         }
     }
 

@@ -1,13 +1,15 @@
 -- Plans of parameters beside those of a base: what is kept is the same, and what differs is new.
-use Rattle.std.proofs.Common.{◌≡◌, ◌∙◌, ℕ, zero, suc, ◌<◌, ◌≤◌, Bool, true, false, ◌&&◌, ◌||◌, not, cond, if◌then◌else◌, ◌==◌, List, [], ◌∷◌, Option, Some, None, length, get_or, take, map, option_map, unwrap_or, filter, find, refl, sym, ap, subst, arith}
-use Rattle.std.proofs.lemmas.List.{get_or-map, length-map, take_all}
+use Rattle.std.proofs.Common.{◌≡◌, ◌∙◌, ℕ, zero, suc, ◌+◌, ◌<◌, ◌≤◌, Bool, true, false, ◌||◌, not, cond, if◌then◌else◌, ◌==◌, List, [], ◌∷◌, ◌++◌, Option, Some, None, length, get_or, take, map, option_map, unwrap_or, filter, find, refl, sym, ap, subst, arith}
+use Rattle.std.proofs.lemmas.List.{get_or-map, length-append, length-map, map-append, take_all, take_more}
+use Rattle.std.proofs.lemmas.List.Elements.{filter-append}
+use Rattle.std.proofs.lemmas.List.Sums.{count_by-le-length, length-filter}
 use Rattle.std.specs.Cmp.{tied_itself}
 use Rattle.std.specs.Cmp.Lexicographic.{nat_list_cmp_total, pointwise}
 use Rattle.std.specs.List.{list_any}
 use Rattle.std.specs.Option.{option_eq, option_or}
 use Rattle.std.specs.Str.{bytes_eq}
 use Rattle.edition_plans.specs.Params.{param_slices}
-use Rattle.mib_model.specs.Carry.{check_of}
+use Rattle.fold_state.specs.Boards.{plan_names}
 use Rattle.mib_model.specs.Checks.{checks_of}
 use Rattle.mib_model.specs.Columns.{Column, Cells}
 use Rattle.mib_model.specs.Curves.{curve_named, selections}
@@ -31,21 +33,21 @@ use Rattle.mib_model.specs.Plans.{curve_names, curves_for, has_plan, may_precede
 use Rattle.mib_model.specs.Points.{first_of}
 use Rattle.mib_model.specs.RowTexts.{is_of_states}
 use Rattle.mib_model.specs.Sameness.{same_cells}
-use Rattle.mib_model.specs.SameRows.{same_cap, same_cur, same_ocf, same_ocp, same_pcf, same_txp}
+use Rattle.mib_model.specs.SameRows.{same_cap, same_cur, same_ocf, same_ocp, same_txp}
 use Rattle.mib_model.specs.TextTables.{cur, cur_cells, txf, txf_cells, txp, txp_cells}
 use Rattle.mib_model.specs.Touched.{same_curve, same_slice}
 use Rattle.param_plan.proofs.NameFacts.{named-found}
 use Rattle.param_plan.specs.Names.{Ascend}
 use Rattle.param_plan.specs.Slices.{ParamSlice, as_slice, slice_for}
-use Rattle.param_set.proofs.AlikeFacts.{found-own, name-now, once-alike, planned-now}
+use Rattle.param_set.proofs.AlikeFacts.{found-own, name-now, planned-now}
 use Rattle.param_set.proofs.CountFacts.{planned-most}
 use Rattle.param_set.proofs.NoteFacts.{any-images}
 use Rattle.param_set.proofs.PlanFacts.{find-first}
 use Rattle.param_set.proofs.UniqueFacts.{Once, named, named-planned, planned-once, planned_rows}
-use Rattle.param_set.specs.Beside.{AreAlike, HasRows, IsKeptBy, has_changed, has_changed_curve, is_other, now_of, row_now}
+use Rattle.param_set.specs.Beside.{AreAlike, HasRows, IsKeptBy, has_changed, has_changed_curve, is_other, now_of, one_if, row_now}
 use Rattle.param_set.specs.Changed.{AreChanged, AreCurvesKept, AreRowsKept, has_name, takes_any}
 use Rattle.param_set.specs.declared.changed.Changed.{Changed}
-use Rattle.param_set.specs.Sharing.{is_as_before, is_new}
+use Rattle.param_set.specs.Sharing.{is_as_before, is_new, name_if, new_names}
 use Rattle.row_laws.proofs.SameFacts.{same_values-Decides}
 
 -- ---- what is equal is the same
@@ -196,14 +198,17 @@ slices-now old new once alike = now-rows new old (planned_rows old) ∙ ap (map 
 
 -- ---- what is new
 
-counted : {X Y : Type 0} (f : X → Y) (p : Y → Bool) (q : X → Bool) (xs : List X) → ((i : ℕ) (x : X) → i < length xs → x ≡ get_or xs i x → p (f x) ≡ q x) → length (filter p (map f xs)) ≡ length (filter q xs)
-counted f p q [] same = refl
-counted {X} f p q (x ∷ xs) same = go (p (f x)) (q x) (same zero x (omega arith) refl) (counted f p q xs (λ i y below is. same (suc i) y (omega (arith, below)) is)) where
-  go : (b c : Bool) → b ≡ c → length (filter p (map f xs)) ≡ length (filter q xs) → length (cond b (f x ∷ filter p (map f xs)) (filter p (map f xs))) ≡ length (cond c (x ∷ filter q xs) (filter q xs))
-  go true true e others = ap suc others
-  go true false e others = absurd (cc e)
-  go false true e others = absurd (cc e)
-  go false false e others = others
+-- the names of images that pass
+named-images : {X Y N : Type 0} (f : X → Y) (p : Y → Bool) (q : X → Bool) (n : Y → N) (m : X → N) → ((x : X) → n (f x) ≡ m x) → (xs : List X)
+    → ((i : ℕ) (x : X) → i < length xs → x ≡ get_or xs i x → p (f x) ≡ q x) → map n (filter p (map f xs)) ≡ map m (filter q xs)
+named-images f p q n m names [] same = refl
+named-images {X} {Y} {N} f p q n m names (x ∷ xs) same =
+    go (p (f x)) (q x) (same zero x (omega arith) refl) (named-images f p q n m names xs (λ i y below is. same (suc i) y (omega (arith, below)) is)) where
+      go : (b c : Bool) → b ≡ c → map n (filter p (map f xs)) ≡ map m (filter q xs) → map n (cond b (f x ∷ filter p (map f xs)) (filter p (map f xs))) ≡ map m (cond c (x ∷ filter q xs) (filter q xs))
+      go true true e others = let first = names x in (λ i. first i ∷ others i)
+      go true false e others = absurd (cc e)
+      go false true e others = absurd (cc e)
+      go false false e others = others
 
 -- a slice among those that ascend by name is found by its name
 pub own-named : (slices : List ParamSlice) → Ascend slices → (i : ℕ) (slice : ParamSlice) → i < length slices → slice ≡ get_or slices i slice
@@ -211,12 +216,44 @@ pub own-named : (slices : List ParamSlice) → Ascend slices → (i : ℕ) (slic
 own-named slices ascend i slice below is =
     named-found (λ (s : ParamSlice). s.pcf.name) slice.pcf.name slices ascend i slice below (sym is) (tied_itself nat_list_cmp_total slice.pcf.name)
 
--- as many slices are new to slices that ascend by name as are other ones now
-pub new-others : (db : Database) (slices : List ParamSlice) → Ascend slices → length (filter (is_new slices) (map (now_of db) slices)) ≡ length (filter (is_other db) slices)
+-- the names of slices that are new to slices that ascend by name are those of the ones that are other ones now
+pub new-others : (db : Database) (slices : List ParamSlice) → Ascend slices → new_names slices (map (now_of db) slices) ≡ plan_names (filter (is_other db) slices)
 unfolding is_new
-new-others db slices ascend = counted (now_of db) (is_new slices) (is_other db) slices (λ i slice below is.
+new-others db slices ascend = named-images (now_of db) (is_new slices) (is_other db) (λ slice. slice.pcf.name) (λ slice. slice.pcf.name) (λ slice. name-now db slice.pcf) slices (λ i slice below is.
     ap (λ found. not (is_as_before (now_of db slice) found))
     (ap (λ (name : List ℕ). find (λ old. bytes_eq old.pcf.name name) slices) (name-now db slice.pcf) ∙ own-named slices ascend i slice below is))
+
+-- as many slices as names
+pub long-names : (slices : List ParamSlice) → length (plan_names slices) ≡ length slices
+long-names slices = length-map slices (λ (slice : ParamSlice). slice.pcf.name)
+
+-- as many slices are new to slices that ascend by name as are other ones now
+pub count-others : (db : Database) (slices : List ParamSlice) → Ascend slices → length (filter (is_new slices) (map (now_of db) slices)) ≡ length (filter (is_other db) slices)
+count-others db slices ascend =
+    sym (long-names (filter (is_new slices) (map (now_of db) slices))) ∙ ap length (new-others db slices ascend) ∙ long-names (filter (is_other db) slices)
+
+-- behind slices is one more: its name is behind those of the ones that pass
+pub names-more : (p : ParamSlice → Bool) (slices : List ParamSlice) (slice : ParamSlice) → plan_names (filter p (slices ++ slice ∷ [])) ≡ plan_names (filter p slices) ++ name_if (p slice) slice.pcf.name
+names-more p slices slice =
+    ap plan_names (filter-append p slices (slice ∷ [])) ∙ map-append (λ (s : ParamSlice). s.pcf.name) (filter p slices) (filter p (slice ∷ [])) ∙ ap (λ (names : List (List ℕ)). plan_names (filter p slices) ++ names) (one (p slice)) where
+      one : (b : Bool) → plan_names (cond b (slice ∷ []) []) ≡ name_if b slice.pcf.name
+      one true = refl
+      one false = refl
+
+-- behind slices is one more: it is counted where it passes
+pub count-more : (p : ParamSlice → Bool) (slices : List ParamSlice) (slice : ParamSlice) → length (filter p (slices ++ slice ∷ [])) ≡ length (filter p slices) + length (filter p (slice ∷ []))
+count-more p slices slice = ap length (filter-append p slices (slice ∷ [])) ∙ length-append (filter p slices) (filter p (slice ∷ []))
+
+-- of one slice
+pub count-one : (p : ParamSlice → Bool) (slice : ParamSlice) → length (filter p (slice ∷ [])) ≡ one_if (p slice)
+count-one p slice = go (p slice) where
+  go : (b : Bool) → length (cond b (slice ∷ []) []) ≡ one_if b
+  go true = refl
+  go false = refl
+
+-- no more names of new slices than slices
+pub few-new : (base slices : List ParamSlice) → length (new_names base slices) ≤ length slices
+few-new base slices = omega (arith, long-names (filter (is_new base) slices), length-filter (is_new base) slices, count_by-le-length (is_new base) slices)
 
 -- ---- slices behind handles
 
@@ -232,6 +269,10 @@ module _ {X Y : Type 0} (f : X → Y) (xs : List X) (ys : List Y) (are : map f x
   -- the images of all items
   pub images-all : (i : ℕ) → length xs ≤ i → map f (take i xs) ≡ ys
   images-all i all = ap (map f) (take_all i xs all) ∙ are
+
+-- the images of one item more
+pub images-more : {X Y : Type 0} (f : X → Y) (xs : List X) (i : ℕ) (x : X) → i < length xs → x ≡ get_or xs i x → map f (take (i + 1) xs) ≡ map f (take i xs) ++ f x ∷ []
+images-more {X} f xs i x below is = ap (map f) (take_more xs i x below ∙ ap (λ (y : X). take i xs ++ y ∷ []) (sym is)) ∙ map-append f (take i xs) (x ∷ [])
 
 -- no more slices than parameters
 pub few-slices : (db : Database) → length (param_slices db) ≤ length db.pcf

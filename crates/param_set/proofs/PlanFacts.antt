@@ -1,5 +1,5 @@
 -- The plans of all parameters, as boards and edits see them.
-use Rattle.std.proofs.Common.{◌≡◌, ◌∙◌, ℕ, suc, ◌≤◌, Bool, true, false, not, cond, List, [], ◌∷◌, ◌++◌, Option, Some, None, length, map, filter, find, option_map, option_and_then, refl, sym, ap, arith}
+use Rattle.std.proofs.Common.{◌≡◌, ◌∙◌, ℕ, ◌≤◌, Bool, true, false, not, cond, List, [], ◌∷◌, ◌++◌, Option, Some, None, length, map, filter, find, option_map, option_and_then, refl, sym, ap, arith}
 use Rattle.std.proofs.lemmas.List.Folds.{find-append}
 use Rattle.std.specs.Option.{option_or}
 use Rattle.std.specs.Str.{bytes_eq}
@@ -15,7 +15,7 @@ use Rattle.mib_model.specs.Plans.{distinct, has_plan, ident_plan, layout_plan, l
 use Rattle.mib_model.specs.Points.{first_of}
 use Rattle.mib_model.specs.Touched.{has_same_slice, is_touched, plan_named, same_plan_name}
 use Rattle.param_plan.proofs.PlanFacts.{find-map}
-use Rattle.param_plan.specs.Slices.{slice_for}
+use Rattle.param_plan.specs.Slices.{ParamSlice, slice_for}
 use Rattle.param_set.specs.Laws.{NewPlansAreTouched, SlicesAreOfTheDatabase, SlicesHavePlannedNames}
 use Rattle.param_set.specs.Sharing.{is_as_before, is_new}
 use Rattle.param_set.proofs.UniqueFacts.{named, named-planned, planned_rows, sound-once}
@@ -56,12 +56,13 @@ slices-planned_names db = names-of db (planned_rows db)
 
 -- ---- the plans that are new
 
--- how many images pass
-passed-images : {X Y Z : Type 0} (f : X → Y) (g : X → Z) (p : Y → Bool) (q : Z → Bool) → ((x : X) → p (f x) ≡ q (g x)) → (xs : List X) → length (filter p (map f xs)) ≡ length (filter q (map g xs))
-passed-images f g p q same [] = refl
-passed-images f g p q same (x ∷ xs) = go (p (f x)) (q (g x)) (same x) (passed-images f g p q same xs) where
-  go : (b c : Bool) → b ≡ c → length (filter p (map f xs)) ≡ length (filter q (map g xs)) → length (cond b (f x ∷ filter p (map f xs)) (filter p (map f xs))) ≡ length (cond c (g x ∷ filter q (map g xs)) (filter q (map g xs)))
-  go true true e others = ap suc others
+-- what is made of two kinds of images that pass
+passed-images : {X Y Z N : Type 0} (f : X → Y) (g : X → Z) (p : Y → Bool) (q : Z → Bool) (n : Y → N) (m : Z → N) → ((x : X) → p (f x) ≡ q (g x)) → ((x : X) → n (f x) ≡ m (g x)) → (xs : List X)
+    → map n (filter p (map f xs)) ≡ map m (filter q (map g xs))
+passed-images f g p q n m same names [] = refl
+passed-images f g p q n m same names (x ∷ xs) = go (p (f x)) (q (g x)) (same x) (passed-images f g p q n m same names xs) where
+  go : (b c : Bool) → b ≡ c → map n (filter p (map f xs)) ≡ map m (filter q (map g xs)) → map n (cond b (f x ∷ filter p (map f xs)) (filter p (map f xs))) ≡ map m (cond c (g x ∷ filter q (map g xs)) (filter q (map g xs)))
+  go true true e others = let first = names x in (λ i. first i ∷ others i)
   go true false e others = absurd (cc e)
   go false true e others = absurd (cc e)
   go false false e others = others
@@ -103,6 +104,12 @@ new-touched old new row =
     (ap (λ o. not (has_same_slice (param_plan new row) o)) (sym (find-map (param_plan old) (λ q. same_plan_name q.name (plan.Param row.name)) (planned_rows old))) ∙
     ap (λ o. not (has_same_slice (param_plan new row) o)) (sym (param-named old row.name))))
 
+fused : {X Y Z : Type 0} (f : Y → Z) (g : X → Y) (xs : List X) → map f (map g xs) ≡ map (λ x. f (g x)) xs
+fused f g [] = refl
+fused f g (x ∷ xs) = let others = fused f g xs in ap (λ zs. f (g x) ∷ zs) others
+
 pub new-plans-touched : NewPlansAreTouched
 unfolding param_slices param_plans
-new-plans-touched old new = passed-images (slice_for new) (param_plan new) (is_new (param_slices old)) (is_touched (plans old)) (new-touched old new) (planned_rows new)
+new-plans-touched old new =
+    fused plan.Param (λ (slice : ParamSlice). slice.pcf.name) (filter (is_new (param_slices old)) (param_slices new))
+    ∙ passed-images (slice_for new) (param_plan new) (is_new (param_slices old)) (is_touched (plans old)) (λ slice. plan.Param slice.pcf.name) (λ p. p.name) (new-touched old new) (λ row. refl) (planned_rows new)

@@ -1,5 +1,5 @@
 -- Where all tables that plans of parameters depend on are the same, no plan is new.
-use Rattle.std.proofs.Common.{◌≡◌, ◌∙◌, ℕ, zero, suc, ◌<◌, true, false, Bool, ◌&&◌, not, List, [], ◌∷◌, length, get_or, map, filter, refl, sym, ap, subst, arith}
+use Rattle.std.proofs.Common.{◌≡◌, ◌∙◌, ℕ, zero, suc, ◌<◌, true, false, Bool, ◌&&◌, not, List, [], ◌∷◌, length, get_or, filter, refl, ap, arith}
 use Rattle.edition_plans.specs.Params.{param_slices}
 use Rattle.mib_keys.specs.Kept.{AreSameIn}
 use Rattle.mib_model.specs.declared.database.Database.{Database}
@@ -11,7 +11,7 @@ use Rattle.param_plan.specs.Names.{Ascend}
 use Rattle.param_plan.specs.Slices.{ParamSlice}
 use Rattle.param_set.proofs.BesideFacts.{own-named, own-slice}
 use Rattle.param_set.proofs.UniqueFacts.{slices-ascend}
-use Rattle.param_set.specs.Beside.{AreAllKept, are_curves_kept}
+use Rattle.param_set.specs.Beside.{AreAllKept}
 use Rattle.param_set.specs.Sharing.{is_as_before, is_new}
 
 -- no item passes where none does at its place
@@ -53,7 +53,5 @@ module _ (set : TableSet) (all : AreAllKept set) (old new : Database) (same : Ar
       λ i. param_slices (record { pcf = pcfs i; pid = old.pid; pic = old.pic; tpcf = old.tpcf; plf = old.plf; vpd = old.vpd; cur = curs i; caf = cafs i; cap = caps i; txf = txfs i; txp = txps i; mcf = mcfs i; lgf = lgfs i; ocf = ocfs i; ocp = ocps i })
 
   -- no slice is new beside those of the old database
-  pub none-beside : (base : List ParamSlice) → base ≡ param_slices old → IsSound new → length (filter (is_new base) (param_slices new)) ≡ 0
-  none-beside base is sound =
-      ap (λ (slices : List ParamSlice). length (filter (is_new slices) (param_slices new))) (is ∙ slices-same)
-      ∙ ap length (none-new (param_slices new) (slices-ascend new sound))
+  pub none-beside : (base : List ParamSlice) → base ≡ param_slices old → IsSound new → filter (is_new base) (param_slices new) ≡ []
+  none-beside base is sound = ap (λ (slices : List ParamSlice). filter (is_new slices) (param_slices new)) (is ∙ slices-same) ∙ none-new (param_slices new) (slices-ascend new sound)

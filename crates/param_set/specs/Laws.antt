@@ -1,14 +1,15 @@
 -- Laws of the plans of all parameters. [This profile.]
-use Rattle.std.specs.Prelude.{◌≡◌, List, [], filter, length}
+use Rattle.std.specs.Prelude.{◌≡◌, List, [], filter, map}
 use Rattle.edition_plans.specs.Params.{param_slices}
 use Rattle.fold_state.specs.Boards.{plan_names, planned_names}
 use Rattle.fold_state.specs.Premises.{IsParamsOf}
 use Rattle.mib_model.specs.declared.database.Database.{Database}
+use Rattle.mib_model.specs.declared.plan.PlanName.TheVariants as plan
 use Rattle.mib_model.specs.Plans.{param_plans, plans}
 use Rattle.mib_model.specs.Soundness.{IsSound}
 use Rattle.mib_model.specs.Touched.{is_touched}
 use Rattle.param_plan.specs.Slices.{ParamSlice}
-use Rattle.param_set.specs.Sharing.{is_new}
+use Rattle.param_set.specs.Sharing.{is_new, new_names}
 
 -- in a sound database the plan of a name is that of the parameter of the name, where that has one
 abbrev pub SlicesAreOfTheDatabase : Type 0
@@ -18,10 +19,10 @@ SlicesAreOfTheDatabase = (db : Database) → IsSound db → IsParamsOf db (param
 abbrev pub SlicesHavePlannedNames : Type 0
 SlicesHavePlannedNames = (db : Database) → plan_names (param_slices db) ≡ planned_names db
 
--- as many plans of parameters are new to an old database as are touched
+-- the plans of parameters that are new to an old database are those that are touched, in their order
 abbrev pub NewPlansAreTouched : Type 0
 NewPlansAreTouched =
-    (old new : Database) → length (filter (is_new (param_slices old)) (param_slices new)) ≡ length (filter (is_touched (plans old)) (param_plans new))
+    (old new : Database) → map plan.Param (new_names (param_slices old) (param_slices new)) ≡ map (λ p. p.name) (filter (is_touched (plans old)) (param_plans new))
 
 -- all slices are new to a base without any
 abbrev pub AllAreNewToNothing : Type 0

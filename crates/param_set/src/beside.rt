@@ -8,11 +8,11 @@ ghost use Rattle.mib_model.specs.Soundness.{IsSound};
 ghost use Rattle.mib_model.specs.declared.limits.TheConstants.{HELD_MOST};
 ghost use Rattle.param_plan.specs.Slices.{ParamSlice, slice_of};
 ghost use Rattle.param_set.specs.Beside.{AreAlike, AreAllKept, IsKeptBy, IsOtherNow, are_curves_kept, has_changed, has_changed_curve, is_other, now_of, one_if};
-ghost use Rattle.param_set.specs.Sharing.{is_new};
+ghost use Rattle.param_set.specs.Sharing.{is_new, new_names};
 
 use crate::changed::Changed;
 use crate::same::same_rows;
-use crate::set::{Made, Plan, Plans, params_of};
+use crate::set::{Made, Plan, Plans, note, params_of};
 use crate::sources::ParamSources;
 use mib_model::{PcfRow, Steps};
 use mib_tables::{Book, TableSet};
@@ -169,18 +169,16 @@ fn plans_beside<L: Ledger>(
     steps: &mut Steps<L>,
 ) -> Result<Plans, AllocError>
     requires room { length base.now ≤ room }
-    requires few { room ≤ u32.MAX }
     requires kept { (i : ℕ) (slice : ParamSlice) → i < length base.now → slice ≡ slice_index_or base.now i slice → IsKeptBy changed.now slice sources.now }
     ensures plans { IfOk result (λ plans. map arc_value plans.params.items ≡ map (now_of sources.now) base.now) }
-    ensures compiled { IfOk result (λ plans. plans.compiled ≡ length (filter (is_new base.now) (map (now_of sources.now) base.now))) }
-    ensures few { IfOk result (λ plans. plans.compiled ≤ length base.now) }
+    ensures compiled { IfOk result (λ plans. plans.compiled.items ≡ new_names base.now (map (now_of sources.now) base.now)) }
     ensures steps { OnOk result (steps.new ≡ steps.old + length (filter (is_new base.now) (map (now_of sources.now) base.now))) }
 {
     let mut params = Vec::with_capacity(alloc, room)?;
-    let mut compiled = 0;
+    let mut compiled = Vec::new(alloc);
     for plan in base.plans() {
         let made = plan_beside(alloc, plan, changed, sources, steps)?;
-        compiled += u32::from(made.is_new);
+        note(&mut compiled, &made)?;
         params.push(made.param)?;
     }
     Ok(Plans { params, compiled })
@@ -200,8 +198,8 @@ fn taken_over<L: Ledger>(
     requires same { AreSameIn same old.now book.now }
     requires parameters { AreAlike old.now.pcf book.now.pcf }
     ensures params { IfOk result (λ made. made.params ≡ param_slices book.now) }
-    ensures compiled { IfOk result (λ made. made.compiled ≡ length (filter (is_new base.now) (param_slices book.now))) }
-    ensures few { IfOk result (λ made. made.compiled ≤ HELD_MOST) }
+    ensures compiled { IfOk result (λ made. made.compiled.items ≡ new_names base.now (param_slices book.now)) }
+    ensures few { IfOk result (λ made. length made.compiled.items ≤ HELD_MOST) }
     ensures steps { OnOk result (steps.new ≡ steps.old + length (filter (is_new base.now) (param_slices book.now))) }
 {
     let changed = Changed::between(alloc, old, same, book)?;
@@ -254,15 +252,14 @@ fn shared(
     requires same { AreSameIn same old.now book.now }
     requires kept { AreAllKept same }
     ensures params { IfOk result (λ made. made.params ≡ param_slices book.now) }
-    ensures compiled { IfOk result (λ made. made.compiled ≡ length (filter (is_new base.now) (param_slices book.now))) }
-    ensures few { IfOk result (λ made. made.compiled ≤ HELD_MOST) }
+    ensures compiled { IfOk result (λ made. made.compiled.items ≡ new_names base.now (param_slices book.now)) }
+    ensures few { IfOk result (λ made. length made.compiled.items ≤ HELD_MOST) }
     ensures none { length (filter (is_new base.now) (param_slices book.now)) ≡ 0 }
 {
     let handles = handles(alloc, base)?;
-    Ok(Made {
-        params: Params::new(handles),
-        compiled: 0,
-    })
+    let params = Params::new(handles);
+    let compiled = Vec::new(alloc);
+    Ok(Made { params, compiled })
 }
 
 /// The plans of the parameters of a sound book, as `params_of` gives them, beside those of another book, where tables are
@@ -280,8 +277,8 @@ pub fn params_with<L: Ledger>(
     requires sound { IsSound book.now }
     requires same { AreSameIn same old.now book.now }
     ensures params { IfOk result (λ made. made.params ≡ param_slices book.now) }
-    ensures compiled { IfOk result (λ made. made.compiled ≡ length (filter (is_new base.now) (param_slices book.now))) }
-    ensures few { IfOk result (λ made. made.compiled ≤ HELD_MOST) }
+    ensures compiled { IfOk result (λ made. made.compiled.items ≡ new_names base.now (param_slices book.now)) }
+    ensures few { IfOk result (λ made. length made.compiled.items ≤ HELD_MOST) }
     ensures steps { OnOk result (steps.new ≡ steps.old + length (filter (is_new base.now) (param_slices book.now))) }
 {
     if are_all_kept(same) {

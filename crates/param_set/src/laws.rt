@@ -10,7 +10,7 @@ pub fn param_slices_have_the_planned_names()
     ensures { SlicesHavePlannedNames }
 {}
 
-/// As many plans are new to those of another database as plans of parameters are touched.
+/// The plans that are new to those of another database are the plans of parameters that are touched, in their order.
 pub fn new_plans_are_touched()
     ensures { NewPlansAreTouched }
 {}

@@ -1,5 +1,5 @@
 // The plans of all parameters of a database.
-ghost use Rattle.std.specs.Prelude.{◌≡◌, ◌+◌, ◌≤◌, ◌∷◌, [], map, filter, length, option_map, is_none, IfSome, IfOk, OnOk};
+ghost use Rattle.std.specs.Prelude.{◌≡◌, ◌+◌, ◌≤◌, ◌∷◌, ◌++◌, [], map, filter, length, option_map, is_none, IfSome, IfOk, OnOk};
 ghost use Rattle.std.specs.Arc.{arc_value};
 ghost use Rattle.std.specs.List.{find};
 ghost use Rattle.std.specs.Option.{option_copied};
@@ -8,7 +8,7 @@ ghost use Rattle.edition_plans.specs.Params.{param_slices};
 ghost use Rattle.mib_model.specs.Soundness.{IsSound};
 ghost use Rattle.mib_model.specs.declared.limits.TheConstants.{HELD_MOST};
 ghost use Rattle.param_plan.specs.Slices.{slice_of, slice_for};
-ghost use Rattle.param_set.specs.Sharing.{is_new};
+ghost use Rattle.param_set.specs.Sharing.{is_new, name_if, new_names};
 
 use crate::order::parameters;
 use crate::same::same_rows;
@@ -53,18 +53,28 @@ pub struct Plan {
     pub is_new: bool,
 }
 
-/// Plans, and how many of them were compiled, not shared.
+/// Plans, and the names of those that were compiled, not shared.
 #[derive(Drop)]
 pub struct Plans {
     pub params: Vec<Arc<Param>>,
-    pub compiled: u32,
+    pub compiled: Vec<Name>,
 }
 
-/// The plans of a book's parameters, and how many of them were compiled, not shared with the base.
+/// The plans of a book's parameters, and the names of those that were compiled, not shared with the base, in order.
 #[derive(Drop)]
 pub struct Made {
     pub params: Params,
-    pub compiled: u32,
+    pub compiled: Vec<Name>,
+}
+
+/// Notes the name of a plan where that was compiled. An error is want of memory.
+pub fn note(names: &mut Vec<Name>, plan: &Plan) -> Result<(), AllocError>
+    ensures { OnOk result (names.new.items ≡ names.old.items ++ name_if plan.now.is_new (arc_value plan.now.param).pcf.name) }
+{
+    if plan.is_new {
+        names.push(plan.param.name())?;
+    }
+    Ok(())
 }
 
 // The plan of these rows: that of the base where it has one, and else compiled.
@@ -99,18 +109,16 @@ fn plans_of<L: Ledger>(
     rows: &[&PcfRow],
     steps: &mut Steps<L>,
 ) -> Result<Plans, AllocError>
-    requires few { length rows.now ≤ u32.MAX }
     ensures plans { IfOk result (λ plans. map arc_value plans.params.items ≡ map (slice_for sources.now) (map (λ row. row.now) rows.now)) }
-    ensures compiled { IfOk result (λ plans. plans.compiled ≡ length (filter (is_new base.now) (map (slice_for sources.now) (map (λ row. row.now) rows.now)))) }
-    ensures few { IfOk result (λ plans. plans.compiled ≤ length rows.now) }
+    ensures compiled { IfOk result (λ plans. plans.compiled.items ≡ new_names base.now (map (slice_for sources.now) (map (λ row. row.now) rows.now))) }
     ensures steps { OnOk result (steps.new ≡ steps.old + length (filter (is_new base.now) (map (slice_for sources.now) (map (λ row. row.now) rows.now)))) }
 {
     let mut params = Vec::with_capacity(alloc, rows.len())?;
-    let mut compiled = 0;
+    let mut compiled = Vec::new(alloc);
     for row in rows {
         let rows = sources.rows(alloc, row)?;
         let plan = plan_of(alloc, base, rows, steps)?;
-        compiled += u32::from(plan.is_new);
+        note(&mut compiled, &plan)?;
         params.push(plan.param)?;
     }
     Ok(Plans { params, compiled })
@@ -127,8 +135,8 @@ pub fn params_of<L: Ledger>(
 ) -> Result<Made, AllocError>
     requires { IsSound book.now }
     ensures params { IfOk result (λ made. made.params ≡ param_slices book.now) }
-    ensures compiled { IfOk result (λ made. made.compiled ≡ length (filter (is_new base.now) (param_slices book.now))) }
-    ensures few { IfOk result (λ made. made.compiled ≤ HELD_MOST) }
+    ensures compiled { IfOk result (λ made. made.compiled.items ≡ new_names base.now (param_slices book.now)) }
+    ensures few { IfOk result (λ made. length made.compiled.items ≤ HELD_MOST) }
     ensures steps { OnOk result (steps.new ≡ steps.old + length (filter (is_new base.now) (param_slices book.now))) }
 {
     let sources = ParamSources::of_all(alloc, book)?;

@@ -33,13 +33,13 @@ fn sound_book<R: Abort>(rt: &R, alloc: Global, pfc: u16) -> Result<Book, AllocEr
     Ok(book)
 }
 
-// The set of a book, of which so many layouts are compiled.
+// The set of a book, of which these layouts are compiled.
 fn set_of<L: Ledger, R: Abort>(
     rt: &R,
     base: &LayoutSet,
     old: &Book,
     book: &Book,
-    compiled: u32,
+    compiled: &[u32],
     steps: &mut Steps<L>,
     alloc: Global,
 ) -> Result<LayoutSet, Fail>
@@ -48,7 +48,7 @@ fn set_of<L: Ledger, R: Abort>(
     ensures { IfOk result (λ set. set ≡ book.now) }
 {
     let made = LayoutSet::new(alloc, base, old, book, steps)?;
-    assert_eq!(rt; made.compiled, compiled);
+    assert!(rt; made.compiled.as_slice() == compiled);
     Ok(made.set)
 }
 
@@ -62,7 +62,15 @@ fn first_set<L: Ledger, R: Abort>(
     ensures { IfOk result (λ set. set ≡ book.now) }
 {
     let nothing = LayoutSet::empty(alloc)?;
-    set_of(rt, &nothing, &Book::empty(alloc), book, 2, steps, alloc)
+    set_of(
+        rt,
+        &nothing,
+        &Book::empty(alloc),
+        book,
+        &[4001, 4002],
+        steps,
+        alloc,
+    )
 }
 
 fn finds<R: Abort>(rt: &R, set: &LayoutSet) -> Result<(), Fail> {
@@ -83,7 +91,7 @@ fn again<L: Ledger, R: Abort>(
     requires base { base.now ≡ book.now }
     requires sound { IsSound book.now }
 {
-    set_of(rt, base, book, book, 0, steps, alloc)?;
+    set_of(rt, base, book, book, &[], steps, alloc)?;
     Ok(())
 }
 
@@ -98,7 +106,7 @@ fn differs<L: Ledger, R: Abort>(
     requires { base.now ≡ old.now }
 {
     let second = sound_book(rt, alloc, 4)?;
-    set_of(rt, base, old, &second, 1, steps, alloc)?;
+    set_of(rt, base, old, &second, &[4002], steps, alloc)?;
     Ok(())
 }
 

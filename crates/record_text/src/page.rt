@@ -9,7 +9,7 @@ ghost use Rattle.record_text.specs.declared.short_texts.TheConstants.{SHORT_BOUN
 
 use crate::lines::{LINE_MOST, LINES_ROOM};
 use crate::near::{NearCount, near_count};
-use crate::place::{put, put_text};
+use crate::place::{put, put_name, put_text};
 use crate::short::Short;
 use crate::short_texts::{SHORT_BOUND, ShortTexts};
 use dec_num::write_eng;
@@ -154,7 +154,9 @@ impl Page {
         ensures room { length self.new.octets ≤ length self.old.octets + 32 }
         ensures limit { self.new.limit ≡ self.old.limit }
     {
-        self.add(name.bytes());
+        let end = self.used + name.bytes().len();
+        put_name(&mut self.octets, self.used, name);
+        self.used = end;
     }
 
     /// Appends a name behind two spaces and before one, as a value's line begins.
@@ -165,11 +167,10 @@ impl Page {
         ensures room { length self.new.octets ≤ length self.old.octets + 35 }
         ensures limit { self.new.limit ≡ self.old.limit }
     {
-        let octets = name.bytes();
         let first = self.used + 2;
-        let end = first + octets.len();
+        let end = first + name.bytes().len();
         put(&mut self.octets, self.used, b"  ");
-        put_text(&mut self.octets, first, octets);
+        put_name(&mut self.octets, first, name);
         put(&mut self.octets, end, b" ");
         self.used = end + 1;
     }

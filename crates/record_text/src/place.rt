@@ -1,5 +1,8 @@
 // Octets that are put at a place.
 ghost use Rattle.std.specs.Prelude.{◌≡◌, ◌≤◌, ◌+◌, ◌++◌, length, take};
+ghost use Rattle.mib_model.specs.declared.limits.TheConstants.{NAME_SIZE};
+
+use mib_model::{NAME_SIZE, Name};
 
 /// Puts a known count of octets at a place, which the compiler makes one or two stores of.
 #[inline(always)]
@@ -56,4 +59,15 @@ pub(crate) fn put_text(octets: &mut [u8], at: usize, text: &[u8])
         16..=32 => put_ends::<16>(octets, at, text),
         _ => octets[at..at + text.len()].copy_from_slice(text),
     }
+}
+
+/// Puts a name at a place, whatever its length by the same two stores: its room is put whole, of which the octets behind the
+/// name are cut off.
+#[inline(always)]
+pub(crate) fn put_name(octets: &mut [u8], at: usize, name: &Name)
+    requires { at + NAME_SIZE ≤ length octets.old }
+    ensures text { take (at + length name.now) octets.new ≡ take at octets.old ++ name.now }
+    ensures kept { length octets.new ≡ length octets.old }
+{
+    octets[at..at + NAME_SIZE].copy_from_slice(name.room());
 }

@@ -5,6 +5,7 @@ use Rattle.std.specs.List.{list_any}
 use Rattle.mib_model.specs.declared.database.Database.{Database}
 use Rattle.mib_model.specs.declared.rows.VpdRow.{VpdRow}
 use Rattle.mib_model.specs.LayoutTables.{vpd, vpd_cells}
+use Rattle.mib_model.specs.Orders.{sorted_by, sorted_by_number}
 use Rattle.mib_model.specs.Plans.{distinct}
 use Rattle.mib_model.specs.SameRows.{same_vpd}
 use Rattle.mib_model.specs.Structures.{structure}
@@ -54,8 +55,9 @@ module _ (old new : Database) (alike : AreStructuredAlike old new) where
 
   -- no structure is new
   pub none-new : new_structures old new ≡ []
-  none-new = none-left (λ tpsd. is_new old new (pos tpsd)) (map (λ row. row.tpsd) new.vpd) (λ tpsd held.
+  unfolding sorted_by
+  none-new = ap (sorted_by_number (λ (n : ℕ). n)) (none-left (λ tpsd. is_new old new (pos tpsd)) (map (λ row. row.tpsd) new.vpd) (λ tpsd held.
       let there = held-same new.vpd tpsd ∙ held in
       let found : structure_found old (pos tpsd) ≡ Some (structure_slice new (pos tpsd)) =
       structures-alike (pos tpsd) ∙ sym (found-all new (pos tpsd)) ∙ ap (λ b. cond b (Some (structure_slice new (pos tpsd))) None) there in
-      ap (λ o. not (has_same o (structure_slice new (pos tpsd)))) found ∙ ap not (same-structure (structure_slice new (pos tpsd))))
+      ap (λ o. not (has_same o (structure_slice new (pos tpsd)))) found ∙ ap not (same-structure (structure_slice new (pos tpsd)))))

@@ -1,3 +1,4 @@
 pub mod RowFacts
+pub mod NumberFacts
 pub mod BuildingFacts
 pub mod AlikeFacts

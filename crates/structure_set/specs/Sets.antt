@@ -9,6 +9,7 @@ use Rattle.mib_model.specs.declared.plan.Slice.TheVariants as slice
 use Rattle.mib_model.specs.declared.plan.TypeItem.{TypeItem}
 use Rattle.mib_model.specs.declared.rows.PcfRow.{PcfRow}
 use Rattle.mib_model.specs.Parameters.{is_measured}
+use Rattle.mib_model.specs.Orders.{sorted_by_number}
 use Rattle.mib_model.specs.Plans.{distinct, type_item}
 use Rattle.mib_model.specs.Structures.{structure, is_deduced}
 use Rattle.mib_model.specs.Touched.{same_slice}
@@ -35,9 +36,9 @@ has_same (Some old) new = is_same old new
 abbrev pub is_new : Database → Database → ℤ → Bool
 is_new base db tpsd = not (has_same (structure_found base tpsd) (structure_slice db tpsd))
 
--- the TPSDs of the structures that the base lacks, or has of other rows or type items
+-- the TPSDs of the structures that the base lacks, or has of other rows or type items, each once, in order
 abbrev pub new_structures : Database → Database → List ℕ
-new_structures base db = filter (λ tpsd. is_new base db (pos tpsd)) (distinct (map (λ row. row.tpsd) db.vpd))
+new_structures base db = sorted_by_number (λ tpsd. tpsd) (filter (λ tpsd. is_new base db (pos tpsd)) (distinct (map (λ row. row.tpsd) db.vpd)))
 
 -- the number by which a deduced value finds a parameter: that of a measured parameter, not deduced itself, that has one
 abbrev pub number_of : PcfRow → Option ℤ

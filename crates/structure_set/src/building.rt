@@ -1,9 +1,10 @@
 // Structures that are made one after the other.
-ghost use Rattle.std.specs.Prelude.{◌≡◌, ◌+◌, ◌<◌, ◌≤◌, ℤ, pos, Some, None, IfOk, OnOk, is_some, map, length, if◌then◌else◌};
+ghost use Rattle.std.specs.Prelude.{◌≡◌, ◌+◌, ◌++◌, ℤ, pos, Some, None, IfOk, OnOk, is_some, map, length, if◌then◌else◌};
 ghost use Rattle.std.specs.Arc.{arc_value};
 ghost use Rattle.std.specs.List.{list_any};
 ghost use Rattle.std.specs.Option.{option_or};
 ghost use Rattle.std.specs.Ordering.{int_eq};
+ghost use Rattle.mib_model.specs.Orders.{sorted_by_number};
 ghost use Rattle.structure_set.specs.Building.{added, found_among, new_among, one_if, structure_at};
 ghost use Rattle.structure_set.specs.Sets.{is_new, structure_slice};
 
@@ -23,11 +24,11 @@ struct Plan {
     is_new: bool,
 }
 
-/// Structures by TPSD, and how many of them were compiled, not shared.
+/// Structures by TPSD, and the TPSDs of those that were compiled, not shared.
 #[derive(Drop)]
 pub struct Building {
     pub structures: HashMap<i128, Arc<Structure>>,
-    pub compiled: u32,
+    pub compiled: Vec<u32>,
 }
 
 // The structure of a TPSD: that of the base where it is of the same rows and type items.
@@ -67,23 +68,26 @@ impl Building {
         tpsd: u32,
         steps: &mut Steps<L>,
     ) -> Result<(), AllocError>
-        requires { self.old.compiled < u32.MAX }
         ensures structures { OnOk result ((q : ℤ) → structure_at self.new.structures q ≡ option_or (structure_at self.old.structures q)
             (if int_eq (pos tpsd) q then Some (structure_slice new.now (pos tpsd)) else None)) }
-        ensures compiled { OnOk result (self.new.compiled ≡ self.old.compiled + added before.now new.now (structure_at self.old.structures (pos tpsd)) tpsd) }
-        ensures steps { OnOk result (steps.new ≡ steps.old + added before.now new.now (structure_at self.old.structures (pos tpsd)) tpsd) }
+        ensures compiled { OnOk result (self.new.compiled.items ≡
+            self.old.compiled.items ++ added before.now new.now (structure_at self.old.structures (pos tpsd)) tpsd) }
+        ensures steps { OnOk result (steps.new ≡ steps.old + length (added before.now new.now (structure_at self.old.structures (pos tpsd)) tpsd)) }
     {
-        let tpsd = i128::from(tpsd);
-        if self.structures.contains_key(&tpsd) {
+        let number = i128::from(tpsd);
+        if self.structures.contains_key(&number) {
             return Ok(());
         }
-        let plan = plan_for(alloc, before, new, tpsd, steps)?;
-        self.structures.insert(tpsd, plan.structure)?;
-        self.compiled += u32::from(plan.is_new);
+        let plan = plan_for(alloc, before, new, number, steps)?;
+        self.structures.insert(number, plan.structure)?;
+        if plan.is_new {
+            self.compiled.push(tpsd)?;
+        }
         Ok(())
     }
 }
 
+#[tactic(auto, unfolding(mib_model::specs::Orders::sorted_by))]
 /// The structures of rows: those of the base where they are of the same rows and type items. An error is want of memory.
 pub fn build<L: Ledger>(
     alloc: Global,
@@ -92,15 +96,13 @@ pub fn build<L: Ledger>(
     rows: &[VpdRow],
     steps: &mut Steps<L>,
 ) -> Result<Building, AllocError>
-    requires { length rows.now ≤ u32.MAX }
     ensures structures { IfOk result (λ building. (q : ℤ) → structure_at building.structures q ≡ found_among new.now rows.now q) }
-    ensures few { IfOk result (λ building. building.compiled ≤ length rows.now) }
-    ensures compiled { IfOk result (λ building. building.compiled ≡ length (new_among before.now new.now rows.now)) }
+    ensures compiled { IfOk result (λ building. sorted_by_number (λ tpsd. tpsd) building.compiled.items ≡ new_among before.now new.now rows.now) }
     ensures steps { OnOk result (steps.new ≡ steps.old + length (new_among before.now new.now rows.now)) }
 {
     let mut building = Building {
         structures: HashMap::new(alloc),
-        compiled: 0,
+        compiled: Vec::new(alloc),
     };
     for row in rows {
         building.note(alloc, before, new, row.tpsd, steps)?;

@@ -10,6 +10,7 @@ mod alike;
 mod before;
 mod building;
 mod deduced;
+mod order;
 mod parameters;
 mod set;
 mod sources;

@@ -11,6 +11,7 @@ use crate::alike::are_structured_alike;
 use crate::before::Before;
 use crate::building::{Building, build};
 use crate::deduced::Deduced;
+use crate::order::in_order;
 use crate::parameters::same_parameters;
 use crate::sources::Sources;
 use mib_model::{Steps, TypeItem};
@@ -56,11 +57,11 @@ impl Model for StructureSet {
         × (arc_value set.deduced ≡ set.book.value.pcf) };
 }
 
-/// A set, and how many of its structures were compiled for it, not shared.
+/// A set, and the TPSDs of its structures that were compiled for it, not shared, in order.
 #[derive(Drop)]
 pub struct Made {
     pub set: StructureSet,
-    pub compiled: u32,
+    pub compiled: Vec<u32>,
 }
 
 // The deduced parameters of a book, those of the base where the parameters are the same. An error is want of memory.
@@ -79,11 +80,11 @@ fn deduced_of(
     Ok(Arc::new(alloc, Deduced::new(alloc, book.pcf())?)?)
 }
 
-// Structures by TPSD, and how many of them were compiled, not shared.
+// Structures by TPSD, and the TPSDs of those that were compiled, not shared, in order.
 #[derive(Drop)]
 struct Plans {
     structures: Arc<HashMap<i128, Arc<Structure>>>,
-    compiled: u32,
+    compiled: Vec<u32>,
 }
 
 // The structures of a book, each of which is looked at.
@@ -96,8 +97,8 @@ fn compared<L: Ledger>(
 ) -> Result<Plans, AllocError>
     requires { base.now ≡ old.now }
     ensures structures { IfOk result (λ plans. (tpsd : ℤ) → structure_at (arc_value plans.structures) tpsd ≡ structure_found book.now tpsd) }
-    ensures compiled { IfOk result (λ plans. plans.compiled ≡ length (new_structures base.now book.now)) }
-    ensures few { IfOk result (λ plans. plans.compiled ≤ HELD_MOST) }
+    ensures compiled { IfOk result (λ plans. plans.compiled.items ≡ new_structures base.now book.now) }
+    ensures few { IfOk result (λ plans. length plans.compiled.items ≤ HELD_MOST) }
     ensures steps { OnOk result (steps.new ≡ steps.old + length (new_structures base.now book.now)) }
 {
     let before = Before::new(alloc, base, old)?;
@@ -106,6 +107,7 @@ fn compared<L: Ledger>(
         structures,
         compiled,
     } = build(alloc, &before, &new, book.vpd(), steps)?;
+    let compiled = in_order(compiled)?;
     Ok(Plans {
         structures: Arc::new(alloc, structures)?,
         compiled,
@@ -122,14 +124,14 @@ fn plans_of<L: Ledger>(
 ) -> Result<Plans, AllocError>
     requires { base.now ≡ old.now }
     ensures structures { IfOk result (λ plans. (tpsd : ℤ) → structure_at (arc_value plans.structures) tpsd ≡ structure_found book.now tpsd) }
-    ensures compiled { IfOk result (λ plans. plans.compiled ≡ length (new_structures base.now book.now)) }
-    ensures few { IfOk result (λ plans. plans.compiled ≤ HELD_MOST) }
+    ensures compiled { IfOk result (λ plans. plans.compiled.items ≡ new_structures base.now book.now) }
+    ensures few { IfOk result (λ plans. length plans.compiled.items ≤ HELD_MOST) }
     ensures steps { OnOk result (steps.new ≡ steps.old + length (new_structures base.now book.now)) }
 {
     if are_structured_alike(old, book) {
         return Ok(Plans {
             structures: Arc::try_clone(&base.structures)?,
-            compiled: 0,
+            compiled: Vec::new(alloc),
         });
     }
     compared(alloc, base, old, book, steps)
@@ -150,19 +152,22 @@ impl StructureSet {
 
     /// The set of a book that has the rows of structures and the parameters of this one: all is shared. An error is want of
     /// memory.
-    pub fn kept(&self, book: &Book) -> Result<Made, AllocError>
+    pub fn kept(&self, alloc: Global, book: &Book) -> Result<Made, AllocError>
         requires alike { AreStructuredAlike self.now book.now }
         requires parameters { self.now.pcf ≡ book.now.pcf }
         ensures set { IfOk result (λ made. made.set ≡ book.now) }
-        ensures compiled { IfOk result (λ made. made.compiled ≡ length (new_structures self.now book.now)) }
-        ensures few { IfOk result (λ made. made.compiled ≤ HELD_MOST) }
+        ensures compiled { IfOk result (λ made. made.compiled.items ≡ new_structures self.now book.now) }
+        ensures few { IfOk result (λ made. length made.compiled.items ≤ HELD_MOST) }
     {
         let set = StructureSet {
             structures: Arc::try_clone(&self.structures)?,
             deduced: Arc::try_clone(&self.deduced)?,
             book: Snapshot::of(book),
         };
-        Ok(Made { set, compiled: 0 })
+        Ok(Made {
+            set,
+            compiled: Vec::new(alloc),
+        })
     }
 
     /// The set of a book, beside the set of another: a structure that this has of the same rows and type items is shared
@@ -177,8 +182,8 @@ impl StructureSet {
     ) -> Result<Made, AllocError>
         requires { base.now ≡ old.now }
         ensures set { IfOk result (λ made. made.set ≡ book.now) }
-        ensures compiled { IfOk result (λ made. made.compiled ≡ length (new_structures base.now book.now)) }
-        ensures few { IfOk result (λ made. made.compiled ≤ HELD_MOST) }
+        ensures compiled { IfOk result (λ made. made.compiled.items ≡ new_structures base.now book.now) }
+        ensures few { IfOk result (λ made. length made.compiled.items ≤ HELD_MOST) }
         ensures steps { OnOk result (steps.new ≡ steps.old + length (new_structures base.now book.now)) }
     {
         let Plans {

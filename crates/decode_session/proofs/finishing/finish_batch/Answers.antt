@@ -1,13 +1,17 @@
-use Rattle.std.proofs.Common.{Result, Ok, Err, OnErr, refl, subst, sym, ◌∙◌}
-use Rattle.std.specs.Io.KnownBytes.{Appends}
+use Rattle.std.proofs.Common.{Result, Ok, Err, List, ℕ, [], ◌+◌, OnErr, take, refl, subst, sym, ◌∙◌}
 use Rattle.std.proofs.KnownBytes.{Appends-nil}
-use Rattle.decode_session.proofs.FinishFacts.{text-none, leaves-none, finished-more, finished-part, leaves-more}
+use Rattle.decode_session.specs.Cells.{all_stamped}
+use Rattle.decode_session.specs.Finishing.{batch_text}
+use Rattle.decode_session.proofs.FinishFacts.{text-none, leaves-none, text-more, leaves-more, moves-more, moves-on, moved-part, part-of-all}
+use Rattle.decode_session.specs.Moving.{Moves}
 use Rattle.decode_session.proofs.finishing.finish_batch.Goals as goal
 use Rattle.fold_state.specs.Boards.{memory_of}
+use Rattle.tm_io.specs.Octets.{AppendsPrefix}
 
-on-err : {T E : Type 0} (r : Result T E) (P : Type 0) → P → OnErr r P
-on-err (Ok v) P holds = tt
-on-err (Err e) P holds = holds
+-- what follows where a call fails
+on-err : {T E : Type 0} (r : Result T E) (P Q : Type 0) → (P → Q) → OnErr r P → OnErr r Q
+on-err (Ok v) P Q then holds = tt
+on-err (Err e) P Q then holds = then holds
 
 pub loop-cell-init : goal.loop-cell-init
 loop-cell-init g c =
@@ -15,26 +19,54 @@ loop-cell-init g c =
     record {
       board = refl;
       kept = λ e. leaves-none e db (memory_of c.args.board.now);
-      all = λ e. subst (Appends (g.O.Sink.written c.args.out.now) (g.O.Sink.written c.args.out.now)) (sym (text-none e db (memory_of c.args.board.now))) (Appends-nil (g.O.Sink.written c.args.out.now));
+      moves = λ e. record {
+        first = [];
+        parts = text-none e db (memory_of c.args.board.now) ∙ sym c.clear.ensures;
+        wrote = Appends-nil (g.O.Sink.written c.args.out.now);
+      };
       cause = refl;
     }
 
-pub returns-in_err-finish_cell-clause-part : goal.returns-in_err-finish_cell-clause-part
-returns-in_err-finish_cell-clause-part g c e =
+pub returns-in_default-clause-part : goal.returns-in_default-clause-part
+returns-in_default-clause-part g c = λ e.
     let db = g.P.Structures.tables c.args.plans.now in
-    on-err c.from_residual.result _
-    (finished-part e db (memory_of c.args.board.now) (memory_of c.loop-cell.board) c.args.cells.now c.loop-cell.cell-index c.cell-item.result c.loop-cell-test.true c.cell-item.is (c.loop-cell.invariant.kept e)
-    (memory_of c.finish_cell.new.board) (g.O.Sink.written c.args.out.now) (g.O.Sink.written c.loop-cell.out) (g.O.Sink.written c.finish_cell.new.out)
-    (c.in_err-finish_cell.ensures.kept e) (c.loop-cell.invariant.all e) (c.in_err-finish_cell.ensures.part e))
+    let before = memory_of c.args.board.now in
+    let i = c.loop-cell.cell-index in
+    let w0 = g.O.Sink.written c.args.out.now in
+    let w1 = g.O.Sink.written c.make_room.new.out in
+    part-of-all e db before (memory_of c.loop-cell.board) c.args.cells.now i w0 w1 (c.loop-cell.invariant.kept e)
+    (moved-part (batch_text e db before (all_stamped e db (take i c.args.cells.now))) c.loop-cell.lines w0 (g.O.Sink.written c.loop-cell.out) w1 (c.loop-cell.invariant.moves e) c.in_default.ensures.part)
 
 pub loop-cell-preserved : goal.loop-cell-preserved
 loop-cell-preserved g c =
     let db = g.P.Structures.tables c.args.plans.now in
+    let before = memory_of c.args.board.now in
+    let i = c.loop-cell.cell-index in
+    let w0 = g.O.Sink.written c.args.out.now in
+    let w1 = g.O.Sink.written c.make_room.new.out in
     record {
-      board = c.finish_cell.ensures.board ∙ c.loop-cell.invariant.board;
-      kept = λ e. leaves-more e db (memory_of c.args.board.now) (memory_of c.loop-cell.board) c.args.cells.now c.loop-cell.cell-index c.cell-item.result c.loop-cell-test.true c.cell-item.is (c.loop-cell.invariant.kept e)
-          (memory_of c.finish_cell.new.board) (c.finish_cell.ensures.kept e);
-      all = λ e. finished-more e db (memory_of c.args.board.now) (memory_of c.loop-cell.board) c.args.cells.now c.loop-cell.cell-index c.cell-item.result c.loop-cell-test.true c.cell-item.is (c.loop-cell.invariant.kept e)
-          (g.O.Sink.written c.args.out.now) (g.O.Sink.written c.loop-cell.out) (g.O.Sink.written c.finish_cell.new.out) (c.loop-cell.invariant.all e) (c.in_ok-finish_cell.ensures.all e);
-      cause = c.in_ok-finish_cell.ensures.cause.ok ∙ c.loop-cell.invariant.cause;
+      board = c.add_record.ensures.board ∙ c.loop-cell.invariant.board;
+      kept = λ e. leaves-more e db before (memory_of c.loop-cell.board) c.args.cells.now i c.cell-item.result c.loop-cell-test.true c.cell-item.is (c.loop-cell.invariant.kept e)
+          (memory_of c.add_record.new.board) (c.add_record.ensures.kept e);
+      moves = λ e.
+          let text = batch_text e db before (all_stamped e db (take i c.args.cells.now)) in
+          let moved = moves-on text c.loop-cell.lines c.make_room.new.lines w0 (g.O.Sink.written c.loop-cell.out) w1 (c.loop-cell.invariant.moves e) c.in-Ok.ensures.moved in
+          subst (λ (l : List ℕ). Moves (batch_text e db before (all_stamped e db (take (i + 1) c.args.cells.now))) l w0 w1) (sym (c.add_record.ensures.text e))
+          (moves-more text c.make_room.new.lines _ _ w0 w1 moved
+          (text-more e db before (memory_of c.loop-cell.board) c.args.cells.now i c.cell-item.result c.loop-cell-test.true c.cell-item.is (c.loop-cell.invariant.kept e)));
+      cause = c.in-Ok.ensures.cause.ok ∙ c.loop-cell.invariant.cause;
     }
+
+pub returns-clause-part : goal.returns-clause-part
+returns-clause-part g c = λ e.
+    let db = g.P.Structures.tables c.args.plans.now in
+    let before = memory_of c.args.board.now in
+    let i = c.loop-cell.cell-index in
+    let w0 = g.O.Sink.written c.args.out.now in
+    let w = g.O.Sink.written c.loop-cell.out in
+    let w1 = g.O.Sink.written c.write_all.new.out in
+    on-err c.write_all.result _ _
+    (λ part. part-of-all e db before (memory_of c.loop-cell.board) c.args.cells.now i w0 w1 (c.loop-cell.invariant.kept e)
+    (moved-part (batch_text e db before (all_stamped e db (take i c.args.cells.now))) c.loop-cell.lines w0 w w1 (c.loop-cell.invariant.moves e)
+    (subst (AppendsPrefix w w1) c.bytes.ensures part)))
+    c.write_all.ensures.part

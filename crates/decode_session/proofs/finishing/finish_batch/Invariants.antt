@@ -1,7 +1,7 @@
 use Rattle.std.proofs.Common.{◌≡◌, ℕ, take}
-use Rattle.std.specs.Io.KnownBytes.{Appends}
 use Rattle.decode_session.specs.Cells.{all_stamped}
 use Rattle.decode_session.specs.Finishing.{batch_text, LeavesAfter}
+use Rattle.decode_session.specs.Moving.{Moves}
 use Rattle.decode_session.proofs.finishing.finish_batch.Given as goal
 use Rattle.fold_state.specs.Boards.{memory_of}
 
@@ -9,6 +9,6 @@ abbrev pub invariant-loop-cell : goal.invariant-loop-cell
 invariant-loop-cell g l = record {
   board : l.board.names ≡ l.initial.board.names;
   kept : (e : ℕ) → LeavesAfter e (g.P.Structures.tables l.plans) (memory_of l.initial.board) (all_stamped e (g.P.Structures.tables l.plans) (take l.cell-index l.cells)) (memory_of l.board);
-  all : (e : ℕ) → Appends (g.O.Sink.written l.initial.out) (g.O.Sink.written l.out) (batch_text e (g.P.Structures.tables l.plans) (memory_of l.initial.board) (all_stamped e (g.P.Structures.tables l.plans) (take l.cell-index l.cells)));
+  moves : (e : ℕ) → Moves (batch_text e (g.P.Structures.tables l.plans) (memory_of l.initial.board) (all_stamped e (g.P.Structures.tables l.plans) (take l.cell-index l.cells))) l.lines (g.O.Sink.written l.initial.out) (g.O.Sink.written l.out);
   cause : g.O.Sink.faults l.out ≡ g.O.Sink.faults l.initial.out;
 }

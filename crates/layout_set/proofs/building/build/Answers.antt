@@ -1,7 +1,8 @@
-use Rattle.std.proofs.Common.{◌≡◌, ◌∙◌, arith, get_or, pos, sym, take}
+use Rattle.std.proofs.Common.{◌≡◌, ◌∙◌, ◌++◌, ℕ, List, ap, arith, get_or, pos, sym, take}
 use Rattle.std.proofs.lemmas.List.{get_or_default}
+use Rattle.layout_set.specs.Building.{spid_if}
 use Rattle.layout_set.specs.Sets.{is_new}
-use Rattle.layout_set.proofs.BuildingFacts.{found-more, fresh, new-more, one-most}
+use Rattle.layout_set.proofs.BuildingFacts.{found-more, fresh, new-more, spids-more}
 use Rattle.mib_model.specs.declared.rows.PidRow.{PidRow}
 use Rattle.layout_set.proofs.building.build.Goals as goal
 
@@ -15,10 +16,7 @@ note-requires g c =
     let rows = c.args.rows.now in
     let row : PidRow = get_or rows i no_packet in
     let is : row ≡ get_or rows i row = get_or_default rows i no_packet row c.loop-row-test.true in
-    record {
-      room = omega (arith, c.loop-row.invariant.few, c.requires.few);
-      fresh = c.loop-row.invariant.layouts row.spid ∙ fresh c.args.new.now (take i rows) row.spid (c.requires.apart i row c.loop-row-test.true is);
-    }
+    record { fresh = c.loop-row.invariant.layouts row.spid ∙ fresh c.args.new.now (take i rows) row.spid (c.requires i row c.loop-row-test.true is) }
 
 pub loop-row-preserved : goal.loop-row-preserved
 loop-row-preserved g c =
@@ -34,7 +32,9 @@ loop-row-preserved g c =
           let noted = c.in_ok-note.ensures.layouts spid in
           let next = found-more new rows i row spid c.loop-row-test.true is in
           rw (c.loop-row.invariant.layouts spid) at noted ∙ sym next;
-      compiled = omega (arith, c.in_ok-note.ensures.compiled, c.loop-row.invariant.compiled, more);
+      compiled =
+          c.in_ok-note.ensures.compiled
+          ∙ ap (λ (spids : List ℕ). spids ++ spid_if (is_new old new row) row) c.loop-row.invariant.compiled
+          ∙ sym (spids-more old new rows i row c.loop-row-test.true is);
       steps = omega (arith, c.in_ok-note.ensures.steps, c.loop-row.invariant.steps, more);
-      few = omega (arith, c.in_ok-note.ensures.compiled, c.loop-row.invariant.few, one-most (is_new old new row));
     }

@@ -36,9 +36,9 @@ loop-feed-init g c =
       seen = ([], sym (append-nil (seen_by c.args.seat.now)));
       number = omega (arith, own);
       limit = omega arith;
-      free = let n = c.requires.free in omega (arith, none, c.args.stock.now.cells.ok.0);
-      rooms = c.requires.rooms;
-      cells = c.requires.cells;
+      free = let n = c.requires.some in omega arith;
+      rooms = omega (arith, none, c.args.stock.now.rooms.ok.0, c.args.stock.now.cells.ok.0);
+      cells = let n = c.requires.cells in omega (arith, none, c.args.stock.now.cells.ok.0);
       names = c.requires.names;
       last = ap (last_stamped (1, first)) c.requires.unused ∙ sym (ap (λ (x : Course). (x.edition, x.tables)) c.requires.course);
       prints = prints-start first (own_moves c.args.seat.now) (course_of c.args.in_use.now c.args.stock.now.board) c.args.stock.now.cells.items (g.S.Source.left (source_of c.args.feed.now)) (g.O.Sink.written c.args.out.now) c.requires.unused c.requires.empty c.requires.course;
@@ -92,9 +92,9 @@ loop-feed-preserved-in-Paused g c =
       seen = seen-more (seen_by c.args.seat.now) (seen_by c.loop-feed.seat) (seen_by c.fill-reading.new.seat) inv.seen c.fill-reading.ensures.seen;
       number = c.fill-reading.ensures.number;
       limit = c.fill-reading.ensures.limit;
-      free = let n = c.in-Paused.ensures.free in omega (arith, none, c.free_rooms.new.cells.ok.0);
-      rooms = let n = c.free_rooms.ensures.rooms in let m = c.fill-reading.ensures.rooms in omega arith;
-      cells = let n = c.free_rooms.ensures.cells in let m = c.fill-reading.ensures.cells in let k = c.decode_batch.ensures.room in omega arith;
+      free = let n = c.in-Paused.ensures.free in let m = inv.free in omega arith;
+      rooms = let n = c.free_rooms.ensures.rooms in let m = c.fill-reading.ensures.rooms in let k = c.in-Paused.ensures.free in let l = inv.rooms in omega (arith, none, c.free_rooms.new.cells.ok.0);
+      cells = let n = c.free_rooms.ensures.cells in let m = c.fill-reading.ensures.cells in let k = c.decode_batch.ensures.room in let l = c.in-Paused.ensures.free in let o = inv.cells in omega (arith, none, c.free_rooms.new.cells.ok.0);
       names = c.finish_batch.ensures.board ∙ inv.names;
       last = last-on (1, first) (e, db) (own_moves c.loop-feed.seat) (own_moves c.fill-reading.new.seat) c.loop-feed.stock.cells.items c.fill-reading.new.cells.items left behind inv.last fills.0;
       prints = subst (λ cs. Prints first (own_moves c.fill-reading.new.seat) (standing e db later) cs origin behind old new) (sym c.free_rooms.ensures.empty)
@@ -114,7 +114,7 @@ loop-feed-smaller g c =
     let a = reads-count (last_stamped (1, first_of c.args.register.now) (own_moves c.loop-feed.seat)) (own_moves c.loop-feed.seat) fills.0 c.loop-feed.stock.cells.items c.fill-reading.new.cells.items _ _ fills.2 in
     let front = ap (λ (l : List Cell). length l) fills.2.behind ∙ length-append c.loop-feed.stock.cells.items fills.2.more in
     let b = read-count c.in-Opens.field-0.edition fills.3.shown c.in-Opens.field-0.cell fills.0 (own_moves c.fill-reading.new.seat) _ _ fills.3.is_read in
-    let n = inv.number in let m = c.fill-reading.ensures.number in let k = c.fill-reading.ensures.limit in let l = inv.free in
+    let n = inv.number in let m = c.fill-reading.ensures.number in let k = c.fill-reading.ensures.limit in
     let pushed = c.push_reserved.ensures.len in let none = ap (λ (l : List Cell). length l) c.free_rooms.ensures.empty in
     omega (arith, a, front, b, none, c.free_rooms.new.cells.ok.0)
 
@@ -136,9 +136,9 @@ loop-feed-preserved g c =
       seen = seen-more (seen_by c.args.seat.now) (seen_by c.loop-feed.seat) (seen_by c.fill-reading.new.seat) inv.seen c.fill-reading.ensures.seen;
       number = c.fill-reading.ensures.number;
       limit = c.fill-reading.ensures.limit;
-      free = let n = c.in-Opens.ensures.free in omega (arith, none, c.free_rooms.new.cells.ok.0);
-      rooms = let n = c.free_rooms.ensures.rooms in let m = c.fill-reading.ensures.rooms in omega arith;
-      cells = let n = c.free_rooms.ensures.cells in let m = c.fill-reading.ensures.cells in let k = c.decode_batch.ensures.room in let l = c.push_reserved.ensures.capacity in omega arith;
+      free = let n = c.in-Opens.ensures.free in let m = inv.free in omega (arith, none, c.free_rooms.new.cells.ok.0);
+      rooms = let n = c.free_rooms.ensures.rooms in let m = c.fill-reading.ensures.rooms in let k = c.in-Opens.ensures.free in let l = inv.rooms in omega (arith, none, c.free_rooms.new.cells.ok.0);
+      cells = let n = c.free_rooms.ensures.cells in let m = c.fill-reading.ensures.cells in let k = c.decode_batch.ensures.room in let l = c.push_reserved.ensures.capacity in let i = c.in-Opens.ensures.free in let j = inv.cells in omega (arith, none, c.free_rooms.new.cells.ok.0);
       names = c.begin.ensures.board;
       last = last-read (1, first) edition o.shown c.in-Opens.field-0.cell fills.0 (own_moves c.fill-reading.new.seat) fills.1 behind o.is_read
           ∙ (λ i. (sym is.0 i, sym is.1 i)) ∙ sym (ap (λ (x : Course). (x.edition, x.tables)) course);

@@ -1,6 +1,6 @@
-use Rattle.std.proofs.Common.{◌≡◌, ◌+◌, ◌*◌, ◌-◌, ◌≤◌, length, vec_len, vec_capacity}
+use Rattle.std.proofs.Common.{◌≡◌, ◌+◌, ◌*◌, ◌-◌, ◌<◌, ◌≤◌, length, vec_len, vec_capacity}
 use Rattle.std.specs.Arc.{arc_value}
-use Rattle.decode_session.specs.Run.{most_packets, most_in_flight}
+use Rattle.decode_session.specs.Run.{most_packets}
 use Rattle.edition_plans.specs.Params.{param_slices}
 use Rattle.edition_register.specs.Seats.{IsSeat, first_of}
 use Rattle.edition_register.specs.Shown.{last_stamped}
@@ -18,9 +18,9 @@ invariant-loop-feed g l = record {
   seen : StartsWith (seen_by l.seat) (seen_by l.initial.seat);
   number : l.number ≡ length (own_moves l.seat) + 1;
   limit : l.number ≤ most_packets + 1;
-  free : vec_len l.stock.rooms + vec_len l.stock.cells ≡ most_in_flight;
-  rooms : most_in_flight ≤ vec_capacity l.stock.rooms;
-  cells : most_in_flight ≤ vec_capacity l.stock.cells;
+  free : 0 < vec_len l.stock.rooms + vec_len l.stock.cells;
+  rooms : vec_len l.stock.rooms + vec_len l.stock.cells ≤ vec_capacity l.stock.rooms;
+  cells : vec_len l.stock.rooms + vec_len l.stock.cells ≤ vec_capacity l.stock.cells;
   names : l.stock.board.names ≡ plan_names (param_slices (arc_value l.in_use.handle));
   last : last_stamped (1, first_of l.register) (own_moves l.seat) ≡ (l.in_use.edition, arc_value l.in_use.handle);
   prints : Prints (first_of l.register) (own_moves l.seat) (course_of l.in_use l.stock.board) l.stock.cells.items (g.S.Source.left (source_of l.initial.feed)) (g.S.Source.left (source_of l.feed)) (g.O.Sink.written l.initial.out) (g.O.Sink.written l.out);

@@ -1,5 +1,5 @@
 use Rattle.std.proofs.Common.{◌≡◌, ◌+◌, ◌≤◌, length, vec_len, vec_capacity}
-use Rattle.decode_session.specs.Run.{most_packets, most_in_flight}
+use Rattle.decode_session.specs.Run.{most_packets}
 use Rattle.edition_register.specs.Seats.{IsSeat, first_of}
 use Rattle.edition_register.specs.Shown.{last_stamped}
 use Rattle.histories.specs.History.{StartsWith}
@@ -17,9 +17,9 @@ invariant-loop-rooms g l = record {
   some : vec_len l.cells ≡ 0 → l.number ≤ most_packets;
   reads : ReadsOn (last_stamped (1, first_of l.register) (own_moves l.initial.seat)) (own_moves l.initial.seat) (own_moves l.seat) l.initial.cells.items l.cells.items (g.S.Source.left (source_of l.initial.feed)) (g.S.Source.left (source_of l.feed));
   last : last_stamped (1, first_of l.register) (own_moves l.seat) ≡ last_stamped (1, first_of l.register) (own_moves l.initial.seat);
-  free : vec_len l.rooms + vec_len l.cells ≡ most_in_flight;
-  rooms : most_in_flight ≤ vec_capacity l.rooms;
-  cells : most_in_flight ≤ vec_capacity l.cells;
+  free : vec_len l.rooms + vec_len l.cells ≡ vec_len l.initial.rooms + vec_len l.initial.cells;
+  rooms : vec_capacity l.initial.rooms ≤ vec_capacity l.rooms;
+  cells : vec_capacity l.initial.cells ≤ vec_capacity l.cells;
   faults : g.S.Source.faults (source_of l.feed) ≡ g.S.Source.faults (source_of l.initial.feed);
   missed : g.S.Source.missed (source_of l.feed) ≡ g.S.Source.missed (source_of l.initial.feed);
   borrow : g.S.Source.borrow (source_of l.feed) ≡ g.S.Source.borrow (source_of l.initial.feed);

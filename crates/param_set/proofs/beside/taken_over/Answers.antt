@@ -1,13 +1,14 @@
 use Rattle.std.proofs.Common.{◌≡◌, ◌∙◌, List, ap, arith, filter, get_or, length, map, subst, sym}
+use Rattle.std.proofs.lemmas.List.{length-map}
 use Rattle.edition_plans.specs.Params.{param_slices}
 use Rattle.mib_model.specs.declared.database.Database.{Database}
 use Rattle.param_plan.specs.Names.{Ascend}
 use Rattle.param_plan.specs.Slices.{ParamSlice}
 use Rattle.param_set.proofs.AlikeFacts.{once-alike}
-use Rattle.param_set.proofs.BesideFacts.{few-slices, slices-kept, slices-now}
+use Rattle.param_set.proofs.BesideFacts.{few-new, few-slices, slices-kept, slices-now}
 use Rattle.param_set.proofs.UniqueFacts.{slices-ascend, sound-once}
 use Rattle.param_set.specs.Beside.{IsKeptBy, now_of}
-use Rattle.param_set.specs.Sharing.{is_new}
+use Rattle.param_set.specs.Sharing.{is_new, new_names}
 use Rattle.param_set.proofs.beside.taken_over.Goals as goal
 
 pub plans_beside-requires : goal.plans_beside-requires
@@ -18,7 +19,6 @@ plans_beside-requires g c =
     let once = once-alike old.pcf new.pcf c.requires.parameters.names (sound-once new c.requires.sound) in
     record {
       room = omega (arith, most, ap length c.requires.base, ap length c.pcf.ensures.rows);
-      few = omega (arith, c.pcf.ensures.few);
       kept = λ i slice below is.
           subst (λ (db : Database). IsKeptBy c.in_ok-changed.changed slice db) (sym c.in_ok-sources.ensures)
           (slices-kept c.in_ok-changed.changed old new c.in_ok-changed.ensures once i slice (let long = ap length c.requires.base in omega (arith, below, long)) (is ∙ ap (λ (slices : List ParamSlice). get_or slices i slice) c.requires.base));
@@ -36,9 +36,10 @@ returns g c =
     let slices : map (now_of c.in_ok-sources.sources) c.args.base.now ≡ param_slices c.args.book.now =
     (λ i. map (now_of (c.in_ok-sources.ensures i)) (c.requires.base i)) ∙ slices-now old c.args.book.now (sound-once c.args.book.now c.requires.sound) c.requires.parameters in
     let count = ap (λ (s : List ParamSlice). length (filter (is_new c.args.base.now) s)) slices in
+    let names = c.in_ok-plans.ensures.compiled ∙ ap (new_names c.args.base.now) slices in
     record {
       params = c.new-params.ensures ∙ c.in_ok-plans.ensures.plans ∙ slices;
-      compiled = c.in_ok-plans.ensures.compiled ∙ count;
-      few = omega (arith, c.in_ok-plans.ensures.few, few-slices old, ap length c.requires.base, ap length c.pcf.ensures.rows, c.pcf.ensures.few);
+      compiled = names;
+      few = omega (arith, ap length c.in_ok-plans.ensures.compiled, few-new c.args.base.now (map (now_of c.in_ok-sources.sources) c.args.base.now), length-map c.args.base.now (now_of c.in_ok-sources.sources), few-slices old, ap length c.requires.base, ap length c.pcf.ensures.rows, c.pcf.ensures.few);
       steps = omega (arith, c.in_ok-plans.ensures.steps, count);
     }

@@ -7,15 +7,10 @@ use Rattle.mib_model.specs.Orders.{sorted_by}
 use Rattle.mib_model.specs.Plans.{has_plan, may_precede}
 use Rattle.param_plan.specs.Names.{Ascend}
 use Rattle.param_plan.specs.Slices.{slice_for}
+use Rattle.param_set.proofs.BesideFacts.{few-new}
 use Rattle.param_set.proofs.CountFacts.{planned-most}
 use Rattle.param_set.proofs.UniqueFacts.{slices-ascend}
 use Rattle.param_set.proofs.set.params_of.Goals as goal
-
-pub plans_of-requires : goal.plans_of-requires
-plans_of-requires g c =
-    let rows = ap (map (λ (row : Bor PcfRow). row.now)) c.deref.ensures.value ∙ c.in_ok-rows.ensures in
-    let most = planned-most (λ x y. may_precede x.name y.name) has_plan c.pcf.result.now in
-    omega (arith, ap length rows, length-map c.deref.result.now (λ (row : Bor PcfRow). row.now), most, c.pcf.ensures.few)
 
 pub new-params-requires : goal.new-params-requires
 unfolding param_slices
@@ -27,5 +22,6 @@ new-params-requires g c =
 pub returns-clause-few : goal.returns-clause-few
 returns-clause-few g c =
     let rows = ap (map (λ (row : Bor PcfRow). row.now)) c.deref.ensures.value ∙ c.in_ok-rows.ensures in
+    let few = few-new c.args.base.now (map (slice_for c.in_ok-sources.sources) (map (λ (row : Bor PcfRow). row.now) c.deref.result.now)) in
     let most = planned-most (λ x y. may_precede x.name y.name) has_plan c.pcf.result.now in
-    omega (arith, ap length rows, length-map c.deref.result.now (λ (row : Bor PcfRow). row.now), most, c.pcf.ensures.few, c.in_ok-plans.ensures.few)
+    omega (arith, ap length rows, length-map c.deref.result.now (λ (row : Bor PcfRow). row.now), most, c.pcf.ensures.few, ap length c.in_ok-plans.ensures.compiled, few, length-map (map (λ (row : Bor PcfRow). row.now) c.deref.result.now) (slice_for c.in_ok-sources.sources))

@@ -1,4 +1,4 @@
-use Rattle.std.proofs.Common.{◌∙◌, Bool, List, Option, Some, None, arith, ap, sym, if◌then◌else◌}
+use Rattle.std.proofs.Common.{◌∙◌, List, Option, Some, None, arith, ap, sym, if◌then◌else◌}
 use Rattle.std.proofs.lemmas.List.{take_all}
 use Rattle.std.specs.Option.{option_eq, option_or}
 use Rattle.std.specs.Ordering.{int_eq}

@@ -1,4 +1,4 @@
-use Rattle.std.proofs.Common.{◌≡◌, ◌∙◌, ℤ, arith, ap, length}
+use Rattle.std.proofs.Common.{◌≡◌, ◌∙◌, ℤ, [], arith, ap, length, sym}
 use Rattle.std.specs.declared.sync.Arc.{Arc}
 use Rattle.std.specs.HashMap.{HashMap}
 use Rattle.mib_model.specs.declared.database.Database.{Database}
@@ -13,14 +13,14 @@ returns-then-are_structured_alike g c =
     let old : Database = c.args.old.now in
     let new : Database = c.args.book.now in
     let alike : AreStructuredAlike old new = c.are_structured_alike.ensures c.if-are_structured_alike.true in
-    let none : length (new_structures c.args.base.now new) ≡ 0 = ap (λ (db : Database). length (new_structures db new)) c.requires ∙ ap length (none-new old new alike) in
+    let none : new_structures c.args.base.now new ≡ [] = ap (λ (db : Database). new_structures db new) c.requires ∙ none-new old new alike in
     record {
       structures = λ tpsd.
           ap (λ (structures : HashMap ℤ (Arc StructureRows _) _). structure_at structures tpsd) c.in_ok-try_clone.ensures
           ∙ c.base.invariant.0 tpsd
           ∙ ap (λ (db : Database). structure_found db tpsd) (c.base.view_is ∙ c.requires)
           ∙ structures-alike old new alike tpsd;
-      compiled = omega (arith, none);
-      few = omega arith;
-      steps = omega (arith, none);
+      compiled = c.new.ensures.items ∙ sym none;
+      few = omega (arith, ap length c.new.ensures.items);
+      steps = omega (arith, ap length none);
     }

@@ -2,7 +2,7 @@ use Rattle.std.proofs.Common.{◌∙◌, ap, option_map}
 use Rattle.mib_model.specs.Checks.{class_of}
 use Rattle.check_plan.specs.Rows.{CheckRows}
 use Rattle.check_plan.specs.Samples.{count_of, sample_of}
-use Rattle.check_plan.proofs.SetFacts.{class-same, counts-within}
+use Rattle.check_plan.proofs.SetFacts.{class-same}
 use Rattle.check_plan.proofs.checks.Checks.class_of.Goals as goal
 
 pub returns : goal.returns
@@ -10,8 +10,5 @@ returns g c =
     let memory = g.K.Holds.memory c.args.kept.now in
     let sample = sample_of c.args.sample in
     let previous = option_map count_of c.args.previous in
-    c.class_of.ensures ∙ (class-same c.self.inside.set c.self.inside.ocps.value.items c.self.invariant.2 sample previous memory ∙
+    c.class_of.ensures ∙ (class-same c.self.inside.set c.self.inside.ocps.value.items c.self.invariant.types sample previous memory ∙
     ap (λ (rows : CheckRows). class_of rows.ocps sample previous memory) c.self.view_is)
-
-pub class_of-requires : goal.class_of-requires
-class_of-requires g c = counts-within c.self.inside.set c.self.inside.ocps.value.items c.self.invariant.2

@@ -3,7 +3,7 @@ use Rattle.std.proofs.lemmas.Bool.{cases_lt}
 use Rattle.mib_model.specs.declared.packet.Value.{Value}
 use Rattle.mib_model.specs.Kept.{Memory, entered}
 use Rattle.fold_state.specs.Boards.{memory_of}
-use Rattle.fold_state.specs.Premises.{AreSeated, HasSlot}
+use Rattle.fold_state.specs.Premises.{AreSeated, HasSlot, IsRaw}
 use Rattle.fold_state.proofs.FinishFacts.{each-item, slot-kept}
 use Rattle.fold_state.proofs.SeatFacts.{entered-more, seated-more, seated-past, place-kept}
 use Rattle.fold_state.proofs.board.Board.enter_all.Goals as goal
@@ -26,7 +26,8 @@ loop-k-preserved c =
             | inl within ↦ subst (AreSeated board values (i + 1)) (sym (c.note_seat.ensures.noted within)) (seated-more board values v i c.enter-at.result c.loop-k.seats.items below is within here (c.loop-k.invariant.seats slots))
             | inr full ↦ subst (AreSeated board values (i + 1)) (sym (c.note_seat.ensures.past full)) (seated-past board values i c.loop-k.seats.items full (c.loop-k.invariant.seats slots))
           ];
-      memory = λ slots.
+      memory = λ slots numbers.
+          let raw = each-item IsRaw values i v below is numbers in
           let slot = slot-kept board c.loop-k.self v.name same (each-item (λ (v : Value). HasSlot board v.name) values i v below is slots) in
-          c.enter-at.ensures.memory slot ∙ (ap (λ (m : Memory). entered m v) (c.loop-k.invariant.memory slots) ∙ sym (entered-more (memory_of board) values v i below is));
+          c.enter-at.ensures.memory slot raw ∙ (ap (λ (m : Memory). entered m v) (c.loop-k.invariant.memory slots numbers) ∙ sym (entered-more (memory_of board) values v i below is));
     }

@@ -18,7 +18,7 @@ returns-clause-memory c = λ db fits.
     let entered = fits-kept db c.args.params.now board c.enter_all.new.self values c.enter_all.ensures.names began in
     let seated = seated-kept board c.enter_all.new.self values (length values) c.enter_all.new.seats.items c.enter_all.ensures.names (c.enter_all.ensures.seats began.slots) in
     let handed = subst (λ (seats : List ℕ). AreSeated c.enter_all.new.self values (length values) seats) (sym c.deref.ensures.value) seated in
-    let memory = c.enter_all.ensures.memory began.slots ∙ ap (λ (b : Slots). all_entered (memory_of b) values) same in
+    let memory = c.enter_all.ensures.memory began.slots began.numbers ∙ ap (λ (b : Slots). all_entered (memory_of b) values) same in
     ap memory_of c.give_seats.ensures ∙ ((c.finish_all.ensures.finished db entered handed).memory ∙ ap (λ (m : Memory). (all_finished db m values).0) memory)
 
 pub returns-clause-text : goal.returns-clause-text
@@ -30,6 +30,6 @@ returns-clause-text c = λ db fits.
     let entered = fits-kept db c.args.params.now board c.enter_all.new.self values c.enter_all.ensures.names began in
     let seated = seated-kept board c.enter_all.new.self values (length values) c.enter_all.new.seats.items c.enter_all.ensures.names (c.enter_all.ensures.seats began.slots) in
     let handed = subst (λ (seats : List ℕ). AreSeated c.enter_all.new.self values (length values) seats) (sym c.deref.ensures.value) seated in
-    let memory = c.enter_all.ensures.memory began.slots ∙ ap (λ (b : Slots). all_entered (memory_of b) values) same in
+    let memory = c.enter_all.ensures.memory began.slots began.numbers ∙ ap (λ (b : Slots). all_entered (memory_of b) values) same in
     let text = (c.finish_all.ensures.finished db entered handed).text ∙ ap (λ (m : Memory). c.head_line.new.out ++ flat_map (told_text c.args.seen.now.packet.now) (all_finished db m values).1) memory in
     c.ended_line.ensures.text ∙ (rw (text, c.head_line.ensures.text) (simp append_assoc))

@@ -10,7 +10,7 @@ use Rattle.fold_state.proofs.board.Board.finish_by.Goals as goal
 
 pub returns-then-is_plain-clause-finished : goal.returns-then-is_plain-clause-finished
 returns-then-is_plain-clause-finished c = λ db plans made at raw.
-    finish-plain-at db (memory_of c.args.self.now) c.args.value.now c.args.params.now c.args.self.now c.args.seat plans made at (λ s. c.is_plain.ensures s c.if-is_plain.true)
+    finish-plain-at db (memory_of c.args.self.now) c.args.value.now c.args.params.now c.args.self.now c.args.seat plans made at (sym c.is_plain.ensures ∙ c.if-is_plain.true)
 
 pub returns-then-seat-plans-clause-finished : goal.returns-then-seat-plans-clause-finished
 returns-then-seat-plans-clause-finished c = λ db plans made at raw.

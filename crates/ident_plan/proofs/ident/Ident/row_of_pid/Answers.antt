@@ -1,4 +1,4 @@
-use Rattle.std.proofs.Common.{◌≡◌, ◌∙◌, Bool, ◌==◌, ◌&&◌, List, [], ◌∷◌, get_or, Some, None, if◌then◌else◌, sym, ap, subst}
+use Rattle.std.proofs.Common.{◌≡◌, ◌∙◌, Bool, List, [], ◌∷◌, get_or, Some, None, if◌then◌else◌, sym, ap, subst}
 use Rattle.std.specs.List.{filter, find}
 use Rattle.mib_model.specs.declared.rows.PidRow.{PidRow}
 use Rattle.ident_plan.specs.declared.kin.Kin.{Kin}
@@ -6,17 +6,9 @@ use Rattle.ident_plan.specs.declared.kin.Kin.TheVariants.{Empty, One, More}
 use Rattle.ident_plan.specs.declared.keys.PacketKey.{PacketKey}
 use Rattle.ident_plan.specs.Kins.{is_of, IsKin}
 use Rattle.ident_plan.specs.Rows.{IdentRows}
-use Rattle.ident_plan.proofs.KinFacts.{none-of, one-of, regroup}
+use Rattle.ident_plan.proofs.KeyFacts.{rest_of, same, whole_of}
+use Rattle.ident_plan.proofs.KinFacts.{none-of, one-of}
 use Rattle.ident_plan.proofs.ident.Ident.row_of_pid.Goals as goal
-
-abbrev rest_of : PacketKey → PidRow → Bool
-rest_of key row = (row.service == key.service) && (row.subtype == key.subtype) && (row.pi1_val == key.pi1_val) && (row.pi2_val == key.pi2_val)
-
-abbrev whole_of : PacketKey → PidRow → Bool
-whole_of key row = (row.apid == key.apid) && (row.service == key.service) && (row.subtype == key.subtype) && (row.pi1_val == key.pi1_val) && (row.pi2_val == key.pi2_val)
-
-same : (key : PacketKey) (row : PidRow) → whole_of key row ≡ (is_of key.apid row && rest_of key row)
-same key row = regroup (row.apid == key.apid) (row.service == key.service) (row.subtype == key.subtype) (row.pi1_val == key.pi1_val) (row.pi2_val == key.pi2_val)
 
 pub returns-in-Some-Empty : goal.returns-in-Some-Empty
 returns-in-Some-Empty c =

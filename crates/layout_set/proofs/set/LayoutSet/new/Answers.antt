@@ -1,4 +1,4 @@
-use Rattle.std.proofs.Common.{◌≡◌, ◌∙◌, arith, ap, length}
+use Rattle.std.proofs.Common.{◌≡◌, ◌∙◌, [], arith, ap, length, sym}
 use Rattle.layout_set.proofs.AlikeFacts.{none-new}
 use Rattle.layout_set.specs.Sets.{new_layouts}
 use Rattle.mib_model.specs.declared.database.Database.{Database}
@@ -6,12 +6,12 @@ use Rattle.layout_set.proofs.set.LayoutSet.new.Goals as goal
 
 pub returns-then-are_laid_alike : goal.returns-then-are_laid_alike
 returns-then-are_laid_alike g c =
-    let none : length (new_layouts c.args.base.now c.args.book.now) ≡ 0 =
-    ap (λ (db : Database). length (new_layouts db c.args.book.now)) c.requires.base
-    ∙ ap length (none-new c.args.old.now c.args.book.now (c.are_laid_alike.ensures c.if-are_laid_alike.true) c.requires.sound) in
+    let none : new_layouts c.args.base.now c.args.book.now ≡ [] =
+    ap (λ (db : Database). new_layouts db c.args.book.now) c.requires.base
+    ∙ none-new c.args.old.now c.args.book.now (c.are_laid_alike.ensures c.if-are_laid_alike.true) c.requires.sound in
     record {
       set = c.in_ok-taken_over.ensures;
-      compiled = omega (arith, none);
-      few = omega arith;
-      steps = omega (arith, none);
+      compiled = c.new.ensures.items ∙ sym none;
+      few = omega (arith, ap length c.new.ensures.items);
+      steps = omega (arith, ap length none);
     }

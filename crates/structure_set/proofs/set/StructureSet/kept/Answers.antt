@@ -1,4 +1,4 @@
-use Rattle.std.proofs.Common.{◌∙◌, ℤ, arith, ap, length, sym}
+use Rattle.std.proofs.Common.{◌∙◌, ℤ, ap, sym}
 use Rattle.std.specs.declared.sync.Arc.{Arc}
 use Rattle.std.specs.HashMap.{HashMap}
 use Rattle.mib_model.specs.declared.database.Database.{Database}
@@ -19,4 +19,4 @@ invariant_of-set c = (
 )
 
 pub returns-clause-compiled : goal.returns-clause-compiled
-returns-clause-compiled c = omega (arith, ap length (none-new c.args.self.now c.args.book.now c.requires.alike))
+returns-clause-compiled c = c.new.ensures.items ∙ sym (none-new c.args.self.now c.args.book.now c.requires.alike)

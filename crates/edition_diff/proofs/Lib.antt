@@ -1,0 +1,5 @@
+pub mod RowFacts
+pub mod OrderFacts
+pub mod NamedPlans
+pub mod TouchedFacts
+mod AlikeFacts
