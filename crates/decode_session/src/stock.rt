@@ -4,7 +4,7 @@ ghost use Rattle.edition_plans.specs.Params.{param_slices};
 ghost use Rattle.fold_state.specs.Boards.{memory_of, plan_names};
 ghost use Rattle.mib_model.specs.Kept.{empty_memory};
 ghost use Rattle.decode_session.specs.Homes.{AreOutOf};
-ghost use Rattle.decode_session.specs.Run.{most_in_flight};
+ghost use Rattle.decode_session.specs.Run.{ahead_for, most_in_flight};
 
 use crate::cell::Cell;
 use crate::finishing::free_rooms;
@@ -27,6 +27,7 @@ const BATCH: u16 = 64;
 
 /// How many packets are read ahead for so many workers: few for one, which is done with each at once.
 pub fn rooms_for(workers: u8) -> u16
+    ensures count { result ≡ ahead_for workers }
     ensures some { 0 < result }
     ensures few { result ≤ most_in_flight }
 {
