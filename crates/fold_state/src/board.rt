@@ -100,7 +100,7 @@ impl Board {
 
     // Whether a name stands at a place.
     fn is_at(&self, at: usize, name: &Name) -> bool
-        ensures { IsTrue result → at < length self.now.names × (get_or self.now.names at [] ≡ name.now) }
+        ensures { IsTrue result → place_of self.now name.now ≡ Some at }
     {
         at < self.slots.len() && self.slots[at].name == *name
     }
@@ -127,22 +127,27 @@ impl Board {
         self.halved(*name)
     }
 
-    /// Where the guesses begin of a packet that is of this kind and has so many values.
-    pub(crate) fn guesses_for(&mut self, spid: u32, count: usize) -> usize
-        ensures { self.new ≡ self.old }
+    /// The place of a name, which is looked for first at this one.
+    pub(crate) fn place_from(&self, guess: usize, name: &Name) -> Option<usize>
+        ensures { result ≡ place_of self.now name.now }
     {
-        self.guesses.row(spid, count)
+        if self.is_at(guess, name) {
+            return Some(guess);
+        }
+        self.place(name)
     }
 
-    /// Reads ahead what will be asked of the plans and slots of so many values, whose guesses begin here.
-    pub(crate) fn read_ahead(&mut self, params: &Params, first: usize, count: usize)
+    /// Reads ahead what will be asked of the plans and slots of a packet that is of this kind and has so many values, and tells
+    /// where the guesses of their places begin.
+    pub(crate) fn begin(&mut self, params: &Params, spid: u32, count: usize) -> usize
         ensures { self.new ≡ self.old }
     {
-        if self.slots.len() < FAR {
-            return;
+        let first = self.guesses.row(spid, count);
+        if self.slots.len() >= FAR {
+            let places = self.guesses.places(first, count);
+            self.ahead = read_ahead(&self.slots, params, places);
         }
-        let places = self.guesses.places(first, count);
-        self.ahead = read_ahead(&self.slots, params, places);
+        first
     }
 
     /// The place of a name, which is looked for first where a guess says.
@@ -169,6 +174,21 @@ impl Board {
             self.guesses.note(near, at);
         }
         at
+    }
+
+    /// Takes over the guesses of another board, which may be as right for this one where both have as many slots.
+    pub(crate) fn take_guesses(&mut self, other: Board)
+        ensures { self.new ≡ self.old }
+    {
+        if self.slots.len() == other.slots.len() {
+            let Board {
+                slots: _slots,
+                guesses,
+                seats: _seats,
+                ahead: _,
+            } = other;
+            self.guesses = guesses;
+        }
     }
 
     /// Takes the seats out, so that they can be noted beside the slots.

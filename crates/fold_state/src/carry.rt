@@ -90,12 +90,12 @@ fn kept_at(old: &Board, at: usize, from: &Params, plan: &Param) -> Slot
     held(*old.slot(at), &plan.rows().ocf)
 }
 
-// What is kept of a parameter under the new edition.
-fn kept_for(old: &Board, from: &Params, plan: &Param) -> Slot
+// What is kept under the new edition of a parameter, which is looked for first at this place.
+fn kept_for(old: &Board, at: usize, from: &Params, plan: &Param) -> Slot
     ensures { (before after : Database) → IsParamsOf before from.now → old.now.names ≡ plan_names from.now → IsSliceOf after plan.now.pcf.name plan.now
         → kept_as result ≡ Spec.carry (memory_of old.now) before after plan.now.pcf.name }
 {
-    match old.place(&plan.name()) {
+    match old.place_from(at, &plan.name()) {
         Some(at) => kept_at(old, at, from, plan),
         None => Slot::new(plan.name()),
     }
@@ -111,7 +111,7 @@ impl Board {
             → place_of self.old plan.now.pcf.name ≡ Some at
             → memory_of self.new ≡ keeping (memory_of self.old) plan.now.pcf.name (Spec.carry (memory_of old.now) before after plan.now.pcf.name) }
     {
-        self.set_slot(at, kept_for(old, from, plan));
+        self.set_slot(at, kept_for(old, at, from, plan));
     }
 
     /// Takes over what an old board kept, where the edition changes: all of a name whose parameter, check but for the number
@@ -128,5 +128,6 @@ impl Board {
         for at in 0..plans.len() {
             self.carry_at(at, &old, from, &plans[at]);
         }
+        self.take_guesses(old);
     }
 }

@@ -42,7 +42,8 @@ impl Board {
     pub(crate) fn enter_all(&mut self, values: &[Value], first: usize, seats: &mut Vec<usize>)
         ensures names { self.new.names ≡ self.old.names }
         ensures seats { All (λ v. HasSlot self.old v.name) values.now → AreSeated self.old values.now (length values.now) seats.new.items }
-        ensures memory { All (λ v. HasSlot self.old v.name) values.now → All IsRaw values.now → memory_of self.new ≡ Spec.all_entered (memory_of self.old) values.now }
+        ensures memory { All (λ v. HasSlot self.old v.name) values.now → All IsRaw values.now
+            → memory_of self.new ≡ Spec.all_entered (memory_of self.old) values.now }
     {
         for k in 0..values.len() {
             let at = self.enter(&values[k], first.saturating_add(k));

@@ -1,4 +1,4 @@
-ghost use Rattle.std.specs.Prelude.{◌≡◌, ◌≤◌, ◌<◌, ◌+◌, ◌*◌, ◌++◌, List, ℕ, Some, length, get_or, option_map, take, true};
+ghost use Rattle.std.specs.Prelude.{◌≡◌, ◌≤◌, ◌<◌, ◌+◌, ◌*◌, ◌++◌, List, ℕ, None, Some, length, get_or, option_map, take, true, IsTrue};
 ghost use Rattle.std.specs.List.{All, flat_map};
 ghost use Rattle.std.specs.Option.{option_copied};
 ghost use Rattle.fold_state.specs.Boards.{memory_of, place_of, plan_names};
@@ -11,6 +11,7 @@ ghost use Rattle.mib_model.specs.declared.database.Database.{Database};
 ghost use Rattle.mib_model.specs.Finish as Spec;
 ghost use Rattle.mib_model.specs.Fixed.{most_values};
 ghost use Rattle.mib_model.specs.Kept.{all_entered};
+ghost use Rattle.mib_model.specs.Tails.{Plain};
 ghost use Rattle.mib_model.specs.Texts.{ended_text, head_text, told_text, value_text};
 ghost use Rattle.record_text.specs.TailViews.{tail_as};
 ghost use Rattle.record_text.specs.declared.lines.TheConstants.{LINES_ROOM, LINE_MOST, HEAD_ROOM, VALUE_ROOM, NOTE_ROOM};
@@ -19,7 +20,9 @@ use crate::board::Board;
 use crate::check::calibrated;
 use mib_model::{Cal, Change, Ended, Found, Header, Text, Value};
 use param_plan::{Param, Params};
-use record_text::{Lines, Tail, change_line, ended_line, head_line, value_line};
+use record_text::{
+    Lines, Tail, begin_value, change_line, end_plain_value, end_value, ended_line, head_line,
+};
 
 /// The most octets of text behind which a record may be appended.
 pub const TEXT_BEFORE: usize = 65_536;
@@ -87,6 +90,16 @@ impl Board {
         (tail_for(plan.decimals(), given), change)
     }
 
+    // Whether of a value of the name at a place the raw number alone is shown.
+    #[inline(always)]
+    fn is_shown_raw(&self, params: &Params, seat: usize, value: &Value) -> bool
+        ensures { IsTrue result → (db : Database) → IsParamsOf db params.now → self.now.names ≡ plan_names params.now
+            → place_of self.now value.now.name ≡ Some seat
+            → Spec.told value.now Plain (memory_of self.now, None) ≡ Spec.finished db (memory_of self.now) value.now }
+    {
+        params.is_plain(seat)
+    }
+
     // Finishes a value by the plan of its name, which is at this place.
     fn finish_by<'a>(
         &mut self,
@@ -99,9 +112,6 @@ impl Board {
             → place_of self.old value.now.name ≡ Some seat → IsRaw value.now
             → Spec.told value.now (tail_as result.0) (memory_of self.new, result.1) ≡ Spec.finished db (memory_of self.old) value.now }
     {
-        if params.is_plain(seat) {
-            return (Tail::Plain, None);
-        }
         let plans = params.plans();
         if seat >= plans.len() {
             return (Tail::Plain, None);
@@ -113,6 +123,7 @@ impl Board {
     }
 
     // Finishes a value, whose place is this, and appends its line and that of what its check tells.
+    #[tactic(auto, unfolding(mib_model::specs::Texts::value_text))]
     fn finish_value(
         &mut self,
         params: &Params,
@@ -129,8 +140,13 @@ impl Board {
             → IsFinished db packet.now value.now (memory_of self.old) (memory_of self.new) out.old out.new }
         ensures room { length out.new ≤ length out.old + (VALUE_ROOM + NOTE_ROOM) }
     {
+        begin_value(value, packet, out);
+        if self.is_shown_raw(params, seat, value) {
+            end_plain_value(out);
+            return;
+        }
         let (tail, change) = self.finish_by(params, seat, value);
-        value_line(value, packet, &tail, out);
+        end_value(&tail, out);
         add_change(value, change, out);
     }
 
@@ -172,16 +188,6 @@ impl Board {
         }
     }
 
-    // Reads ahead what the values of a packet will ask for, and tells where the guesses of their places begin.
-    fn begin(&mut self, params: &Params, seen: &Seen<'_>) -> usize
-        ensures { self.new ≡ self.old }
-    {
-        let count = seen.values.len();
-        let first = self.guesses_for(kind_of(seen.found), count);
-        self.read_ahead(params, first, count);
-        first
-    }
-
     /// Finishes the values of a packet: enters their raw numbers, then calibrates and checks each in its order, and appends
     /// the packet's record without its edition. There are at most 8,192 values, whose bits are in the packet, and the text
     /// before has at most `TEXT_BEFORE` octets. What is kept and appended is that of the definitions where the board was made
@@ -201,7 +207,7 @@ impl Board {
         ensures room { length out.new + LINE_MOST ≤ LINES_ROOM }
     {
         head_line(seen.number, seen.header, seen.found, seen.title, out);
-        let first = self.begin(params, seen);
+        let first = self.begin(params, kind_of(seen.found), seen.values.len());
         let mut seats = self.take_seats();
         self.enter_all(seen.values, first, &mut seats);
         self.finish_all(params, &seats, seen.values, seen.packet, out);

@@ -6,11 +6,12 @@ use std::alloc::{AllocError, Global};
 /// The guesses by the octets of a name.
 const NAMED: usize = 65_536;
 
-/// A kind of packet, and where its row of guesses begins.
+/// A kind of packet, where its row of guesses begins, and how many it has.
 #[derive(Clone, Copy)]
 struct Kind {
     spid: u32,
     first: u32,
+    count: u32,
 }
 
 /// Guesses of places: packets of one kind have their values in one order, so each kind has a row of guesses, the places
@@ -35,7 +36,11 @@ fn mixed(name: &Name) -> u32 {
 impl Guesses {
     /// Guesses for the names of slots at these places. An error is want of memory.
     pub fn new(alloc: Global, slots: &[Slot]) -> Result<Guesses, AllocError> {
-        let nothing = Kind { spid: 0, first: 0 };
+        let nothing = Kind {
+            spid: 0,
+            first: 0,
+            count: 0,
+        };
         let mut guesses = Guesses {
             kinds: vec![in alloc; nothing; slots.len()]?,
             places: vec![in alloc; 0; slots.len().saturating_mul(8)]?,
@@ -97,12 +102,19 @@ impl Guesses {
     pub fn row(&mut self, spid: u32, count: usize) -> usize {
         let at = spid as usize % self.kinds.len().max(1);
         if let Some(kind) = self.kinds.get(at) {
-            if kind.spid == spid {
+            if kind.spid == spid && count <= kind.count as usize {
                 return kind.first as usize;
             }
         }
         let first = self.take_row(count);
-        self.keep(at, Kind { spid, first });
+        self.keep(
+            at,
+            Kind {
+                spid,
+                first,
+                count: u32::try_from(count).unwrap_or(0),
+            },
+        );
         first as usize
     }
 

@@ -17,11 +17,29 @@ pub fn has_number(sort: Sort) -> bool
     matches!(sort, Sort::Unsigned | Sort::Signed)
 }
 
+// Whether a number that isn't a word of 64 bits is a raw number.
+#[inline(never)]
+fn is_low_number(number: i128) -> bool
+    ensures { result ≡ (int_le least_raw number && int_le number greatest_raw) }
+{
+    RAW_LEAST <= number && number <= RAW_MOST
+}
+
+// Whether a number is a raw number, as nearly all are that aren't below zero.
+fn is_raw_number(number: i128) -> bool
+    ensures { result ≡ (int_le least_raw number && int_le number greatest_raw) }
+{
+    match u64::try_from(number) {
+        Ok(_) => true,
+        Err(_) => is_low_number(number),
+    }
+}
+
 /// Whether a value has a number, and that one is a raw number.
 pub fn is_raw(value: &Value) -> bool
     ensures { result ≡ (has_number value.now.shape.sort && (int_le least_raw value.now.raw && int_le value.now.raw greatest_raw)) }
 {
-    has_number(value.shape.sort()) && RAW_LEAST <= value.raw && value.raw <= RAW_MOST
+    has_number(value.shape.sort()) && is_raw_number(value.raw)
 }
 
 // The count of a raw number.

@@ -24,8 +24,10 @@ mod tail;
 mod value;
 
 pub use code::code_line;
-pub use lines::{HEAD_ROOM, LINE_MOST, LINES_ROOM, Lines, NOTE_ROOM, VALUE_ROOM};
+pub use lines::{
+    BEGIN_ROOM, END_ROOM, HEAD_ROOM, LINE_MOST, LINES_ROOM, Lines, NOTE_ROOM, VALUE_ROOM,
+};
 pub use record::{change_line, cut_line, edition_line, ended_line, head_line};
 pub use reply::reply_line;
 pub use tail::Tail;
-pub use value::value_line;
+pub use value::{begin_value, end_plain_value, end_value, value_line};

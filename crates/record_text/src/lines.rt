@@ -14,8 +14,14 @@ pub const LINE_MOST: usize = 5_000;
 /// The most octets of a head line.
 pub const HEAD_ROOM: usize = 600;
 
+/// The most octets of the line of a value up to its tail.
+pub const BEGIN_ROOM: usize = 4_138;
+
+/// The most octets of a value's tail and the end of its line.
+pub const END_ROOM: usize = 262;
+
 /// The most octets of the line of a value.
-pub const VALUE_ROOM: usize = 4_400;
+pub const VALUE_ROOM: usize = BEGIN_ROOM + END_ROOM;
 
 /// The most octets of any other line.
 pub const NOTE_ROOM: usize = 60;

@@ -1,8 +1,9 @@
 // The texts of raw values.
-ghost use Rattle.std.specs.Prelude.{◌≡◌, ◌≤◌, ◌<◌, ◌+◌, ◌*◌, ◌/◌, ◌++◌, length, codes, decimal, true};
+ghost use Rattle.std.specs.Prelude.{◌≡◌, ◌≤◌, ◌<◌, ◌+◌, ◌*◌, ◌/◌, ◌++◌, length, codes, decimal, false, true};
 ghost use Rattle.std.specs.Fmt.{signed_decimal};
 ghost use Rattle.std.specs.List.{flat_map};
 ghost use Rattle.mib_model.specs.Bits as Bits;
+ghost use Rattle.mib_model.specs.Kept.{has_number};
 ghost use Rattle.mib_model.specs.RawTexts as Spec;
 ghost use Rattle.record_text.specs.declared.raw.TheConstants.{RAW_ROOM};
 
@@ -146,6 +147,29 @@ fn add_octet_time(packet: &[u8], at: u64, coarse: u8, fine: u8, out: &mut Page)
     }
 }
 
+// Appends the raw text of a value that has no number.
+#[tactic(auto, unfolding(mib_model::specs::RawTexts::raw_text))]
+fn add_other(value: &Value, packet: &[u8], out: &mut Page)
+    requires inside { Bits.is_inside packet.now value.now.at value.now.shape.width ≡ true }
+    requires sort { has_number value.now.shape.sort ≡ false }
+    requires room { length out.old.octets + RAW_ROOM ≤ out.old.limit }
+    ensures text { out.new.octets ≡ out.old.octets ++ Spec.raw_text value.now packet.now }
+    ensures room { length out.new.octets ≤ length out.old.octets + RAW_ROOM }
+    ensures limit { out.new.limit ≡ out.old.limit }
+{
+    let Value { at, shape, .. } = *value;
+    let width = shape.width();
+    match shape.sort() {
+        Sort::Unsigned | Sort::Signed => {}
+        Sort::Real => add_real(shape, packet, at, out),
+        Sort::Octets => add_hex_field(packet, at, width / 8, out),
+        Sort::Chars => add_quoted_field(packet, at, width / 8, out),
+        Sort::Cds => add_day_time(packet, at, width, out),
+        Sort::Cuc { coarse, fine } => add_octet_time(packet, at, coarse, fine, out),
+        Sort::Deduced => {}
+    }
+}
+
 /// Appends the raw text of a value.
 #[tactic(auto, unfolding(mib_model::specs::RawTexts::raw_text))]
 pub(crate) fn add_raw(value: &Value, packet: &[u8], out: &mut Page)
@@ -155,15 +179,8 @@ pub(crate) fn add_raw(value: &Value, packet: &[u8], out: &mut Page)
     ensures room { length out.new.octets ≤ length out.old.octets + RAW_ROOM }
     ensures limit { out.new.limit ≡ out.old.limit }
 {
-    let Value { at, shape, .. } = *value;
-    let width = shape.width();
-    match shape.sort() {
+    match value.shape.sort() {
         Sort::Unsigned | Sort::Signed => add_integer(value.raw, out),
-        Sort::Real => add_real(shape, packet, at, out),
-        Sort::Octets => add_hex_field(packet, at, width / 8, out),
-        Sort::Chars => add_quoted_field(packet, at, width / 8, out),
-        Sort::Cds => add_day_time(packet, at, width, out),
-        Sort::Cuc { coarse, fine } => add_octet_time(packet, at, coarse, fine, out),
-        Sort::Deduced => {}
+        _ => add_other(value, packet, out),
     }
 }

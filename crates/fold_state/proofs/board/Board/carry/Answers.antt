@@ -2,7 +2,7 @@ use Rattle.std.proofs.Common.{◌≡◌, ◌∙◌, ◌<◌, ◌≤◌, List, �
 use Rattle.std.proofs.lemmas.List.{length-map}
 use Rattle.std.specs.Arc.{arc_value}
 use Rattle.param_plan.specs.Slices.{ParamSlice}
-use Rattle.fold_state.specs.Boards.{plan_names}
+use Rattle.fold_state.specs.Boards.{memory_of, plan_names}
 use Rattle.fold_state.proofs.CarryFacts.{carried-all, carried-more, plan-placed}
 use Rattle.fold_state.proofs.FinishFacts.{plan-behind, plan-found, slice-found}
 use Rattle.fold_state.proofs.board.Board.carry.Goals as goal
@@ -32,4 +32,4 @@ returns-clause-memory c = λ before after one two.
     let named : length (plan_names c.args.to.now) ≡ length c.args.to.now = simp length-map in
     let long : length c.loop-at.self.names ≤ c.loop-at.at =
     omega (arith, c.loop-at-test.false, many, named, ap (λ (slices : List ParamSlice). length slices) c.plans-plans.ensures.plans, ap (λ (names : List (List ℕ)). length names) made) in
-    carried-all c.args.from.now c.args.to.now c.loop-at.self c.args.old before after c.loop-at.at one two c.requires.old made long (c.loop-at.invariant.memory before after one two)
+    ap memory_of c.take_guesses.ensures ∙ carried-all c.args.from.now c.args.to.now c.loop-at.self c.args.old before after c.loop-at.at one two c.requires.old made long (c.loop-at.invariant.memory before after one two)

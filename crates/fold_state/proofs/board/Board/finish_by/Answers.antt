@@ -4,13 +4,8 @@ use Rattle.std.proofs.lemmas.List.{length-map}
 use Rattle.std.specs.Arc.{arc_value}
 use Rattle.param_plan.specs.Slices.{ParamSlice}
 use Rattle.fold_state.proofs.BoardFacts.{place-within}
-use Rattle.fold_state.specs.Boards.{memory_of}
-use Rattle.fold_state.proofs.FinishFacts.{finish-plain-at, plan-found, plan-behind, plan-within, slice-found}
+use Rattle.fold_state.proofs.FinishFacts.{plan-found, plan-behind, plan-within, slice-found}
 use Rattle.fold_state.proofs.board.Board.finish_by.Goals as goal
-
-pub returns-then-is_plain-clause-finished : goal.returns-then-is_plain-clause-finished
-returns-then-is_plain-clause-finished c = λ db plans made at raw.
-    finish-plain-at db (memory_of c.args.self.now) c.args.value.now c.args.params.now c.args.self.now c.args.seat plans made at (sym c.is_plain.ensures ∙ c.if-is_plain.true)
 
 pub returns-then-seat-plans-clause-finished : goal.returns-then-seat-plans-clause-finished
 returns-then-seat-plans-clause-finished c = λ db plans made at raw.

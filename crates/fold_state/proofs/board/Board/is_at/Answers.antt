@@ -1,6 +1,6 @@
-use Rattle.std.proofs.Common.{◌≡◌, ◌∙◌, ◌<◌, [], length, get_or, map, sym, subst, arith}
-use Rattle.fold_state.specs.Boards.{Slots, slot_name}
-use Rattle.fold_state.proofs.BoardFacts.{name-at, same-name, slots-long}
+use Rattle.std.proofs.Common.{◌≡◌, ◌∙◌, ◌<◌, [], Some, length, get_or, map, sym, subst, arith}
+use Rattle.fold_state.specs.Boards.{Slots, place_of, slot_name}
+use Rattle.fold_state.proofs.BoardFacts.{name-at, place-risen, same-name, slots-long}
 use Rattle.fold_state.proofs.board.Board.is_at.Goals as goal
 
 pub returns-then-at-len : goal.returns-then-at-len
@@ -11,4 +11,4 @@ returns-then-at-len c = λ equal.
     let long = slots-long slots in
     let within : at < length (map slot_name slots) = omega (arith, below, long) in
     let here : get_or (map slot_name slots) at [] ≡ c.args.name.now = name-at slots at c.index.result.now below c.index.ensures ∙ same-name c.index.result.now.name c.args.name.now (sym c.eq.ensures ∙ equal) in
-    subst (λ (b : Slots). (at < length b.names) × (get_or b.names at [] ≡ c.args.name.now)) c.self.view_is (within, here)
+    subst (λ (b : Slots). place_of b c.args.name.now ≡ Some at) c.self.view_is (place-risen (map slot_name slots) c.args.name.now at c.self.invariant within here)

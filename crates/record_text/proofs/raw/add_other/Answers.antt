@@ -1,7 +1,7 @@
 use Rattle.std.proofs.Common.{◌+◌, ◌*◌, length, sym, ◌∙◌, arith}
 use Rattle.std.proofs.lemmas.Bool.{leb-true}
 use Rattle.record_text.proofs.ShapeFacts.{width-most, day_time-least, octet_time-width}
-use Rattle.record_text.proofs.raw.add_raw.Goals as goal
+use Rattle.record_text.proofs.raw.add_other.Goals as goal
 
 pub add_hex_field-requires-clause-count : goal.add_hex_field-requires-clause-count
 add_hex_field-requires-clause-count c = let most = width-most c.args.value.now.shape c.width-width.ensures.encoding in omega arith
