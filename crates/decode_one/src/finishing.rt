@@ -29,6 +29,7 @@ fn title<'a, P: Plans>(plans: &'a P, found: &Found) -> Option<&'a Text>
 /// Finishes a packet that was decoded so: appends its record, without the line of its edition, and leaves what is kept. The
 /// board was made for the parameters of these plans, and the text before has at most `TEXT_BEFORE` octets. It takes
 /// no memory.
+#[inline(always)]
 pub fn finish<P: Plans>(
     plans: &P,
     number: u64,
