@@ -98,7 +98,6 @@ fn extract<P: Plans>(
 
 impl Half {
     /// Decodes a packet: becomes what it is, and takes its values into the front of the slots. It takes no memory.
-    #[inline(always)]
     pub fn decode<P: Plans>(
         &mut self,
         plans: &P,
