@@ -19,6 +19,7 @@ use struct_plan::walk;
 
 // What a packet is.
 #[tactic(auto, unfolding(mib_model::specs::Match::match_of))]
+#[inline(always)]
 fn identify<P: Plans>(plans: &P, header: &Header, packet: &[u8]) -> Found
     requires header { header.now ≡ header_of packet.now }
     requires packet { 7 ≤ length packet.now }
@@ -29,6 +30,7 @@ fn identify<P: Plans>(plans: &P, header: &Header, packet: &[u8]) -> Found
 }
 
 // The values of a packet by the layout of its SPID, which there is, and how they end.
+#[inline(always)]
 fn fixed<P: Plans>(plans: &P, spid: u32, packet: &[u8], values: &mut Values) -> Ended
     requires layout { is_some (layout_of (P.tables plans.now) spid) ≡ true }
     requires slots { length values.old.slots.now ≡ most_values }
@@ -62,6 +64,7 @@ fn walked<P: Plans>(plans: &P, tpsd: i32, dfhsize: u8, packet: &[u8], values: &m
 
 // Takes the values of a packet that is found so, and tells how they end: by its structure where it names one, else by its
 // layout.
+#[inline(always)]
 fn extract<P: Plans>(
     plans: &P,
     found: &Found,
@@ -98,6 +101,7 @@ fn extract<P: Plans>(
 
 impl Half {
     /// Decodes a packet: becomes what it is, and takes its values into the front of the slots. It takes no memory.
+    #[inline(always)]
     pub fn decode<P: Plans>(
         &mut self,
         plans: &P,

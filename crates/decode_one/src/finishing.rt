@@ -17,6 +17,7 @@ use record_text::Lines;
 
 // The name of a packet that was found, where it has one.
 #[tactic(auto, unfolding(mib_model::specs::Interpreter::title_of))]
+#[inline(always)]
 fn title<'a, P: Plans>(plans: &'a P, found: &Found) -> Option<&'a Text>
     ensures { option_copied result ≡ title_of (P.tables plans.now) found.now }
 {
@@ -29,6 +30,7 @@ fn title<'a, P: Plans>(plans: &'a P, found: &Found) -> Option<&'a Text>
 /// Finishes a packet that was decoded so: appends its record, without the line of its edition, and leaves what is kept. The
 /// board was made for the parameters of these plans, and the text before has at most `TEXT_BEFORE` octets. It takes
 /// no memory.
+#[inline(always)]
 pub fn finish<P: Plans>(
     plans: &P,
     number: u64,

@@ -26,11 +26,11 @@ stamped-append db number (p ∷ packets) others =
     let same : number + 1 + length packets ≡ number + suc (length packets) = omega arith in
     ap (λ l. stamped_first db (number, p) ∷ l) (stamped-append db (number + 1) packets others ∙ ap (λ n. stamped_from db (number + 1) packets ++ stamped_from db n others) same)
 
-stamped-one : (db : Database) (number : ℕ) (packet : List ℕ) → stamped_from db number (packet ∷ []) ≡ stamped_first db (number, packet) ∷ []
+pub stamped-one : (db : Database) (number : ℕ) (packet : List ℕ) → stamped_from db number (packet ∷ []) ≡ stamped_first db (number, packet) ∷ []
 unfolding stamped_from
 stamped-one db number packet = refl
 
-stamped-none : (db : Database) (number : ℕ) → stamped_from db number [] ≡ []
+pub stamped-none : (db : Database) (number : ℕ) → stamped_from db number [] ≡ []
 unfolding stamped_from
 stamped-none db number = refl
 
@@ -75,13 +75,13 @@ no-rest count octets (Some left) (n, fits, packet) (rest, size, some, none, take
     let same : octets ≡ rest = taken ∙ ap (λ l. rest ++ l) end ∙ append-nil rest in
     none n (subst (λ (l : List ℕ). n ≤ length l) same fits) (subst (λ l. IsPacket (take n l)) same packet)
 
-rest-alone : (count : ℕ) (cells : List Cell) (old new : Option (List ℕ)) → TookLast count old new → (0 < length cells → IfSome old BeginsWithPacket) → IfSome old (λ octets. cells ≡ [])
+rest-alone : {A : Type 0} (count : ℕ) (cells : List A) (old new : Option (List ℕ)) → TookLast count old new → (0 < length cells → IfSome old BeginsWithPacket) → IfSome old (λ octets. cells ≡ [])
 rest-alone count cells None new took ahead = tt
 rest-alone count [] (Some octets) new took ahead = refl
 rest-alone count (c ∷ cs) (Some octets) new took ahead = absurd (no-rest count octets new (ahead (omega arith)) took)
 
 -- a batch ends as the feed does
-pub batch-ends : (f : Filled) (cells : List Cell) (old new : Option (List ℕ)) → EndsFeed f old new → (0 < length cells → IfSome old BeginsWithPacket) → EndsBatch f cells old new
+pub batch-ends : {A : Type 0} (f : Filled) (cells : List A) (old new : Option (List ℕ)) → EndsFeed f old new → (0 < length cells → IfSome old BeginsWithPacket) → EndsBatch f cells old new
 batch-ends filled.Paused cells old new ends ahead = absurd ends
 batch-ends filled.End cells old new ends ahead = ends
 batch-ends (filled.Cut count) cells old new ends ahead = (ends, rest-alone count cells old new ends ahead)

@@ -21,24 +21,40 @@ use Rattle.mib_model.specs.Texts.{edition_text_of, record_text, record_body}
 same-edition : (edition : ℕ) → (edition == edition) ≡ true
 same-edition edition = search arith
 
--- the interpreter comes to the packet of a cell
-pub comes : (edition : ℕ) (db : Database) (memory : Memory) (cell : Cell) (packet : List ℕ) → packet ≡ packet_in cell
-    → ComesTo (standing edition db memory) (stamped_in edition db cell) cell.number packet db memory
-comes edition db memory cell packet is = record { number = refl; packet = sym is; tables = refl; memory = rw (same-edition edition) refl }
+-- a packet with its number, of an edition with these tables
+abbrev numbered : ℕ → Database → ℕ → List ℕ → StampedPacket
+numbered edition db number packet = record { number = number; packet = packet; edition = edition; tables = db }
 
--- a packet of the edition in use has no line of its edition
-body-text : (edition : ℕ) (db : Database) (memory : Memory) (cell : Cell) → next_text edition db memory (stamped_in edition db cell) ≡ record_body (record_for (standing edition db memory) (stamped_in edition db cell))
-unfolding record_text record_for
-body-text edition db memory cell = ap (λ b. edition_text_of (cond b None (Some edition)) ++ record_body (record_for (standing edition db memory) (stamped_in edition db cell))) (same-edition edition)
+module _ (edition : ℕ) (db : Database) (memory : Memory) where
+  -- the interpreter comes to a packet
+  pub comes-to : (number : ℕ) (packet octets : List ℕ) → octets ≡ packet → ComesTo (standing edition db memory) (numbered edition db number packet) number octets db memory
+  comes-to number packet octets is = record { number = refl; packet = sym is; tables = refl; memory = rw (same-edition edition) refl }
 
-pub stepped-text : (edition : ℕ) (db : Database) (memory after : Memory) (cell : Cell) (old new : List ℕ)
-    → HasStepped (standing edition db memory) (stamped_in edition db cell) after old new → new ≡ old ++ next_text edition db memory (stamped_in edition db cell)
-stepped-text edition db memory after cell old new step = step.text ∙ ap (λ t. old ++ t) (sym (body-text edition db memory cell))
+  -- a packet of the edition in use has no line of its edition
+  body-text : (number : ℕ) (packet : List ℕ) → next_text edition db memory (numbered edition db number packet) ≡ record_body (record_for (standing edition db memory) (numbered edition db number packet))
+  unfolding record_text record_for
+  body-text number packet = ap (λ b. edition_text_of (cond b None (Some edition)) ++ record_body (record_for (standing edition db memory) (numbered edition db number packet))) (same-edition edition)
 
-pub stepped-leaves : (edition : ℕ) (db : Database) (memory after : Memory) (cell : Cell) (old new : List ℕ)
-    → HasStepped (standing edition db memory) (stamped_in edition db cell) after old new → Leaves edition db memory (stamped_in edition db cell) after
-unfolding course_after
-stepped-leaves edition db memory after cell old new step = ap (standing edition db) (sym step.memory)
+  pub step-text : (after : Memory) (number : ℕ) (packet old new : List ℕ)
+      → HasStepped (standing edition db memory) (numbered edition db number packet) after old new → new ≡ old ++ next_text edition db memory (numbered edition db number packet)
+  step-text after number packet old new step = step.text ∙ ap (λ t. old ++ t) (sym (body-text number packet))
+
+  pub step-leaves : (after : Memory) (number : ℕ) (packet old new : List ℕ)
+      → HasStepped (standing edition db memory) (numbered edition db number packet) after old new → Leaves edition db memory (numbered edition db number packet) after
+  unfolding course_after
+  step-leaves after number packet old new step = ap (standing edition db) (sym step.memory)
+
+  -- the interpreter comes to the packet of a cell
+  pub comes : (cell : Cell) (packet : List ℕ) → packet ≡ packet_in cell → ComesTo (standing edition db memory) (stamped_in edition db cell) cell.number packet db memory
+  comes cell packet is = comes-to cell.number (packet_in cell) packet is
+
+  pub stepped-text : (after : Memory) (cell : Cell) (old new : List ℕ)
+      → HasStepped (standing edition db memory) (stamped_in edition db cell) after old new → new ≡ old ++ next_text edition db memory (stamped_in edition db cell)
+  stepped-text after cell old new step = step-text after cell.number (packet_in cell) old new step
+
+  pub stepped-leaves : (after : Memory) (cell : Cell) (old new : List ℕ)
+      → HasStepped (standing edition db memory) (stamped_in edition db cell) after old new → Leaves edition db memory (stamped_in edition db cell) after
+  stepped-leaves after cell old new step = step-leaves after cell.number (packet_in cell) old new step
 
 -- ---- packets
 
@@ -50,11 +66,11 @@ pub leaves-none : (edition : ℕ) (db : Database) (memory : Memory) → LeavesAf
 unfolding course_after_all
 leaves-none edition db memory = refl
 
-text-one : (edition : ℕ) (db : Database) (memory : Memory) (s : StampedPacket) → batch_text edition db memory (s ∷ []) ≡ next_text edition db memory s
+pub text-one : (edition : ℕ) (db : Database) (memory : Memory) (s : StampedPacket) → batch_text edition db memory (s ∷ []) ≡ next_text edition db memory s
 unfolding interpret
 text-one edition db memory s = append-nil (next_text edition db memory s)
 
-leaves-one : (edition : ℕ) (db : Database) (memory after : Memory) (s : StampedPacket) → Leaves edition db memory s after → LeavesAfter edition db memory (s ∷ []) after
+pub leaves-one : (edition : ℕ) (db : Database) (memory after : Memory) (s : StampedPacket) → Leaves edition db memory s after → LeavesAfter edition db memory (s ∷ []) after
 unfolding course_after_all
 leaves-one edition db memory after s leaves = leaves
 

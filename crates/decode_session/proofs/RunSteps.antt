@@ -2,7 +2,7 @@
 use Rattle.std.proofs.Common.{◌≡◌, ◌≢◌, ◌<◌, ◌≤◌, ◌+◌, ℕ, zero, suc, List, [], ◌∷◌, ◌++◌, Option, Some, None, Result, Ok, Err, length, take, refl, sym, ap, ◌∙◌, append_assoc, append-nil, length-append, arith, subst, ◌⊎◌, inl, inr}
 use Rattle.std.specs.List.{All, AllZip, concat}
 use Rattle.std.proofs.lemmas.List.{take_at}
-use Rattle.std.proofs.lemmas.List.Elements.{All-append, All-nil, All-head, All-tail, All-cons}
+use Rattle.std.proofs.lemmas.List.Elements.{All-append, All-nil, All-cons}
 use Rattle.std.proofs.lemmas.List.Folds.{concat-append}
 use Rattle.std.proofs.KnownBytes.{Appends-trans, Appends-nil}
 use Rattle.std.specs.Io.KnownBytes.{Appends, Consumes, IsAtEnd}
@@ -20,7 +20,7 @@ use Rattle.decode_session.specs.declared.ending.RunFault.TheVariants as fault
 use Rattle.decode_session.specs.declared.ending.Stop.TheVariants as stop
 use Rattle.decode_session.specs.Batches.{AreRead, EndsBatch}
 use Rattle.decode_session.specs.Causes.{HasFillCause, HasFeedCause}
-use Rattle.decode_session.specs.Cells.{packet_in, packets_in, stamped_in, all_stamped, IsDecoded, IsReady}
+use Rattle.decode_session.specs.Cells.{packets_in, all_stamped, IsDecoded, IsReady}
 use Rattle.decode_session.specs.Finishing.{batch_text, LeavesAfter, Going}
 use Rattle.decode_session.specs.Run.{Ran, Says, EndsBy, EndsWhole, EndsCut, EndsAtLimit, EndsUnread, EndsUnwritten, EndsWanting, Writes, WritesPart, WritesOver, ReadsNoFurther, StopsWriting}
 use Rattle.decode_session.proofs.BatchFacts.{stamped-append}
@@ -29,7 +29,7 @@ use Rattle.mib_laws.proofs.OneEdition.{output-one}
 use Rattle.mib_model.specs.declared.database.Database.{Database}
 use Rattle.mib_model.specs.Interpreter.{start}
 use Rattle.mib_model.specs.Kept.{Memory, empty_memory}
-use Rattle.mib_model.specs.Output.{stamped_first, stamped_from, output_of_one}
+use Rattle.mib_model.specs.Output.{stamped_from, output_of_one}
 use Rattle.mib_model.specs.Packets.{IsPacket, BeginsNoPacket, IsCut}
 use Rattle.mib_model.specs.Texts.{cut_text, rest_text}
 
@@ -165,6 +165,25 @@ going-start db memory (Some octets) old none =
 pub going-same : (db : Database) (number : ℕ) (memory : Memory) (start left old mid new : Option (List ℕ)) → new ≡ mid → Going db number memory start left old mid → Going db number memory start left old new
 going-same db number memory start left old mid new same so_far = rw same so_far
 
+module _ (db : Database) (number : ℕ) (memory : Memory) where
+  -- packets more
+  pub going-more : (more : List (List ℕ)) (after : Memory) (start left middle old mid new : Option (List ℕ)) → All IsPacket more → Consumes left middle (concat more)
+      → Appends mid new (batch_text 1 db memory (stamped_from db number more)) → LeavesAfter 1 db memory (stamped_from db number more) after
+      → Going db number memory start left old mid → Going db (number + length more) after start middle old new
+  going-more more after None left middle old mid new are taken printed leaves so_far = tt
+  going-more more after (Some octets) None middle old mid new are taken printed leaves so_far = absurd so_far
+  going-more more after (Some octets) (Some left) None old mid new are taken printed leaves so_far = absurd taken
+  going-more more after (Some octets) (Some left) (Some rest) old mid new are taken printed leaves so_far =
+      let (packets, whole, each, count, wrote, kept) = so_far in (
+        packets ++ more,
+        whole-more octets left rest packets more whole taken,
+        All-append IsPacket packets more each are,
+        omega (arith, count, length-append packets more),
+        subst (Appends old new) (sym (output-more db packets more number memory kept count))
+            (Appends-trans old mid new (output_of_one db packets []) (batch_text 1 db memory (stamped_from db number more)) wrote printed),
+        kept-more db packets more number memory after kept count leaves,
+      )
+
 module _ (db : Database) (number : ℕ) (memory : Memory) (cells done : List Cell) (decoded : AllZip (IsDecoded db) cells done) where
   -- the cells' packets are numbered from this number on
   numbered : (left mid : Option (List ℕ)) → AreRead number cells left mid → all_stamped 1 db done ≡ stamped_from db number (packets_in cells)
@@ -173,20 +192,11 @@ module _ (db : Database) (number : ℕ) (memory : Memory) (cells done : List Cel
   -- a batch more
   pub going-batch : (after : Memory) (start left middle old mid new : Option (List ℕ)) → AreRead number cells left middle → Appends mid new (batch_text 1 db memory (all_stamped 1 db done)) → LeavesAfter 1 db memory (all_stamped 1 db done) after
       → Going db number memory start left old mid → Going db (number + length cells) after start middle old new
-  going-batch after None left middle old mid new are printed leaves so_far = tt
-  going-batch after (Some octets) None middle old mid new are printed leaves so_far = absurd so_far
-  going-batch after (Some octets) (Some left) None old mid new are printed leaves so_far = absurd are.taken
-  going-batch after (Some octets) (Some left) (Some rest) old mid new are printed leaves so_far =
-      let (packets, whole, each, count, wrote, kept) = so_far in
-      let is = numbered (Some left) (Some rest) are in (
-        packets ++ packets_in cells,
-        whole-more octets left rest packets (packets_in cells) whole are.taken,
-        All-append IsPacket packets (packets_in cells) each are.are_packets,
-        omega (arith, count, packets-count cells, length-append packets (packets_in cells)),
-        subst (Appends old new) (sym (output-more db packets (packets_in cells) number memory kept count))
-            (Appends-trans old mid new (output_of_one db packets []) (batch_text 1 db memory (stamped_from db number (packets_in cells))) wrote (subst (λ s. Appends mid new (batch_text 1 db memory s)) is printed)),
-        kept-more db packets (packets_in cells) number memory after kept count (subst (λ s. LeavesAfter 1 db memory s after) is leaves),
-      )
+  going-batch after start left middle old mid new are printed leaves so_far =
+      let is = numbered left middle are in
+      subst (λ n. Going db (number + n) after start middle old new) (packets-count cells)
+      (going-more db number memory (packets_in cells) after start left middle old mid new are.are_packets are.taken
+      (subst (λ s. Appends mid new (batch_text 1 db memory s)) is printed) (subst (λ s. LeavesAfter 1 db memory s after) is leaves) so_far)
 
 -- ---- a run that ends
 
@@ -292,7 +302,7 @@ record Rests (some : ℕ) (middle : List ℕ) (after : Option (List ℕ)) (befor
 rests-none : (some : ℕ) (middle left : List ℕ) (before now : ℕ) → middle ≡ left → Rests some middle (Some left) before now
 rests-none some middle left before now same = record { left = left; rest = []; is = refl; whole = same; none = none-begins_none; last = inl (λ more. refl) }
 
-batch-rests : (f : Filled) (cells : List Cell) (middle : List ℕ) (after : Option (List ℕ)) (before now : ℕ) → EndsBatch f cells (Some middle) after → HasFillCause f before now → Rests (length cells) middle after before now
+batch-rests : {A : Type 0} (f : Filled) (cells : List A) (middle : List ℕ) (after : Option (List ℕ)) (before now : ℕ) → EndsBatch f cells (Some middle) after → HasFillCause f before now → Rests (length cells) middle after before now
 batch-rests filled.Paused cells middle after before now (same, some) cause = subst (λ a. Rests (length cells) middle a before now) (sym same) (rests-none (length cells) middle middle before now refl)
 batch-rests filled.End cells middle None before now (end, taken) cause = absurd taken
 batch-rests filled.End cells middle (Some left) before now (end, taken) cause = rests-none (length cells) middle left before now taken
@@ -306,20 +316,18 @@ batch-rests filled.Failed cells middle (Some left) before now took cause =
     let (rest, none, taken) = took in
     record { left = left; rest = rest; is = refl; whole = taken; none = none; last = inr cause.1 }
 
-module _ (db : Database) (number : ℕ) (memory : Memory) (cells done : List Cell) (decoded : AllZip (IsDecoded db) cells done) (f : Filled) (before now : ℕ) (few : length cells ≤ 64) (limit : number + length cells ≤ 1000000001) (cause : HasFillCause f before now) where
-  -- writing stopped in the records of a batch
-  pub ran-stopped : (start left middle after old mid new : Option (List ℕ)) → AreRead number cells left middle → EndsBatch f cells middle after → AppendsPrefix mid new (batch_text 1 db memory (all_stamped 1 db done))
-      → Going db number memory start left old mid → Ran (EndsUnwritten before now) db start after old new
-  ran-stopped None left middle after old mid new are ends stopped so_far = tt
-  ran-stopped (Some octets) None middle after old mid new are ends stopped so_far = absurd so_far
-  ran-stopped (Some octets) (Some left) None after old mid new are ends stopped so_far = absurd are.taken
-  ran-stopped (Some octets) (Some left) (Some middle) after old mid new are ends stopped so_far =
+module _ (db : Database) (number : ℕ) (memory : Memory) (more : List (List ℕ)) (f : Filled) (before now : ℕ) (few : length more ≤ 64) (limit : number + length more ≤ 1000000001) (cause : HasFillCause f before now) where
+  -- writing stopped in the records of packets
+  pub ran-stopped_within : (start left middle after old mid new : Option (List ℕ)) → All IsPacket more → Consumes left middle (concat more) → EndsBatch f more middle after
+      → AppendsPrefix mid new (batch_text 1 db memory (stamped_from db number more)) → Going db number memory start left old mid → Ran (EndsUnwritten before now) db start after old new
+  ran-stopped_within None left middle after old mid new are taken ends stop so_far = tt
+  ran-stopped_within (Some octets) None middle after old mid new are taken ends stop so_far = absurd so_far
+  ran-stopped_within (Some octets) (Some left) None after old mid new are taken ends stop so_far = absurd taken
+  ran-stopped_within (Some octets) (Some left) (Some middle) after old mid new are taken ends stop so_far =
       let (packets, whole, each, count, wrote, kept) = so_far in
-      let r = batch-rests f cells middle after before now ends cause in
-      let more = packets_in cells in
+      let r = batch-rests f more middle after before now ends cause in
       let all = packets ++ more in
       let text = batch_text 1 db memory (stamped_from db number more) in
-      let stop = subst (λ s. AppendsPrefix mid new (batch_text 1 db memory s)) (numbered db number memory cells done decoded (Some left) (Some middle) are) stopped in
       let part : (tail : List ℕ) → WritesPart db all tail old new = λ tail.
       subst (AppendsPrefix old new) (sym (output-tail db all tail ∙ ap (λ t. t ++ tail) (output-more db packets more number memory kept count)))
       (part-longer (output_of_one db packets [] ++ text) tail old new (part-behind (output_of_one db packets []) text old mid new wrote stop)) in
@@ -327,15 +335,31 @@ module _ (db : Database) (number : ℕ) (memory : Memory) (cells done : List Cel
         concat all ++ r.rest,
         all,
         r.rest,
-        read_whole octets middle r.rest r.left all (whole-more octets left middle packets more whole are.taken) r.whole,
-        rest-cut all r.rest (All-append IsPacket packets more each are.are_packets) r.none,
+        read_whole octets middle r.rest r.left all (whole-more octets left middle packets more whole taken) r.whole,
+        rest-cut all r.rest (All-append IsPacket packets more each are) r.none,
         (
-          omega (arith, count, limit, packets-count cells, length-append packets more),
+          omega (arith, count, limit, length-append packets more),
           stops-with db all packets r.rest before now old new part
-              (record { more = more; parted = refl; few = omega (arith, few, packets-count cells); last = subst (λ n. (0 < n → r.rest ≡ []) ⊎ Rose before now) (sym (packets-count cells)) r.last })
+              (record { more = more; parted = refl; few = few; last = r.last })
               (over-part db packets text old mid new wrote stop),
         ),
       )
+
+ends-packets : (f : Filled) (cells : List Cell) (middle after : Option (List ℕ)) → EndsBatch f cells middle after → EndsBatch f (packets_in cells) middle after
+ends-packets filled.Paused cells middle after (same, some) = (same, omega (arith, some, packets-count cells))
+ends-packets filled.End cells middle after ends = ends
+ends-packets (filled.Cut count) cells None after ends = ends
+ends-packets (filled.Cut count) cells (Some octets) after (took, alone) = (took, ap packets_in alone)
+ends-packets filled.Failed cells middle after ends = ends
+
+module _ (db : Database) (number : ℕ) (memory : Memory) (cells done : List Cell) (decoded : AllZip (IsDecoded db) cells done) (f : Filled) (before now : ℕ) (few : length cells ≤ 64) (limit : number + length cells ≤ 1000000001) (cause : HasFillCause f before now) where
+  -- writing stopped in the records of a batch
+  pub ran-stopped : (start left middle after old mid new : Option (List ℕ)) → AreRead number cells left middle → EndsBatch f cells middle after → AppendsPrefix mid new (batch_text 1 db memory (all_stamped 1 db done))
+      → Going db number memory start left old mid → Ran (EndsUnwritten before now) db start after old new
+  ran-stopped start left middle after old mid new are ends stopped so_far =
+      ran-stopped_within db number memory (packets_in cells) f before now (omega (arith, few, packets-count cells)) (omega (arith, limit, packets-count cells)) cause start left middle after old mid new
+      are.are_packets are.taken (ends-packets f cells middle after ends)
+      (subst (λ s. AppendsPrefix mid new (batch_text 1 db memory s)) (numbered db number memory cells done decoded left middle are) stopped) so_far
 
 -- ---- the run whole
 

@@ -30,8 +30,8 @@ EndsFeed filled.End old new = IsAtEnd old × Consumes old new []
 EndsFeed (filled.Cut count) old new = TookLast count old new
 EndsFeed filled.Failed old new = TookRest old new
 
--- how a batch of cells ends: with a packet; or behind its packets as the feed does. A rest is taken only where no packet waits
-abbrev pub EndsBatch : Filled → List Cell → Option (List ℕ) → Option (List ℕ) → Type 0
+-- how a batch of cells or packets ends: with a packet; or behind its packets as the feed does. A rest is taken only where no packet waits
+abbrev pub EndsBatch : {A : Type 0} → Filled → List A → Option (List ℕ) → Option (List ℕ) → Type 0
 EndsBatch filled.Paused cells old new = (new ≡ old) × (0 < length cells)
 EndsBatch filled.End cells old new = EndsFeed filled.End old new
 EndsBatch (filled.Cut count) cells old new = EndsFeed (filled.Cut count) old new × IfSome old (λ octets. cells ≡ [])

@@ -6,3 +6,4 @@ pub mod Cells
 pub mod Batches
 pub mod Finishing
 pub mod Moving
+pub mod Turns

@@ -11,6 +11,7 @@ ghost use Rattle.packet_feed.specs.Feed.{source_of};
 ghost use Rattle.tm_io.specs.Causes.{HasCause};
 ghost use Rattle.tm_io.specs.Octets.{AppendsPrefix};
 
+use crate::alone::run_alone;
 use crate::batch::{Filled, MOST_PACKETS, fill};
 use crate::decoding::decode_batch;
 use crate::ending::{RunEnd, RunFault, Stop};
@@ -71,6 +72,9 @@ fn run_batches<P: Plans + Sync, S: Source, O: Sink, R: Threads + Sync>(
     ensures missed { S.missed (source_of feed.new) ≡ S.missed (source_of feed.old) }
     ensures borrow { S.borrow (source_of feed.new) ≡ S.borrow (source_of feed.old) }
 {
+    if workers == 1 {
+        return run_alone(plans, feed, stock, out);
+    }
     let mut number = 1;
     while number <= MOST_PACKETS {
         let Ok(()) = hand_on_before_wait(feed, out) else {

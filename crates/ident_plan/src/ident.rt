@@ -329,6 +329,7 @@ impl Ident {
     }
 
     /// What a packet is, by the first rule that applies, where its header was read before. It takes no memory.
+    #[inline(always)]
     pub fn find_by(&self, header: &Header, packet: &[u8]) -> Found
         requires packet { 7 ≤ length packet.now }
         requires header { header.now ≡ header_of packet.now }

@@ -90,6 +90,7 @@ impl<S: Source> Feed<S> {
     }
 
     // What comes next, where so many octets of it were read already, a header at least.
+    #[inline(always)]
     fn rest(&mut self, front: usize, into: &mut [u8]) -> Next
         requires some { HEADER_SIZE ≤ front }
         requires length { length into.old ≡ PACKET_SIZE }
@@ -125,6 +126,7 @@ impl<S: Source> Feed<S> {
 
     /// What comes next. The octets of a packet are put at the front of `into`; after another answer, what `into`
     /// holds is left open.
+    #[inline(always)]
     pub fn next(&mut self, into: &mut [u8]) -> Next
         requires { length into.old ≡ PACKET_SIZE }
         ensures gives { Gives result (S.left (source_of self.old)) (S.left (source_of self.new)) into.new }

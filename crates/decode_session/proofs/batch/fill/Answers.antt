@@ -1,4 +1,4 @@
-use Rattle.std.proofs.Common.{◌≡◌, ◌+◌, List, length, vec_len, refl, ap, ◌∙◌, arith, rules}
+use Rattle.std.proofs.Common.{◌≡◌, ◌+◌, List, length, vec_len, refl, ap, ◌∙◌, arith}
 use Rattle.decode_session.specs.declared.cell.Cell.{Cell}
 use Rattle.decode_session.proofs.BatchFacts.{read-none, read-more, batch-ends}
 use Rattle.decode_session.proofs.batch.fill.Goals as goal

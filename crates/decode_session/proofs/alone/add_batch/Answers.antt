@@ -1,0 +1,83 @@
+use Rattle.std.proofs.Common.{◌≡◌, ◌+◌, ◌<◌, ℕ, List, [], ◌∷◌, ◌++◌, length, refl, ap, ◌∙◌, arith, length-append}
+use Rattle.decode_session.proofs.BatchFacts.{batch-ends}
+use Rattle.decode_session.proofs.TurnFacts.{adds-none, adds-more, adds-same}
+use Rattle.decode_session.proofs.alone.add_batch.Goals as goal
+use Rattle.fold_state.specs.Boards.{memory_of}
+use Rattle.packet_feed.specs.Feed.{source_of}
+
+pub loop-next-init : goal.loop-next-init
+loop-next-init g c =
+    let db = g.P.Structures.tables c.args.plans.now in
+    record {
+      board = refl;
+      adds = ([], adds-none db c.args.number (g.S.Source.left (source_of c.args.feed.now)) (memory_of c.args.board.now) _ c.clear.ensures, omega arith);
+      limit = c.requires.number;
+      few = omega arith;
+      ahead = λ some. absurd (omega (arith, some));
+      room = omega (arith, ap (λ (l : List ℕ). length l) c.clear.ensures);
+      faults = refl;
+      missed = refl;
+      borrow = refl;
+    }
+
+pub returns-in-Some-clause-adds : goal.returns-in-Some-clause-adds
+returns-in-Some-clause-adds g c =
+    let db = g.P.Structures.tables c.args.plans.now in
+    let (packets, adds, is) = c.loop-next.invariant.adds in
+    let (ends, kept, same) = c.in-Some.ensures.adds in (
+      packets,
+      g.S.Source.left (source_of c.loop-next.feed),
+      adds-same db c.args.number packets _ _ (memory_of c.args.board.now) _ _ [] _ _ kept same adds,
+      is,
+      batch-ends {A = List ℕ} c.in-Some.why packets _ _ ends (λ some. c.loop-next.invariant.ahead (omega (arith, some, is))),
+    )
+
+pub returns-then-next-gt-MOST_PACKETS-clause-adds : goal.returns-then-next-gt-MOST_PACKETS-clause-adds
+returns-then-next-gt-MOST_PACKETS-clause-adds g c =
+    let db = g.P.Structures.tables c.args.plans.now in
+    let (packets, adds, is) = c.loop-next.invariant.adds in
+    let (packet, one) = c.in_default.ensures.adds in
+    let more = packets ++ packet ∷ [] in
+    let count : c.loop-next.next + 1 ≡ c.args.number + length more = omega (arith, is, length-append packets (packet ∷ [])) in
+    let some : 0 < length more = omega (arith, length-append packets (packet ∷ [])) in (
+      more,
+      g.S.Source.left (source_of c.add_next.new.feed),
+      adds-more db c.args.number c.loop-next.next packets (packet ∷ []) _ _ _ (memory_of c.args.board.now) _ _ [] _ _ is adds one,
+      count,
+      (refl {a = g.S.Source.left (source_of c.add_next.new.feed)}, some),
+    )
+
+pub loop-next-preserved : goal.loop-next-preserved
+loop-next-preserved g c =
+    let db = g.P.Structures.tables c.args.plans.now in
+    let inv = c.loop-next.invariant in
+    let (packets, adds, is) = inv.adds in
+    let (packet, one) = c.in_default.ensures.adds in
+    let more = packets ++ packet ∷ [] in
+    record {
+      board = c.add_next.ensures.board ∙ inv.board;
+      adds = (
+        more,
+        adds-more db c.args.number c.loop-next.next packets (packet ∷ []) _ _ _ (memory_of c.args.board.now) _ _ [] _ _ is adds one,
+        omega (arith, is, length-append packets (packet ∷ [])),
+      );
+      limit = let n = c.if-next-gt-MOST_PACKETS.false in omega arith;
+      few = let n = c.loop-next-test.true in omega arith;
+      ahead = λ some. c.is_next_at_hand.ensures c.if-not-is_next_at_hand.false;
+      room = let n = c.if-bytes-gt-TEXT_BEFORE.false in omega (arith, ap (λ (l : List ℕ). length l) c.bytes.ensures);
+      faults = c.in_default.ensures.cause ∙ inv.faults;
+      missed = c.add_next.ensures.missed ∙ inv.missed;
+      borrow = c.add_next.ensures.borrow ∙ inv.borrow;
+    }
+
+pub returns-clause-adds : goal.returns-clause-adds
+returns-clause-adds g c =
+    let (packets, adds, is) = c.loop-next.invariant.adds in
+    let last = c.loop-next-test.false in
+    let some : 0 < length packets = omega (arith, is, last) in (
+      packets,
+      g.S.Source.left (source_of c.loop-next.feed),
+      adds,
+      is,
+      (refl {a = g.S.Source.left (source_of c.loop-next.feed)}, some),
+    )
