@@ -64,6 +64,7 @@ fn inner_of(slot: Value) -> Group
 }
 
 // Copies so many slots from a place on to the last places.
+#[inline(never)]
 fn copy_to_end(slots: &mut [Value], from: usize, count: usize)
     requires { from + 2 * count ≤ length slots.old }
     ensures { slots.new ≡ take (length slots.old - count) slots.old ++ take count (drop from slots.old) }

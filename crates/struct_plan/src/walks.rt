@@ -40,6 +40,7 @@ fn field_at<S: Structures>(all: &S, subject: Subject, last: i128) -> Option<Fiel
 }
 
 // The value of a parameter at the cursor, or the end before it: there is no room, or its bits aren't in the packet.
+#[inline(always)]
 fn value_here(packet: &[u8], cursor: i128, field: &Field, used: u32) -> Result<Value, Ended>
     requires packet { length packet.now < 2 ^ 61 }
     ensures value { result ≡ value_or_end packet.now cursor field.now used }
@@ -98,6 +99,7 @@ fn give<S: Structures>(
 }
 
 // Goes on behind a value, or tells the structure that it chooses.
+#[inline(always)]
 fn go_on(
     after: Then,
     raw: i128,
