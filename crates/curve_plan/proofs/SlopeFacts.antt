@@ -1,15 +1,15 @@
 -- How a line climbs between two points.
-use Rattle.std.proofs.Common.{◌≡◌, ℕ, zero, suc, ◌+◌, ◌*◌, ◌/◌, ◌%◌, ◌^◌, ◌<◌, ◌≤◌, Bool, true, false, Ok, inl, inr, int_lt, refl, sym, ap, ◌∙◌, arith}
-use Rattle.std.specs.Prelude.{ℤ, pos, ◌+ℤ◌, ◌-ℤ◌, ◌*ℤ◌, ◌<ℤ◌, nat_abs}
-use Rattle.std.proofs.Math.Nat.{div-lt_iff_lt-mul, mul-zero, mul-add-div, mul-le-mul_right, mul-le-mul_left, div-le_of_le-mul, div-eq_of_lt, mod-lt}
+use Rattle.std.proofs.Common.{◌≡◌, ℕ, zero, suc, ◌+◌, ◌*◌, ◌/◌, ◌%◌, ◌^◌, ◌<◌, ◌≤◌, Bool, true, false, Ok, Some, inl, inr, int_lt, refl, sym, ap, ◌∙◌, arith}
+use Rattle.std.specs.Prelude.{ℤ, pos, ◌+ℤ◌, ◌-ℤ◌, ◌*ℤ◌, ◌≤ℤ◌, nat_abs}
+use Rattle.std.proofs.Math.Nat.{div-lt_iff_lt-mul, mul-zero, mul-add-div, mul-le-mul_right, mul-le-mul_left, div-eq_of_lt, mod-lt}
 use Rattle.std.proofs.lemmas.Nat.{div-add-mod'}
 use Rattle.std.proofs.lemmas.Bool.{cases_Bool}
 use Rattle.std.proofs.lemmas.Int.{ints}
 use Rattle.std.proofs.lemmas.Bool.Decides.{nat_tests}
-use Rattle.mib_model.specs.Calibrated.{is_wide, is_wide_result, bounded}
+use Rattle.mib_model.specs.Calibrated.{Counted, calibrated, is_wide, is_wide_result}
 use Rattle.mib_model.specs.Counts.{half}
 use Rattle.mib_model.specs.Decimals.{with_sign}
-use Rattle.mib_model.specs.Points.{Knot, interpolated, product_of}
+use Rattle.mib_model.specs.Points.{Knot, interpolated, on_pair, product_of}
 use Rattle.curve_plan.specs.declared.slope.Slope.{Slope}
 use Rattle.curve_plan.specs.Slopes.{climbed, rise_of, IsSlope}
 use Rattle.dec_num.proofs.ScalingFacts.{nat_abs-neg}
@@ -89,3 +89,12 @@ interpolated-between p q s raw numbers slope place inside few =
     let near_value : is_wide_result (p.y +ℤ with_sign s.falls climb) ≡ false =
     narrow-result p.y s.falls climb slope.near (omega (arith, slope.small, climbed-within numbers rise s.run inside)) in
     rw (near_rise, near_product, offset, near_value) refl
+
+-- what two points make of a raw number between them
+pub on-between : (p q : Knot) (inter : ℕ) (raw v : ℤ) → p.x ≤ℤ raw → raw ≤ℤ q.x → Ok v ≡ interpolated p q raw → Counted v ≡ on_pair inter raw (Some (p, q))
+on-between p q inter raw v low high is =
+    let first : int_lt raw p.x ≡ false = grind (arith, ints) in
+    let second : int_lt q.x raw ≡ false = grind (arith, ints) in
+    rw (first, second) (ap calibrated is)
+
+pub ruleset between = (on-between)

@@ -1,5 +1,5 @@
 -- Lines between two points, by the quotient of the rise and the numbers between them. [This profile.]
-use Rattle.std.specs.Prelude.{◌≡◌, ◌<◌, ◌≤◌, ℕ, ◌+◌, ◌*◌, ◌/◌, ◌^◌, ℤ, pos, ◌-ℤ◌, nat_abs}
+use Rattle.std.specs.Prelude.{◌≡◌, ◌<◌, ◌≤◌, ℕ, ◌+◌, ◌*◌, ◌/◌, ◌^◌, pos, ◌-ℤ◌, nat_abs}
 use Rattle.curve_plan.specs.declared.slope.Slope.{Slope}
 use Rattle.mib_model.specs.Decimals.{with_sign}
 use Rattle.mib_model.specs.Points.{Knot}

@@ -1,5 +1,6 @@
 // Curves by points.
-ghost use Rattle.std.specs.Prelude.{◌≡◌, ◌≤ℤ◌, ◌<ℤ◌, option_map, filter_map, get_or, None, Some, IfOk, IfSome};
+ghost use Rattle.std.specs.Prelude.{ℕ, ◌≡◌, ◌+◌, ◌-◌, ◌≤◌, min, length, filter, int_le, ◌≤ℤ◌, ◌<ℤ◌, option_map, filter_map, get_or, None, Some, IfOk, IfSome};
+ghost use Rattle.mib_model.specs.Calibrated.{Counted};
 ghost use Rattle.mib_model.specs.CalibrationViews.{calibrated_as};
 ghost use Rattle.mib_model.specs.Points.{knot_of, knots, neighbours, on_pair, pair_for};
 ghost use Rattle.mib_model.specs.WholeNumbers.{least_raw, greatest_raw};
@@ -8,9 +9,9 @@ ghost use Rattle.curve_plan.specs.Pairs.{pair_at};
 ghost use Rattle.curve_plan.specs.Slopes.{IsSlope};
 
 use crate::pair::Pair;
-use crate::slope::{Slope, interp_by, slope_of};
-use dec_num::{Point, eng_of, whole_number};
-use mib_model::{CafRow, Cal, CapRow};
+use crate::slope::{Slope, slope_of, value_between};
+use dec_num::{Point, eng_of, interp, whole_number};
+use mib_model::{CafRow, Cal, CapRow, Eng};
 use std::alloc::{AllocError, Global};
 
 /// The points of a curve in order of x, the slopes between them, and whether the curve goes on beyond them.
@@ -78,6 +79,20 @@ fn slope_at(slopes: &[Option<Slope>], at: usize) -> Option<Slope>
     }
 }
 
+// The place of the first of the two points that a raw number is taken by. Of two points there is nothing to look for.
+fn first_of(points: &[Point], last: usize, raw: i128) -> usize
+    requires climbs { Climbs (knots_at points.now) }
+    requires long { last + 2 ≡ length points.now }
+    ensures place { result ≡ min (length (filter (λ point. int_le point.x raw) points.now) - 1) last }
+    ensures within { result ≤ last }
+{
+    if last == 0 {
+        return 0;
+    }
+    let at = points.partition_point(|point| point.x <= raw);
+    at.saturating_sub(1).min(last)
+}
+
 // The two points that a raw number is taken by, where there are two.
 #[tactic(auto, using(crate::proofs::PairFacts::pairs))]
 fn pair_of(points: &[Point], slopes: &[Option<Slope>], raw: i128) -> Option<Pair>
@@ -88,13 +103,40 @@ fn pair_of(points: &[Point], slopes: &[Option<Slope>], raw: i128) -> Option<Pair
     ensures sloped { IfSome result (λ pair. IfSome pair.slope (IsSlope (knot_at pair.p) (knot_at pair.q))) }
 {
     let last = points.len().checked_sub(2)?;
-    let at = points.partition_point(|point| point.x <= raw);
-    let first = at.saturating_sub(1).min(last);
+    let first = first_of(points, last, raw);
     Some(Pair {
         p: points[first],
         q: points[first + 1],
         slope: slope_at(slopes, first),
     })
+}
+
+// What two points make of a raw number, step by step.
+#[cold]
+#[inline(never)]
+fn on_any_line(p: Point, q: Point, inter: u8, raw: i128) -> Cal<'static>
+    requires order { p.x <ℤ q.x }
+    requires low { least_raw ≤ℤ raw }
+    requires high { raw ≤ℤ greatest_raw }
+    ensures { calibrated_as result ≡ on_pair inter raw (Some (knot_at p, knot_at q)) }
+{
+    if (raw < p.x || q.x < raw) && inter != b'P' {
+        return Cal::Outside;
+    }
+    match interp(p, q, raw) {
+        Ok(value) => Cal::Value(value),
+        Err(_) => Cal::Over,
+    }
+}
+
+// The value of a raw number between two points by the slope there, where that is at hand.
+#[tactic(auto, using(crate::proofs::SlopeFacts::between))]
+fn on_slope(pair: Pair, raw: i128) -> Option<Eng>
+    requires order { pair.p.x <ℤ pair.q.x }
+    requires sloped { IfSome pair.slope (IsSlope (knot_at pair.p) (knot_at pair.q)) }
+    ensures { IfSome result (λ value. (inter : ℕ) → Counted value.count ≡ on_pair inter raw (Some (pair_at pair))) }
+{
+    value_between(pair.p, pair.q, pair.slope?, raw)
 }
 
 // What two points make of a raw number.
@@ -105,13 +147,9 @@ fn on_line(pair: Pair, inter: u8, raw: i128) -> Cal<'static>
     requires high { raw ≤ℤ greatest_raw }
     ensures { calibrated_as result ≡ on_pair inter raw (option_map pair_at (Some pair)) }
 {
-    let Pair { p, q, slope } = pair;
-    if (raw < p.x || q.x < raw) && inter != b'P' {
-        return Cal::Outside;
-    }
-    match interp_by(p, q, slope, raw) {
-        Ok(value) => Cal::Value(value),
-        Err(_) => Cal::Over,
+    match on_slope(pair, raw) {
+        Some(value) => Cal::Value(value),
+        None => on_any_line(pair.p, pair.q, inter, raw),
     }
 }
 

@@ -1,14 +1,12 @@
 // Lines between points whose numbers are small, by a quotient that is taken once.
-ghost use Rattle.std.specs.Prelude.{◌≡◌, ◌≤◌, ◌<◌, ◌≤ℤ◌, ◌<ℤ◌, ◌+◌, ◌*◌, ◌/◌, ◌^◌, ◌+ℤ◌, ◌-ℤ◌, nat_abs, Ok, IfSome};
+ghost use Rattle.std.specs.Prelude.{◌≡◌, ◌≤◌, ◌<◌, ◌≤ℤ◌, ◌<ℤ◌, ◌+◌, ◌*◌, ◌/◌, ◌^◌, ◌+ℤ◌, ◌-ℤ◌, nat_abs, Ok, IfSome, OnSome};
 ghost use Rattle.mib_model.specs.Decimals.{with_sign};
 ghost use Rattle.mib_model.specs.Points.{interpolated};
-ghost use Rattle.mib_model.specs.WholeNumbers.{least_raw, greatest_raw};
-ghost use Rattle.dec_num.specs.Narrow.{counted};
 ghost use Rattle.curve_plan.specs.Knots.{knot_at};
 ghost use Rattle.curve_plan.specs.Slopes.{climbed, rise_of, IsSlope};
 
-use dec_num::{Point, interp};
-use mib_model::{Eng, Over};
+use dec_num::Point;
+use mib_model::Eng;
 
 /// How a line goes from a point to another: the numbers between them, whether it falls, and the quotient and the rest of what
 /// it rises by those numbers.
@@ -88,11 +86,13 @@ fn moved(count: i128, falls: bool, climb: u64) -> i128
     if falls { count - climb } else { count + climb }
 }
 
-// The value of a raw number on the line through two points, where it lies between them.
-fn value_between(p: Point, q: Point, slope: Slope, raw: i128) -> Option<Eng>
+/// The value of a raw number on the line through two points, where it lies between them.
+#[inline(always)]
+pub fn value_between(p: Point, q: Point, slope: Slope, raw: i128) -> Option<Eng>
     requires order { p.x <ℤ q.x }
     requires slope { IsSlope (knot_at p) (knot_at q) slope }
-    ensures { IfSome result (λ value. Ok value.count ≡ interpolated (knot_at p) (knot_at q) raw) }
+    ensures value { IfSome result (λ value. Ok value.count ≡ interpolated (knot_at p) (knot_at q) raw) }
+    ensures between { OnSome result ((p.x ≤ℤ raw) × (raw ≤ℤ q.x)) }
 {
     if raw < p.x || q.x < raw {
         return None;
@@ -102,22 +102,4 @@ fn value_between(p: Point, q: Point, slope: Slope, raw: i128) -> Option<Eng>
     Some(Eng {
         count: moved(p.y.count, slope.falls, climb),
     })
-}
-
-/// The value of a raw number on the line through two points, or that it leaves the bounds, by the slope of the line where
-/// that is at hand (this profile).
-pub fn interp_by(p: Point, q: Point, slope: Option<Slope>, raw: i128) -> Result<Eng, Over>
-    requires order { p.x <ℤ q.x }
-    requires slope { IfSome slope (IsSlope (knot_at p) (knot_at q)) }
-    requires low { least_raw ≤ℤ raw }
-    requires high { raw ≤ℤ greatest_raw }
-    ensures { counted result ≡ interpolated (knot_at p) (knot_at q) raw }
-{
-    let Some(slope) = slope else {
-        return interp(p, q, raw);
-    };
-    match value_between(p, q, slope, raw) {
-        Some(value) => Ok(value),
-        None => interp(p, q, raw),
-    }
 }

@@ -8,3 +8,4 @@ pub mod LineFacts
 pub mod BaseFacts
 pub mod PolynomialFacts
 pub mod NearFacts
+pub mod NearSumFacts

@@ -1,5 +1,5 @@
 -- The sum of a polynomial, one coefficient after another. [This profile.]
-use Rattle.std.specs.Prelude.{◌≡◌, ◌<◌, ℕ, ℤ, ◌+ℤ◌, ◌*ℤ◌, nat_abs, true, false, List, [], ◌∷◌, take, length, ◌-◌, Option, Some, option_map, option_and_then, IfSome, IfNone, OnSome}
+use Rattle.std.specs.Prelude.{◌≡◌, ◌<◌, ℕ, ℤ, pos, ◌+ℤ◌, ◌*ℤ◌, nat_abs, true, false, List, [], ◌∷◌, take, length, ◌-◌, Option, Some, None, option_map, option_and_then, IfSome, IfNone, OnSome}
 use Rattle.std.specs.List.{list_any, suffix_len}
 use Rattle.mib_model.specs.Calibrated.{is_wide}
 use Rattle.mib_model.specs.declared.limits.TheConstants.{STEP_BOUND}
@@ -27,3 +27,8 @@ advanced raw power sum c =
 abbrev pub sum_behind : ℤ → ℤ → ℤ → List ℤ → Option ℤ
 sum_behind raw power sum [] = Some sum
 sum_behind raw power sum (c ∷ cs) = option_and_then (λ (next, more). sum_behind raw next more cs) (advanced raw power sum c)
+
+-- the sum of coefficients at a number, where they are there and no step is too wide
+abbrev pub sum_of : Option (ℤ × List ℤ) → ℤ → Option ℤ
+sum_of None raw = None
+sum_of (Some c) raw = sum_behind raw (pos 1) c.0 (without_zeros c.1)

@@ -9,6 +9,7 @@
 mod count;
 mod curve;
 mod digits;
+mod near_poly;
 mod parts;
 mod polynomial;
 mod read;

@@ -1,14 +1,16 @@
 // Polynomials, summed at one scale.
-ghost use Rattle.std.specs.Prelude.{◌≡◌, Some, ◌<◌, ◌≤◌, ◌≤ℤ◌, ◌+ℤ◌, ◌∷◌, ◌^◌, pos, length, nat_abs, true, false, IfSome, IfNone, OnSome};
+ghost use Rattle.std.specs.Prelude.{◌≡◌, Some, ◌<◌, ◌≤◌, ◌≤ℤ◌, ◌+ℤ◌, ◌∷◌, ◌^◌, pos, length, take, nat_abs, true, false, IfSome, IfNone, OnSome};
 ghost use Rattle.std.specs.List.{list_any};
 ghost use Rattle.mib_model.specs.WholeNumbers.{least_raw, greatest_raw};
 ghost use Rattle.mib_model.specs.Calibrated.{is_wide};
 ghost use Rattle.mib_model.specs.Counts as Counts;
 ghost use Rattle.mib_model.specs.Polynomials as Spec;
 ghost use Rattle.dec_num.specs.Narrow.{counted, narrow, narrow_result, or_over};
-ghost use Rattle.dec_num.specs.Sums.{without_zeros, advanced, sum_behind};
+ghost use Rattle.dec_num.specs.Sums.{without_zeros, advanced, sum_behind, sum_of};
+ghost use Rattle.dec_num.specs.NearSums.{near_sum, AreNear};
 ghost use Rattle.mib_model.specs.declared.limits.TheConstants.{STEP_BOUND};
 
+use crate::near_poly::NearPoly;
 use crate::rounding::{scaled_down, small_power};
 use crate::steps::{near_product, outcome, product, scaled_up, step, sum};
 use mib_model::{Dec, Eng, Over};
@@ -101,42 +103,80 @@ fn near_advance(raw: i64, power: i64, total: i64, coefficient: i64) -> Option<(i
     Some((next, total.checked_add(term)?))
 }
 
+// A number as one of 64 bits, where it is.
+fn near_number(number: i128) -> Option<i64>
+    ensures { IfSome result (λ near. near ≡ number) }
+{
+    i64::try_from(number).ok()
+}
+
+// The coefficients as numbers of 64 bits, where all are.
+fn near_rest(rest: &[i128; 4]) -> Option<[i64; 4]>
+    ensures { IfSome result (λ near. near ≡ rest.now) }
+{
+    let [a, b, c, d] = *rest;
+    Some([
+        near_number(a)?,
+        near_number(b)?,
+        near_number(c)?,
+        near_number(d)?,
+    ])
+}
+
+// How many of the coefficients of the powers from 1 on come up to the degree.
+#[tactic(auto, using(crate::proofs::NearSumFacts::degrees))]
+fn degree_of(rest: &[i128; 4]) -> u8
+    ensures value { take result rest.now ≡ without_zeros rest.now }
+    ensures few { result ≤ 4 }
+{
+    up_to_degree(rest).len() as u8
+}
+
+// Coefficients that are all numbers of 64 bits.
+fn near_of(scaled: &Option<(i128, [i128; 4])>) -> Option<NearPoly>
+    ensures { AreNear result scaled.now }
+{
+    let (first, rest) = (*scaled)?;
+    Some(NearPoly {
+        first: near_number(first)?,
+        rest: near_rest(&rest)?,
+        count: degree_of(&rest),
+    })
+}
+
 // The sum of a first coefficient and of those of the powers from 1 on, where all are numbers of 64 bits.
-fn near_total(first: i64, rest: &[i128], raw: i64) -> Option<i64>
+fn near_total(first: i64, rest: &[i64], raw: i64) -> Option<i64>
     ensures { IfSome result (λ z. sum_behind raw (pos 1) first rest.now ≡ Some z) }
 {
     let mut power = 1_i64;
     let mut total = first;
     for coefficient in rest {
-        let Ok(coefficient) = i64::try_from(*coefficient) else {
-            return None;
-        };
-        let (next, more) = near_advance(raw, power, total, coefficient)?;
+        let (next, more) = near_advance(raw, power, total, *coefficient)?;
         power = next;
         total = more;
     }
     Some(total)
 }
 
-// A first coefficient, and a number, where both are of 64 bits.
-fn near_pair(first: i128, raw: i128) -> Option<(i64, i64)>
-    ensures { IfSome result (λ pair. (pair.0 ≡ first) × (pair.1 ≡ raw)) }
+// The sum of coefficients at a number, where all are numbers of 64 bits.
+fn near_sum(near: &Option<NearPoly>, raw: i128) -> Option<i64>
+    ensures { IfSome result (λ z. near_sum near.now raw ≡ Some z) }
 {
-    Some((i64::try_from(first).ok()?, i64::try_from(raw).ok()?))
+    let Some(near) = near else {
+        return None;
+    };
+    let raw = near_number(raw)?;
+    near_total(near.first, &near.rest[..usize::from(near.count)], raw)
 }
 
-// The sum of a first coefficient and of those of the powers from 1 on, where no step is too wide.
-fn total(first: i128, rest: &[i128], raw: i128) -> Option<i128>
-    requires { nat_abs first < STEP_BOUND }
-    ensures value { result ≡ sum_behind raw (pos 1) first rest.now }
+// The sum of coefficients at a number, where no step is too wide.
+fn far_sum(scaled: &Option<(i128, [i128; 4])>, raw: i128) -> Option<i128>
+    requires { IfSome scaled.now (λ c. nat_abs c.0 < STEP_BOUND) }
+    ensures value { result ≡ sum_of scaled.now raw }
     ensures within { IfSome result (λ z. nat_abs z < STEP_BOUND) }
 {
-    if let Some((first, raw)) = near_pair(first, raw) {
-        if let Some(sum) = near_total(first, rest, raw) {
-            return Some(i128::from(sum));
-        }
-    }
-    far_total(first, rest, raw)
+    let (first, rest) = (*scaled)?;
+    far_total(first, up_to_degree(&rest), raw)
 }
 
 // The sum of a first coefficient and of those of the powers from 1 on, step by step, where no step is too wide.
@@ -188,6 +228,7 @@ fn far_to_count(sum: i128, scale: u8) -> Option<i128>
 #[derive(Drop)]
 pub struct PolyCurve {
     scale: u8,
+    near: Option<NearPoly>,
     scaled: Option<(i128, [i128; 4])>,
     decs: Snapshot<[Dec; 5]>,
 }
@@ -197,12 +238,13 @@ impl Model for PolyCurve {
     ghost use Rattle.mib_model.specs.declared.number.Dec.{Dec};
     ghost use Rattle.mib_model.specs.Polynomials.{scale_of};
     ghost use Rattle.dec_num.specs.Sums.{AreScaled};
+    ghost use Rattle.dec_num.specs.NearSums.{AreNear};
 
     ghost Value = { List Dec };
 
     ghost view = { λ poly. poly.decs.value };
 
-    ghost invariant = { λ poly. (poly.scale ≡ scale_of poly.decs.value) × AreScaled poly.decs.value poly.scale poly.scaled };
+    ghost invariant = { λ poly. (poly.scale ≡ scale_of poly.decs.value) × AreScaled poly.decs.value poly.scale poly.scaled × AreNear poly.near poly.scaled };
 }
 
 impl PolyCurve {
@@ -211,9 +253,11 @@ impl PolyCurve {
         ensures { result ≡ a.now }
     {
         let scale = scale_of(a);
+        let scaled = coefficients(a, scale);
         PolyCurve {
             scale,
-            scaled: coefficients(a, scale),
+            near: near_of(&scaled),
+            scaled,
             decs: Snapshot::of(a),
         }
     }
@@ -222,9 +266,10 @@ impl PolyCurve {
     fn count_at(&self, raw: i128) -> Option<i128>
         ensures { or_over result ≡ Spec.polynomial self.now raw }
     {
-        let (first, rest) = self.scaled?;
-        let sum = total(first, up_to_degree(&rest), raw)?;
-        to_count(sum, self.scale)
+        match near_sum(&self.near, raw) {
+            Some(sum) => to_count(i128::from(sum), self.scale),
+            None => to_count(far_sum(&self.scaled, raw)?, self.scale),
+        }
     }
 
     /// `A0 + A1·x + A2·x^2 + A3·x^3 + A4·x^4` at a raw number, or that it leaves the bounds (SCOS-2000 Database Import ICD,

@@ -3,3 +3,4 @@ pub mod PlaceFacts
 pub mod ShapeFacts
 pub mod ShortFacts
 pub mod NearFacts
+pub mod PlainFacts

@@ -1,4 +1,5 @@
 pub mod Pages
+pub mod PlainTexts
 pub mod ShortTexts
 pub mod NearTexts
 pub mod TailViews

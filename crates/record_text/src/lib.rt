@@ -15,6 +15,7 @@ mod near;
 mod octets;
 mod page;
 mod place;
+mod plain;
 mod raw;
 mod record;
 mod reply;

@@ -5,6 +5,7 @@ ghost use Rattle.mib_model.specs.RawTexts as Spec;
 
 use crate::field::{field, whole_octets};
 use crate::page::Page;
+use crate::plain::{are_plain, stands_as_itself};
 
 // A hexadecimal digit, in upper case.
 fn hex_digit(n: u8) -> u8
@@ -71,13 +72,6 @@ pub(crate) fn add_hex_number(number: u64, digits: u8, out: &mut Page)
         }
         _ => add_digits(number, digits, out),
     }
-}
-
-// From a space to a tilde, but for the quote and the backslash.
-fn stands_as_itself(octet: u8) -> bool
-    ensures { result ≡ Spec.stands_as_itself octet }
-{
-    (0x20..=0x7E).contains(&octet) && octet != b'"' && octet != b'\\'
 }
 
 // Appends an octet that doesn't stand as itself, by its digits.
@@ -169,6 +163,20 @@ pub(crate) fn add_octets_at<S: Spelling>(packet: &[u8], at: u64, count: u16, out
     }
 }
 
+// Appends octets as they stand in quotes: at once where each stands as itself.
+fn add_spelled(octets: &[u8], out: &mut Page)
+    requires { length out.old.octets + 4 * length octets.now ≤ out.old.limit }
+    ensures text { out.new.octets ≡ out.old.octets ++ flat_map Spec.quoted_octet octets.now }
+    ensures room { length out.new.octets ≤ length out.old.octets + 4 * length octets.now }
+    ensures limit { out.new.limit ≡ out.old.limit }
+{
+    if are_plain(octets) {
+        out.add(octets);
+    } else {
+        add_octets::<Quoted>(octets, out);
+    }
+}
+
 /// Appends octets in quotes.
 #[tactic(auto, unfolding(mib_model::specs::RawTexts::quoted))]
 pub(crate) fn add_quoted(octets: &[u8], out: &mut Page)
@@ -178,6 +186,6 @@ pub(crate) fn add_quoted(octets: &[u8], out: &mut Page)
     ensures limit { out.new.limit ≡ out.old.limit }
 {
     out.push(b'"');
-    add_octets::<Quoted>(octets, out);
+    add_spelled(octets, out);
     out.push(b'"');
 }

@@ -7,8 +7,8 @@ use Rattle.curve_plan.specs.Slopes.{climbed, rise_of}
 use Rattle.curve_plan.proofs.SlopeFacts.{interpolated-between}
 use Rattle.curve_plan.proofs.slope.value_between.Goals as goal
 
-pub returns : goal.returns
-returns c =
+pub returns-clause-value : goal.returns-clause-value
+returns-clause-value c =
     let px : to_z w128 (of_z w128 c.args.p.x) ≡ c.args.p.x = omega (arith, ints) in
     let qx : to_z w128 (of_z w128 c.args.q.x) ≡ c.args.q.x = omega (arith, ints) in
     let py : to_z w128 (of_z w128 c.args.p.y.count) ≡ c.args.p.y.count = omega (arith, ints) in

@@ -1,9 +1,8 @@
-use Rattle.std.proofs.Common.{◌≡◌, ◌^◌, ◌-◌, ◌≤◌, ◌∙◌, Some, ap, sym, to_z, of_z, w64, arith}
-use Rattle.std.specs.Prelude.{pos, ◌*ℤ◌, nat_abs}
+use Rattle.std.proofs.Common.{◌≡◌, ◌^◌, ◌-◌, ◌≤◌, to_z, of_z, w64, arith}
+use Rattle.std.specs.Prelude.{pos, nat_abs}
 use Rattle.std.specs.Int.{w128}
 use Rattle.std.proofs.Math.Nat.{pow-le-pow_right}
 use Rattle.std.proofs.lemmas.Int.{ints}
-use Rattle.dec_num.specs.Narrow.{narrow_result}
 use Rattle.dec_num.proofs.NearFacts.{near-count}
 use Rattle.dec_num.proofs.polynomial.near_to_count.Goals as goal
 

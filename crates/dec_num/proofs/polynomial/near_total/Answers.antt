@@ -1,5 +1,4 @@
 use Rattle.std.proofs.Common.{◌≡◌, sym, to_z, of_z, w64, get_or, arith}
-use Rattle.std.specs.Int.{w128}
 use Rattle.std.specs.Prelude.{pos}
 use Rattle.std.proofs.lemmas.Int.{ints}
 use Rattle.dec_num.specs.Sums.{sum_behind}
@@ -10,10 +9,8 @@ pub loop-coefficient-preserved : goal.loop-coefficient-preserved
 loop-coefficient-preserved c =
     let next : to_z w64 (of_z w64 c.in_ok-next.next) ≡ c.in_ok-next.next = omega (arith, ints) in
     let more : to_z w64 (of_z w64 c.in_ok-next.more) ≡ c.in_ok-next.more = omega (arith, ints) in
-    let coefficient : to_z w64 (of_z w64 c.in-Ok.coefficient) ≡ c.in-Ok.coefficient = omega (arith, ints) in
-    let item : to_z w128 (of_z w128 (get_or c.args.rest.now c.loop-coefficient.coefficient-index (pos 0))) ≡ get_or c.args.rest.now c.loop-coefficient.coefficient-index (pos 0) = omega (arith, ints) in
-    let same : c.in-Ok.coefficient ≡ get_or c.args.rest.now c.loop-coefficient.coefficient-index (pos 0) = rw item at c.in-Ok.ensures.1 in
-    let step = rw (coefficient, same) at c.in_ok-next.ensures in
+    let item : to_z w64 (of_z w64 (get_or c.args.rest.now c.loop-coefficient.coefficient-index (pos 0))) ≡ get_or c.args.rest.now c.loop-coefficient.coefficient-index (pos 0) = omega (arith, ints) in
+    let step = rw item at c.in_ok-next.ensures in
     record {
       value =
           rw (next, more)
