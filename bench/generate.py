@@ -7,8 +7,9 @@ Below FOLDER come `rows_N`, a sound folder of N rows for each N of ROWS, `nested
 are nested to half its depth, for each N of NESTED, `mission`, a sound folder whose tables are as large as a mission's,
 most of them places of parameters, and `fixed` with `fixed.feed`, PACKETS packets of two values of 16
 bits by three tables, `typed_N` with `typed_N.feed` for each N of KINDS, packets told apart by discriminants with a value of each
-type, and `walk_NAME` with `walk_NAME.feed` for each NAME of WALKS, WALK_PACKETS packets of one structure or, for `flat`, of one
-layout, each with the most values that a packet may have. What is there already is kept.
+type, `walk_NAME` with `walk_NAME.feed` for each NAME of WALKS, WALK_PACKETS packets of one structure or, for `flat`, of one
+layout, each with the most values that a packet may have, and `curve_NAME` for each NAME of CURVES, one kind of packet with
+CURVE_VALUES values of 16 bits that are calibrated by such a curve, all by the feed `curves.feed`. What is there already is kept.
 """
 import os
 import random
@@ -21,6 +22,8 @@ PACKETS = 1_000_000
 KINDS = (15, 1_500)
 TYPED_PACKETS = 200_000
 WALK_PACKETS = 20
+CURVE_PACKETS = 200_000
+CURVE_VALUES = 20
 MOST_VALUES = 8_192
 TABLES = 15
 
@@ -201,6 +204,44 @@ def write_walk_feed(path, count):
             file.write(struct.pack(">HHHBBBB", 0x0864, 0xC000 | i % 16384, 3 + size, 0x10, 3, 25, 0) + b"\xff" * size)
 
 
+def sixteen_points():
+    """Sixteen points over all numbers of 16 bits, in rising order."""
+    rng = random.Random(5)
+    xs = sorted(rng.sample(range(1, 65_535), 14) + [0, 65_535])
+    return [("C", x, f"{7.37 * i - 50 + rng.random():.4f}") for i, x in enumerate(xs)]
+
+
+# Category, and the rows of the one curve of each parameter by the table's name: none at all for `none`.
+CURVES = {
+    "none": ("N", {}),
+    "line": ("N", {"caf": [("C", "", "R", "U", "D", "", "", "F")], "cap": [("C", 0, "-10.5"), ("C", 65_535, "400.25")]}),
+    "points": ("N", {"caf": [("C", "", "R", "U", "D", "", "", "F")], "cap": sixteen_points()}),
+    "polynomial": ("N", {"mcf": [("C", "", "-12.5", "0.0125", "3.5E-7")]}),
+    "texts": ("S", {"txf": [("C", "", "U")], "txp": [("C", 8_192 * k, 8_192 * k + 8_191, f"STATE_{k}_ON") for k in range(8)]}),
+}
+
+
+def curve_tables(name):
+    """One kind of packet, whose values have this curve."""
+    category, rows = CURVES[name]
+    each = range(CURVE_VALUES)
+    return {
+        "pcf": [(f"V{i}", "", "", "", 3, 12, "", "", "", category, "R", "C" if rows else "") for i in each],
+        "pid": [(3, 25, 100, "", "", 1)],
+        "plf": [(f"V{i}", 1, 10 + 2 * i, 0) for i in each],
+        **rows,
+    }
+
+
+def write_curves_feed(path, count):
+    """Packets of random numbers of 16 bits."""
+    rng = random.Random(9)
+    size = 2 * CURVE_VALUES
+    with open(path, "wb") as file:
+        for i in range(count):
+            file.write(struct.pack(">HHHBBBB", 0x0864, 0xC000 | i % 16384, 3 + size, 0x10, 3, 25, 0) + rng.randbytes(size))
+
+
 def main():
     top = sys.argv[1]
     for count in ROWS:
@@ -228,6 +269,11 @@ def main():
         if not os.path.isfile(feed):
             write_tables(os.path.join(top, f"typed_{kinds}"), typed_tables(kinds))
             write_typed_feed(feed, kinds, TYPED_PACKETS)
+    feed = os.path.join(top, "curves.feed")
+    if not os.path.isfile(feed):
+        for name in CURVES:
+            write_tables(os.path.join(top, f"curve_{name}"), curve_tables(name))
+        write_curves_feed(feed, CURVE_PACKETS)
 
 
 if __name__ == "__main__":

@@ -29,6 +29,9 @@ def cases(top):
     yield f"decode, {generate.PACKETS:,} packets", ["decode", os.path.join(top, "fixed"), os.path.join(top, "fixed.feed")]
     for kinds in generate.KINDS:
         yield f"decode, {generate.TYPED_PACKETS:,} packets of {kinds:,} kinds", ["decode", os.path.join(top, f"typed_{kinds}"), os.path.join(top, f"typed_{kinds}.feed")]
+    for name in generate.CURVES:
+        feed = os.path.join(top, "curves.feed")
+        yield f"decode, {generate.CURVE_PACKETS * generate.CURVE_VALUES:,} values by {name}", ["decode", os.path.join(top, f"curve_{name}"), feed]
     for name in generate.WALKS:
         yield f"decode, {generate.WALK_PACKETS} packets by {name}", ["decode", os.path.join(top, f"walk_{name}"), os.path.join(top, f"walk_{name}.feed")]
 
