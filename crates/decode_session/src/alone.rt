@@ -22,7 +22,7 @@ use record_text::Lines;
 use tm_io::{Sink, Source, write_all};
 
 // The most packets whose records are written at once.
-const AT_ONCE: u64 = 4;
+const AT_ONCE: u64 = 16;
 
 // Reads the next packet into a room, decodes it and appends its record; else tells why there is none.
 #[inline(always)]

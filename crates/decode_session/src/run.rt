@@ -16,7 +16,7 @@ use crate::batch::{Filled, MOST_PACKETS, fill};
 use crate::decoding::decode_batch;
 use crate::ending::{RunEnd, RunFault, Stop};
 use crate::finishing::{finish_batch, free_rooms};
-use crate::stock::{Home, Stock, rooms_for};
+use crate::stock::{Home, Stock, rooms_at_once};
 use edition_plans::Plans;
 use packet_feed::Feed;
 use record_text::{Lines, cut_line};
@@ -123,7 +123,7 @@ pub fn decode_run<P: Plans + Sync, S: Source, O: Sink, R: Threads + Sync>(
     ensures missed { S.missed source.new ≡ S.missed source.old }
     ensures untouched { result ≡ Err (RunFault.Print Stop.Memory) → (source.new ≡ source.old) × (out.new ≡ out.old) }
 {
-    let rooms = rooms_for(workers);
+    let rooms = rooms_at_once(workers);
     let Ok(mut home) = Home::with_rooms(alloc, rooms) else {
         return Err(RunFault::Print(Stop::Memory));
     };

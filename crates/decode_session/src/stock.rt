@@ -34,6 +34,14 @@ pub fn rooms_for(workers: u8) -> u16
     if workers == 1 { ALONE } else { BATCH }
 }
 
+/// How many packets a run by one edition has room for: one with one worker, which prints each before it reads the next.
+pub(crate) fn rooms_at_once(workers: u8) -> u16
+    ensures some { 0 < result }
+    ensures few { result ≤ most_in_flight }
+{
+    if workers == 1 { 1 } else { rooms_for(workers) }
+}
+
 /// Where the buffers of packets are at home.
 #[derive(Drop)]
 pub struct Home {
