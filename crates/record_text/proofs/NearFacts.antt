@@ -161,7 +161,16 @@ module _ (count : ℤ) where
   near-digits half (suc (suc (suc (suc zero)))) few is = ap (λ (h : ℕ). digits h 4) is ∙ near4
   near-digits half (suc (suc (suc (suc (suc d))))) few is = absurd (omega (arith, few))
 
-pub ruleset by_digits = (near-digits)
+  -- and where the decimals are what is left of them
+  pub near-left : (half d : ℕ) → d ≤ 4 → half ≡ 5 * 10 ^ (11 - d) →
+      near_text (record { minus = int_lt count (pos 0) && nat_le half (nat_abs count); whole = (nat_abs count + half) / 100000000 / 10000; behind = (nat_abs count + half) / 100000000 - (nat_abs count + half) / 100000000 / 10000 * 10000 }) d
+      ≡ count_text count d
+  near-left half d few is =
+      let left : (m + half) / 100000000 % 10000 ≡ (m + half) / 100000000 - (m + half) / 100000000 / 10000 * 10000 = omega arith in
+      ap (λ (b : ℕ). near_text (record { minus = int_lt count (pos 0) && nat_le half (nat_abs count); whole = (nat_abs count + half) / 100000000 / 10000; behind = b }) d) (sym left)
+      ∙ near-digits half d few is
+
+pub ruleset by_digits = (near-left)
 
 -- no decimals, and some
 pub behind-none : (d four : ℕ) → d ≡ 0 → behind_text d four ≡ []

@@ -1,5 +1,5 @@
 -- Octets that are put at a place, and what is left of them.
-use Rattle.std.proofs.Common.{◌≡◌, ℕ, ◌+◌, ◌-◌, ◌≤◌, List, ◌++◌, take, drop, length, sym, ap, ◌∙◌, append_assoc, length-drop, arith}
+use Rattle.std.proofs.Common.{◌≡◌, ℕ, ◌+◌, ◌-◌, ◌≤◌, List, ◌++◌, take, drop, length, sym, ap, ap₂, ◌∙◌, append_assoc, length-drop, arith}
 use Rattle.std.proofs.Math.Seq.{take-append-add}
 use Rattle.std.proofs.lemmas.List.{take-append-drop, take-append-le, length-take-le, take_all}
 
@@ -26,3 +26,23 @@ both_ends old one two text at n first last kept fits some few =
     ∙ ap (λ (xs : List ℕ). take at old ++ xs) (part_of_front text rest n (omega arith) some) in
     let all : take n (drop rest text) ≡ drop rest text = take_all n (drop rest text) (omega (arith, length-drop rest text)) in
     rw (← place, last, front, all, append_assoc, take-append-drop)
+
+start : (n : ℕ) → n ≡ 0 + n
+start n = omega arith
+
+-- the first and the last octets of a text, which were put behind one another
+pub joined_ends : (one two first last text : List ℕ) (n : ℕ) → take (0 + n) one ≡ first → take (n + n) two ≡ take n one ++ last → length two ≤ n + n
+    → first ≡ take n (drop 0 text) → last ≡ take n (drop (length text - n) text) → n ≤ length text → two ≡ take n text ++ drop (length text - n) text
+joined_ends one two first last text n one_is two_is fits first_is last_is some =
+    let rest : ℕ = length text - n in
+    let all : take n (drop rest text) ≡ drop rest text = take_all n (drop rest text) (omega (arith, length-drop rest text)) in
+    let front : take n one ≡ take n text = ap (λ (k : ℕ). take k one) (start n) ∙ (one_is ∙ first_is) in
+    sym (take_all (n + n) two fits) ∙ (two_is ∙ ap₂ (λ (a b : List ℕ). a ++ b) front (last_is ∙ all))
+
+-- octets of which a part from a place on was written anew
+pub window : (old line rest text : List ℕ) (used count : ℕ) → take count line ≡ text → count ≤ length line → used ≤ length old → take (used + count) (take used old ++ (line ++ rest)) ≡ take used old ++ text
+window old line rest text used count is inside some =
+    let place : length (take used old) ≡ used = length-take-le used old some in
+    let behind : take count (line ++ rest) ≡ text = take-append-le count line rest inside ∙ is in
+    ap (λ (k : ℕ). take (k + count) (take used old ++ (line ++ rest))) (sym place)
+    ∙ (take-append-add (take used old) (line ++ rest) count ∙ ap (λ (xs : List ℕ). take used old ++ xs) behind)

@@ -1,8 +1,8 @@
 -- From the mask of a load to octets that stand as themselves.
-use Rattle.std.proofs.Common.{◌≡◌, ℕ, suc, ◌+◌, ◌%◌, ◌^◌, ◌≤◌, Bool, true, false, true≢false, cond, ◌||◌, ◌==◌, List, [], ◌∷◌, ◌++◌, map, length, get_or, replicate, Fits, w8, refl, sym, ap, ap₂, ◌∙◌, arith}
-use Rattle.std.proofs.lemmas.Bool.{agree_below, agree_below_at, eqb-true}
+use Rattle.std.proofs.Common.{◌≡◌, ℕ, suc, ◌+◌, ◌-◌, ◌%◌, ◌^◌, ◌≤◌, Bool, true, false, true≢false, cond, ◌||◌, ◌==◌, List, [], ◌∷◌, ◌++◌, map, length, get_or, replicate, take, drop, inl, inr, Fits, w8, refl, sym, subst, ap, ap₂, ◌∙◌, arith}
+use Rattle.std.proofs.lemmas.Bool.{cases_lt, agree_below, agree_below_at, eqb-true}
 use Rattle.std.proofs.lemmas.Simd.{map-map, mask_l-mod, length-chunk, none_from_empty_mask}
-use Rattle.std.proofs.lemmas.List.{length-map}
+use Rattle.std.proofs.lemmas.List.{length-map, length-take-le, get_or_append_left, get_or-append-add, get_or-take, get_or-drop}
 use Rattle.std.specs.Bool.{OnTrue}
 use Rattle.std.specs.List.{flat_map}
 use lib.Lanes.{chunk, zip2, mask_l, top}
@@ -52,3 +52,28 @@ quoted-plain (x ∷ xs) stand =
 pub quoted-itself : (b : Bool) (d : List ℕ) → OnTrue b (StandBetween d 0 (length d)) → OnTrue b (flat_map quoted_octet d ≡ d)
 quoted-itself true d stand = quoted-plain d stand
 quoted-itself false d stand = tt
+
+-- octets of which the first and the last stand as themselves
+stand-ends : (d both : List ℕ) (n : ℕ) → both ≡ take n d ++ drop (length d - n) d → n ≤ length d → length d ≤ n + n → StandBetween both 0 (n + n) → StandBetween d 0 (length d)
+stand-ends d both n is some few stand k from to = elim (cases_lt k n) [
+  | inl less ↦
+      let front = length-take-le n d some in
+      let place : get_or both k 0 ≡ get_or d k 0 =
+      ap (λ (xs : List ℕ). get_or xs k 0) is
+      ∙ (get_or_append_left (take n d) (drop (length d - n) d) 0 k (omega (arith, front, less)) ∙ get_or-take n d k 0 less) in
+      subst (λ (x : ℕ). stands_as_itself x ≡ true) place (stand k (omega arith) (omega (arith, less)))
+  | inr more ↦
+      let front = length-take-le n d some in
+      let rest : ℕ = length d - n in
+      let last : ℕ = length (take n d) + (k - rest) in
+      let sum : rest + (k - rest) ≡ k = omega (arith, more, few, some) in
+      let place : get_or both last 0 ≡ get_or d k 0 =
+      ap (λ (xs : List ℕ). get_or xs last 0) is
+      ∙ (get_or-append-add (take n d) (drop rest d) (k - rest) 0 ∙ (get_or-drop rest d (k - rest) 0 ∙ ap (λ (m : ℕ). get_or d m 0) sum)) in
+      subst (λ (x : ℕ). stands_as_itself x ≡ true) place (stand last (omega arith) (omega (arith, front, more, few, some, to)))
+]
+
+-- their text in quotes
+pub quoted-ends : (b : Bool) (d both : List ℕ) (n : ℕ) → both ≡ take n d ++ drop (length d - n) d → n ≤ length d → length d ≤ n + n → OnTrue b (StandBetween both 0 (n + n)) → OnTrue b (flat_map quoted_octet d ≡ d)
+quoted-ends true d both n is some few stand = quoted-plain d (stand-ends d both n is some few stand)
+quoted-ends false d both n is some few stand = tt

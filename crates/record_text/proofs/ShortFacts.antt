@@ -1,8 +1,8 @@
 -- The digits of small numbers, and those of greater ones by fours.
-use Rattle.std.proofs.Common.{◌≡◌, ℕ, ◌+◌, ◌/◌, ◌%◌, ◌^◌, ◌<◌, ◌≤◌, List, [], ◌∷◌, ◌++◌, length, get_or, refl, sym, ap, ◌∙◌, append_assoc, arith}
+use Rattle.std.proofs.Common.{◌≡◌, ℕ, ◌+◌, ◌/◌, ◌%◌, ◌^◌, ◌<◌, ◌≤◌, List, [], ◌∷◌, ◌++◌, length, get_or, take, refl, sym, ap, ◌∙◌, append_assoc, arith}
 use Rattle.std.specs.Prelude.{map, decimal}
 use Rattle.std.proofs.lemmas.Fmt.{decimal_digit, decimal_step}
-use Rattle.std.proofs.lemmas.List.{get_or-map, length-map}
+use Rattle.std.proofs.lemmas.List.{get_or-map, length-map, take_all}
 use Rattle.std.proofs.lemmas.List.FromFn.{map-range_with_len_more, get_or-map-range_with_len, length-map-range_with_len}
 use Rattle.record_text.specs.declared.short.Short.{Short}
 use Rattle.record_text.specs.ShortTexts.{four_digits, digits_of, texts_of, number_texts, number_texts_below}
@@ -74,3 +74,7 @@ pub four_at : (texts : List Short) (bound n : ℕ) (short : Short) → map texts
 four_at texts bound n short told below is = ap (λ (p : List ℕ × List ℕ). p.1) (text_at texts bound n short told below is)
 
 pub ruleset at_a_place = (texts_length, digits_at, four_at)
+
+-- all of them
+pub texts_whole : (texts : List Short) (bound : ℕ) → map texts_of texts ≡ number_texts_below bound → take bound texts ≡ texts
+texts_whole texts bound told = take_all bound texts (omega (arith, texts_length texts bound told))

@@ -8,10 +8,12 @@
 #![tactic(auto)]
 
 mod code;
+mod count;
 mod fault;
 mod field;
 mod lines;
 mod near;
+mod number;
 mod octets;
 mod page;
 mod place;

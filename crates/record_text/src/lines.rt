@@ -1,7 +1,9 @@
 ghost use Rattle.std.specs.Prelude.{◌≡◌, [], IfOk};
 
 use crate::page::Page;
+use crate::short_texts::ShortTexts;
 use bit_field::MOST_VALUES;
+use mib_model::Line;
 use std::alloc::{AllocError, Global};
 use std::marker::Model;
 
@@ -37,6 +39,8 @@ const _: () = prove!(
 #[derive(Drop)]
 pub struct Lines {
     pub(crate) page: Page,
+    pub(crate) shorts: ShortTexts,
+    pub(crate) number: Line,
 }
 
 impl Model for Lines {
@@ -54,6 +58,8 @@ impl Lines {
     {
         Ok(Lines {
             page: Page::new(alloc)?,
+            shorts: ShortTexts::new(alloc)?,
+            number: Line::new(),
         })
     }
 

@@ -31,7 +31,8 @@ fn half_of_last(decimals: u8) -> u64
         1 => 50_000_000_000,
         2 => 5_000_000_000,
         3 => 500_000_000,
-        _ => 50_000_000,
+        4 => 50_000_000,
+        _ => 0,
     }
 }
 
@@ -53,10 +54,11 @@ fn digits_of_count(count: i64, decimals: u8) -> NearCount
 {
     let half = half_of_last(decimals);
     let digits = (count.unsigned_abs() + half) / FOURTH_DECIMAL;
+    let whole = digits / SHORT_BOUND;
     NearCount {
         minus: has_minus(count, half),
-        whole: digits / SHORT_BOUND,
-        behind: digits % SHORT_BOUND,
+        whole,
+        behind: digits - whole * SHORT_BOUND,
     }
 }
 

@@ -1,11 +1,11 @@
 // Octets in quotes and in hexadecimal digits.
-ghost use Rattle.std.specs.Prelude.{◌≡◌, ◌≤◌, ◌<◌, ◌+◌, ◌*◌, ◌^◌, ◌++◌, ◌∷◌, List, ℕ, codes, length};
+ghost use Rattle.std.specs.Prelude.{◌≡◌, ◌≤◌, ◌<◌, ◌+◌, ◌*◌, ◌^◌, ◌++◌, ◌∷◌, List, ℕ, codes, length, take};
 ghost use Rattle.std.specs.List.{flat_map};
 ghost use Rattle.mib_model.specs.RawTexts as Spec;
 
 use crate::field::{field, whole_octets};
-use crate::page::Page;
-use crate::plain::{are_plain, stands_as_itself};
+use crate::place::{add_ends, add_octet, add_word};
+use crate::plain::{eights_stand, fours_stand, sixteens_stand, stands_as_itself};
 
 // A hexadecimal digit, in upper case.
 fn hex_digit(n: u8) -> u8
@@ -16,13 +16,13 @@ fn hex_digit(n: u8) -> u8
 }
 
 // Appends the two digits of an octet.
-fn add_hex_octet(octet: u8, out: &mut Page)
-    requires { length out.old.octets + 2 ≤ out.old.limit }
-    ensures text { out.new.octets ≡ out.old.octets ++ Spec.hex_text 2 octet }
-    ensures room { length out.new.octets ≡ length out.old.octets + 2 }
-    ensures limit { out.new.limit ≡ out.old.limit }
+fn add_hex_octet(octet: u8, line: &mut [u8], used: usize) -> usize
+    requires { used + 2 ≤ length line.old }
+    ensures text { take result line.new ≡ take used line.old ++ Spec.hex_text 2 octet }
+    ensures room { result ≡ used + 2 }
+    ensures kept { length line.new ≡ length line.old }
 {
-    out.add_word(&[hex_digit(octet / 16), hex_digit(octet % 16)]);
+    add_word(&[hex_digit(octet / 16), hex_digit(octet % 16)], line, used)
 }
 
 // The last eight digits of a number.
@@ -43,56 +43,60 @@ fn eight_digits(number: u64) -> [u8; 8]
 }
 
 // Appends a number in so many digits, one after another.
-fn add_digits(number: u64, digits: u8, out: &mut Page)
+fn add_digits(number: u64, digits: u8, line: &mut [u8], used: usize) -> usize
     requires digits { digits ≤ 16 }
-    requires room { length out.old.octets + 16 ≤ out.old.limit }
-    ensures text { out.new.octets ≡ out.old.octets ++ Spec.hex_text digits number }
-    ensures room { length out.new.octets ≤ length out.old.octets + digits }
-    ensures limit { out.new.limit ≡ out.old.limit }
+    requires room { used + 16 ≤ length line.old }
+    ensures text { take result line.new ≡ take used line.old ++ Spec.hex_text digits number }
+    ensures room { result ≤ used + digits }
+    ensures kept { length line.new ≡ length line.old }
 {
+    let mut end = used;
     for i in 0..digits {
         let behind = digits - 1 - i;
-        out.push(hex_digit(((number >> (4 * behind)) % 16) as u8));
+        let digit = hex_digit(((number >> (4 * behind)) % 16) as u8);
+        end = add_octet(digit, line, end);
     }
+    end
 }
 
 /// Appends a number in so many digits.
-pub(crate) fn add_hex_number(number: u64, digits: u8, out: &mut Page)
+pub(crate) fn add_hex_number(number: u64, digits: u8, line: &mut [u8], used: usize) -> usize
     requires digits { digits ≤ 16 }
-    requires room { length out.old.octets + 16 ≤ out.old.limit }
-    ensures text { out.new.octets ≡ out.old.octets ++ Spec.hex_text digits number }
-    ensures room { length out.new.octets ≤ length out.old.octets + digits }
-    ensures limit { out.new.limit ≡ out.old.limit }
+    requires room { used + 16 ≤ length line.old }
+    ensures text { take result line.new ≡ take used line.old ++ Spec.hex_text digits number }
+    ensures room { result ≤ used + digits }
+    ensures kept { length line.new ≡ length line.old }
 {
     match digits {
-        8 => out.add_word(&eight_digits(number)),
+        8 => add_word(&eight_digits(number), line, used),
         16 => {
-            out.add_word(&eight_digits(number / 0x1_0000_0000));
-            out.add_word(&eight_digits(number));
+            let end = add_word(&eight_digits(number / 0x1_0000_0000), line, used);
+            add_word(&eight_digits(number), line, end)
         }
-        _ => add_digits(number, digits, out),
+        _ => add_digits(number, digits, line, used),
     }
 }
 
 // Appends an octet that doesn't stand as itself, by its digits.
-fn add_escaped(octet: u8, out: &mut Page)
-    requires { length out.old.octets + 4 ≤ out.old.limit }
-    ensures text { out.new.octets ≡ out.old.octets ++ Spec.backslash ∷ codes "x" ++ Spec.hex_text 2 octet }
-    ensures room { length out.new.octets ≡ length out.old.octets + 4 }
-    ensures limit { out.new.limit ≡ out.old.limit }
+fn add_escaped(octet: u8, line: &mut [u8], used: usize) -> usize
+    requires { used + 4 ≤ length line.old }
+    ensures text { take result line.new ≡ take used line.old ++ Spec.backslash ∷ codes "x" ++ Spec.hex_text 2 octet }
+    ensures room { result ≡ used + 4 }
+    ensures kept { length line.new ≡ length line.old }
 {
-    out.add_word(&[b'\\', b'x', hex_digit(octet / 16), hex_digit(octet % 16)]);
+    let escaped = [b'\\', b'x', hex_digit(octet / 16), hex_digit(octet % 16)];
+    add_word(&escaped, line, used)
 }
 
 /// How an octet is written.
 pub(crate) trait Spelling {
     ghost spelled: { ℕ → List ℕ };
 
-    fn add(octet: u8, out: &mut Page)
-        requires { length out.old.octets + 4 ≤ out.old.limit }
-        ensures text { out.new.octets ≡ out.old.octets ++ spelled octet }
-        ensures room { length out.new.octets ≤ length out.old.octets + 4 }
-        ensures limit { out.new.limit ≡ out.old.limit };
+    fn add(octet: u8, line: &mut [u8], used: usize) -> usize
+        requires { used + 4 ≤ length line.old }
+        ensures text { take result line.new ≡ take used line.old ++ spelled octet }
+        ensures room { result ≤ used + 4 }
+        ensures kept { length line.new ≡ length line.old };
 }
 
 /// As two hexadecimal digits.
@@ -101,8 +105,8 @@ pub(crate) struct Digits;
 impl Spelling for Digits {
     ghost spelled = { Spec.hex_text 2 };
 
-    fn add(octet: u8, out: &mut Page) {
-        add_hex_octet(octet, out);
+    fn add(octet: u8, line: &mut [u8], used: usize) -> usize {
+        add_hex_octet(octet, line, used)
     }
 }
 
@@ -113,79 +117,98 @@ impl Spelling for Quoted {
     ghost spelled = { Spec.quoted_octet };
 
     #[inline(always)]
-    fn add(octet: u8, out: &mut Page) {
+    fn add(octet: u8, line: &mut [u8], used: usize) -> usize {
         if stands_as_itself(octet) {
-            out.push(octet);
+            add_octet(octet, line, used)
         } else {
-            add_escaped(octet, out);
+            add_escaped(octet, line, used)
         }
     }
 }
 
 // Appends octets.
-fn add_octets<S: Spelling>(octets: &[u8], out: &mut Page)
-    requires { length out.old.octets + 4 * length octets.now ≤ out.old.limit }
-    ensures text { out.new.octets ≡ out.old.octets ++ flat_map S.spelled octets.now }
-    ensures room { length out.new.octets ≤ length out.old.octets + 4 * length octets.now }
-    ensures limit { out.new.limit ≡ out.old.limit }
+fn add_octets<S: Spelling>(octets: &[u8], line: &mut [u8], used: usize) -> usize
+    requires { used + 4 * length octets.now ≤ length line.old }
+    ensures text { take result line.new ≡ take used line.old ++ flat_map S.spelled octets.now }
+    ensures room { result ≤ used + 4 * length octets.now }
+    ensures kept { length line.new ≡ length line.old }
 {
+    let mut end = used;
     for octet in octets {
-        S::add(*octet, out);
+        end = S::add(*octet, line, end);
     }
+    end
 }
 
 // Appends so many octets from a bit on.
-fn add_shifted<S: Spelling>(packet: &[u8], at: u64, count: u16, out: &mut Page)
+fn add_shifted<S: Spelling>(
+    packet: &[u8],
+    at: u64,
+    count: u16,
+    line: &mut [u8],
+    used: usize,
+) -> usize
     requires count { count ≤ 1024 }
     requires inside { at + 8 * count ≤ 8 * length packet.now }
-    requires room { length out.old.octets + 4 * count ≤ out.old.limit }
-    ensures text { out.new.octets ≡ out.old.octets ++ flat_map S.spelled (Spec.octets_at packet.now at count) }
-    ensures room { length out.new.octets ≤ length out.old.octets + 4 * count }
-    ensures limit { out.new.limit ≡ out.old.limit }
+    requires room { used + 4 * count ≤ length line.old }
+    ensures text { take result line.new ≡ take used line.old ++ flat_map S.spelled (Spec.octets_at packet.now at count) }
+    ensures room { result ≤ used + 4 * count }
+    ensures kept { length line.new ≡ length line.old }
 {
+    let mut end = used;
     for k in 0..count {
-        S::add(field(packet, at, 8 * k, 8) as u8, out);
+        end = S::add(field(packet, at, 8 * k, 8) as u8, line, end);
     }
+    end
 }
 
 /// Appends so many octets from a bit on, from the packet itself where that bit is an octet's first.
-pub(crate) fn add_octets_at<S: Spelling>(packet: &[u8], at: u64, count: u16, out: &mut Page)
+pub(crate) fn add_octets_at<S: Spelling>(
+    packet: &[u8],
+    at: u64,
+    count: u16,
+    line: &mut [u8],
+    used: usize,
+) -> usize
     requires count { count ≤ 1024 }
     requires inside { at + 8 * count ≤ 8 * length packet.now }
-    requires room { length out.old.octets + 4 * count ≤ out.old.limit }
-    ensures text { out.new.octets ≡ out.old.octets ++ flat_map S.spelled (Spec.octets_at packet.now at count) }
-    ensures room { length out.new.octets ≤ length out.old.octets + 4 * count }
-    ensures limit { out.new.limit ≡ out.old.limit }
+    requires room { used + 4 * count ≤ length line.old }
+    ensures text { take result line.new ≡ take used line.old ++ flat_map S.spelled (Spec.octets_at packet.now at count) }
+    ensures room { result ≤ used + 4 * count }
+    ensures kept { length line.new ≡ length line.old }
 {
     match whole_octets(packet, at, count) {
-        Some(octets) => add_octets::<S>(octets, out),
-        None => add_shifted::<S>(packet, at, count, out),
+        Some(octets) => add_octets::<S>(octets, line, used),
+        None => add_shifted::<S>(packet, at, count, line, used),
     }
 }
 
-// Appends octets as they stand in quotes: at once where each stands as itself.
-fn add_spelled(octets: &[u8], out: &mut Page)
-    requires { length out.old.octets + 4 * length octets.now ≤ out.old.limit }
-    ensures text { out.new.octets ≡ out.old.octets ++ flat_map Spec.quoted_octet octets.now }
-    ensures room { length out.new.octets ≤ length out.old.octets + 4 * length octets.now }
-    ensures limit { out.new.limit ≡ out.old.limit }
+// Appends octets as they stand in quotes: a short text at once where each stands as itself.
+#[inline(always)]
+fn add_spelled(octets: &[u8], line: &mut [u8], used: usize) -> usize
+    requires { used + 4 * length octets.now ≤ length line.old }
+    ensures text { take result line.new ≡ take used line.old ++ flat_map Spec.quoted_octet octets.now }
+    ensures room { result ≤ used + 4 * length octets.now }
+    ensures kept { length line.new ≡ length line.old }
 {
-    if are_plain(octets) {
-        out.add(octets);
-    } else {
-        add_octets::<Quoted>(octets, out);
+    match octets.len() {
+        8..=16 if eights_stand(octets) => add_ends::<8>(octets, line, used),
+        4..8 if fours_stand(octets) => add_ends::<4>(octets, line, used),
+        17..=32 if sixteens_stand(octets) => add_ends::<16>(octets, line, used),
+        _ => add_octets::<Quoted>(octets, line, used),
     }
 }
 
 /// Appends octets in quotes.
+#[inline(always)]
 #[tactic(auto, unfolding(mib_model::specs::RawTexts::quoted))]
-pub(crate) fn add_quoted(octets: &[u8], out: &mut Page)
-    requires { length out.old.octets + (4 * length octets.now + 2) ≤ out.old.limit }
-    ensures text { out.new.octets ≡ out.old.octets ++ Spec.quoted octets.now }
-    ensures room { length out.new.octets ≤ length out.old.octets + (4 * length octets.now + 2) }
-    ensures limit { out.new.limit ≡ out.old.limit }
+pub(crate) fn add_quoted(octets: &[u8], line: &mut [u8], used: usize) -> usize
+    requires { used + (4 * length octets.now + 2) ≤ length line.old }
+    ensures text { take result line.new ≡ take used line.old ++ Spec.quoted octets.now }
+    ensures room { result ≤ used + (4 * length octets.now + 2) }
+    ensures kept { length line.new ≡ length line.old }
 {
-    out.push(b'"');
-    add_spelled(octets, out);
-    out.push(b'"');
+    let used = add_octet(b'"', line, used);
+    let used = add_spelled(octets, line, used);
+    add_octet(b'"', line, used)
 }

@@ -1,10 +1,11 @@
 // Whether octets stand as themselves in quotes. Two loads that overlap cover a short text.
-ghost use Rattle.std.specs.Prelude.{◌≡◌, ◌+◌, ◌≤◌, length};
+ghost use Rattle.std.specs.Prelude.{◌≡◌, ◌+◌, ◌-◌, ◌≤◌, ◌++◌, drop, length, take};
 ghost use Rattle.std.specs.Bool.{OnTrue};
 ghost use Rattle.std.specs.List.{flat_map};
 ghost use Rattle.mib_model.specs.RawTexts.{quoted_octet, stands_as_itself};
 ghost use Rattle.record_text.specs.PlainTexts.{StandBetween};
 
+use crate::place::{part, put};
 use std::simd::prelude::*;
 
 /// From a space to a tilde, but for the quote and the backslash.
@@ -12,19 +13,6 @@ pub(crate) fn stands_as_itself(octet: u8) -> bool
     ensures { result ≡ stands_as_itself octet }
 {
     (0x20..=0x7E).contains(&octet) && octet != b'"' && octet != b'\\'
-}
-
-#[inline(always)]
-fn four_stand(octets: &[u8], at: usize) -> bool
-    requires { at + 4 ≤ length octets.now }
-    ensures { OnTrue result (StandBetween octets.now at (at + 4)) }
-{
-    let v = u8x4::from_slice(&octets[at..]);
-    let from_space = v - u8x4::splat(b' ');
-    let others = from_space.simd_ge(u8x4::splat(0x5F))
-        | v.simd_eq(u8x4::splat(b'"'))
-        | v.simd_eq(u8x4::splat(b'\\'));
-    others.to_bitmask() == 0
 }
 
 #[inline(always)]
@@ -53,35 +41,57 @@ fn sixteen_stand(octets: &[u8], at: usize) -> bool
     others.to_bitmask() == 0
 }
 
-// One after another.
-fn each_stands(octets: &[u8]) -> bool
-    ensures { OnTrue result (StandBetween octets.now 0 (length octets.now)) }
+// The first and the last octets of a text, which may overlap, behind one another.
+#[inline(always)]
+fn ends<const N: usize, const M: usize>(text: &[u8]) -> [u8; M]
+    requires some { N ≤ length text.now }
+    requires twice { N + N ≡ M }
+    ensures { result ≡ take N text.now ++ drop (length text.now - N) text.now }
 {
-    for octet in octets {
-        if !stands_as_itself(*octet) {
-            return false;
-        }
-    }
-    true
+    let first = part::<N>(text, 0);
+    let last = part::<N>(text, text.len() - N);
+    let mut both = [0; M];
+    put(&mut both, 0, &first);
+    put(&mut both, N, &last);
+    both
 }
 
+/// Whether 4 to 8 octets are found to stand as themselves.
 #[inline(always)]
-fn all_stand(octets: &[u8]) -> bool
-    ensures { OnTrue result (StandBetween octets.now 0 (length octets.now)) }
-{
-    let count = octets.len();
-    match count {
-        4..8 => four_stand(octets, 0) && four_stand(octets, count - 4),
-        8..16 => eight_stand(octets, 0) && eight_stand(octets, count - 8),
-        16..=32 => sixteen_stand(octets, 0) && sixteen_stand(octets, count - 16),
-        _ => each_stands(octets),
-    }
-}
-
-/// Whether octets are found to stand as themselves.
-#[inline(always)]
-pub(crate) fn are_plain(octets: &[u8]) -> bool
+pub(crate) fn fours_stand(octets: &[u8]) -> bool
+    requires some { 4 ≤ length octets.now }
+    requires few { length octets.now ≤ 8 }
     ensures { OnTrue result (flat_map quoted_octet octets.now ≡ octets.now) }
 {
-    all_stand(octets)
+    eight_stand(&ends::<4, 8>(octets), 0)
+}
+
+/// Whether 8 to 16 octets are found to stand as themselves.
+#[inline(always)]
+pub(crate) fn eights_stand(octets: &[u8]) -> bool
+    requires some { 8 ≤ length octets.now }
+    requires few { length octets.now ≤ 16 }
+    ensures { OnTrue result (flat_map quoted_octet octets.now ≡ octets.now) }
+{
+    sixteen_stand(&ends::<8, 16>(octets), 0)
+}
+
+// Whether the first and the last sixteen octets are found to stand as themselves.
+#[inline(always)]
+fn both_stand(octets: &[u8]) -> bool
+    requires some { 16 ≤ length octets.now }
+    requires few { length octets.now ≤ 32 }
+    ensures { OnTrue result (StandBetween octets.now 0 (length octets.now)) }
+{
+    sixteen_stand(octets, 0) && sixteen_stand(octets, octets.len() - 16)
+}
+
+/// Whether 16 to 32 octets are found to stand as themselves.
+#[inline(always)]
+pub(crate) fn sixteens_stand(octets: &[u8]) -> bool
+    requires some { 16 ≤ length octets.now }
+    requires few { length octets.now ≤ 32 }
+    ensures { OnTrue result (flat_map quoted_octet octets.now ≡ octets.now) }
+{
+    both_stand(octets)
 }

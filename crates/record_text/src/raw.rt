@@ -1,5 +1,5 @@
 // The texts of raw values.
-ghost use Rattle.std.specs.Prelude.{◌≡◌, ◌≤◌, ◌<◌, ◌+◌, ◌*◌, ◌/◌, ◌++◌, length, codes, decimal, false, true};
+ghost use Rattle.std.specs.Prelude.{◌≡◌, ◌≤◌, ◌<◌, ◌+◌, ◌*◌, ◌/◌, ◌++◌, length, take, codes, decimal, false, true};
 ghost use Rattle.std.specs.Fmt.{signed_decimal};
 ghost use Rattle.std.specs.List.{flat_map};
 ghost use Rattle.mib_model.specs.Bits as Bits;
@@ -8,8 +8,10 @@ ghost use Rattle.mib_model.specs.RawTexts as Spec;
 ghost use Rattle.record_text.specs.declared.raw.TheConstants.{RAW_ROOM};
 
 use crate::field::field;
+use crate::number::{add_digits, add_number};
 use crate::octets::{Digits, Quoted, add_hex_number, add_octets_at};
-use crate::page::Page;
+use crate::place::{add_octet, add_word};
+use crate::short_texts::Shorts;
 use bit_field::number;
 use mib_model::{Shape, Sort, Value};
 
@@ -17,42 +19,44 @@ use mib_model::{Shape, Sort, Value};
 pub(crate) const RAW_ROOM: usize = 4100;
 
 // Appends a number's digits, by a word of 64 bits where it is that small.
-fn add_magnitude(n: u128, out: &mut Page)
-    requires room { length out.old.octets + 40 ≤ out.old.limit }
-    ensures text { out.new.octets ≡ out.old.octets ++ decimal n }
-    ensures room { length out.new.octets ≤ length out.old.octets + 40 }
-    ensures limit { out.new.limit ≡ out.old.limit }
+fn add_magnitude(n: u128, shorts: Shorts<'_>, line: &mut [u8], used: usize) -> usize
+    requires room { used + 40 ≤ length line.old }
+    ensures text { take result line.new ≡ take used line.old ++ decimal n }
+    ensures room { result ≤ used + 40 }
+    ensures kept { length line.new ≡ length line.old }
 {
     match u64::try_from(n) {
-        Ok(n) => out.add_number(n),
-        Err(_) => out.add_digits(n),
+        Ok(n) => add_number(n, shorts, line, used),
+        Err(_) => add_digits(n, line, used),
     }
 }
 
 // Appends the digits of a raw number that is below zero or past 64 bits.
 #[inline(never)]
-fn add_far_integer(raw: i128, out: &mut Page)
-    requires room { length out.old.octets + 41 ≤ out.old.limit }
-    ensures text { out.new.octets ≡ out.old.octets ++ signed_decimal raw }
-    ensures room { length out.new.octets ≤ length out.old.octets + 41 }
-    ensures limit { out.new.limit ≡ out.old.limit }
+fn add_far_integer(raw: i128, shorts: Shorts<'_>, line: &mut [u8], used: usize) -> usize
+    requires room { used + 41 ≤ length line.old }
+    ensures text { take result line.new ≡ take used line.old ++ signed_decimal raw }
+    ensures room { result ≤ used + 41 }
+    ensures kept { length line.new ≡ length line.old }
 {
+    let mut end = used;
     if raw < 0 {
-        out.push(b'-');
+        end = add_octet(b'-', line, used);
     }
-    add_magnitude(raw.unsigned_abs(), out);
+    add_magnitude(raw.unsigned_abs(), shorts, line, end)
 }
 
 // Appends a raw number's digits.
-fn add_integer(raw: i128, out: &mut Page)
-    requires room { length out.old.octets + 41 ≤ out.old.limit }
-    ensures text { out.new.octets ≡ out.old.octets ++ signed_decimal raw }
-    ensures room { length out.new.octets ≤ length out.old.octets + 41 }
-    ensures limit { out.new.limit ≡ out.old.limit }
+#[inline(always)]
+fn add_integer(raw: i128, shorts: Shorts<'_>, line: &mut [u8], used: usize) -> usize
+    requires room { used + 41 ≤ length line.old }
+    ensures text { take result line.new ≡ take used line.old ++ signed_decimal raw }
+    ensures room { result ≤ used + 41 }
+    ensures kept { length line.new ≡ length line.old }
 {
     match u64::try_from(raw) {
-        Ok(raw) => out.add_number(raw),
-        Err(_) => add_far_integer(raw, out),
+        Ok(raw) => add_number(raw, shorts, line, used),
+        Err(_) => add_far_integer(raw, shorts, line, used),
     }
 }
 
@@ -67,120 +71,158 @@ fn real_digits(shape: Shape) -> u8
 }
 
 // Appends the bits of a real number, 4 a digit.
-fn add_real(shape: Shape, packet: &[u8], at: u64, out: &mut Page)
+fn add_real(shape: Shape, packet: &[u8], at: u64, line: &mut [u8], used: usize) -> usize
     requires sort { shape.sort ≡ Sort.Real }
     requires inside { at + shape.width ≤ 8 * length packet.now }
-    requires room { length out.old.octets + 21 ≤ out.old.limit }
-    ensures text { out.new.octets ≡ out.old.octets ++ codes "REAL:"
+    requires room { used + 21 ≤ length line.old }
+    ensures text { take result line.new ≡ take used line.old ++ codes "REAL:"
         ++ Spec.hex_text (shape.width / 4) (Bits.field_number shape.order packet.now at shape.width) }
-    ensures room { length out.new.octets ≤ length out.old.octets + 21 }
-    ensures limit { out.new.limit ≡ out.old.limit }
+    ensures room { result ≤ used + 21 }
+    ensures kept { length line.new ≡ length line.old }
 {
     let digits = real_digits(shape);
-    out.add_word(b"REAL:");
-    add_hex_number(number(packet, at, shape).unwrap_or(0), digits, out);
+    let used = add_word(b"REAL:", line, used);
+    add_hex_number(number(packet, at, shape).unwrap_or(0), digits, line, used)
 }
 
 // Appends so many octets from a bit on, in hexadecimal digits.
-fn add_hex_field(packet: &[u8], at: u64, count: u16, out: &mut Page)
+fn add_hex_field(packet: &[u8], at: u64, count: u16, line: &mut [u8], used: usize) -> usize
     requires count { count ≤ 1024 }
     requires inside { at + 8 * count ≤ 8 * length packet.now }
-    requires room { length out.old.octets + RAW_ROOM ≤ out.old.limit }
-    ensures text { out.new.octets ≡ out.old.octets ++ codes "HEX:" ++ flat_map (Spec.hex_text 2) (Spec.octets_at packet.now at count) }
-    ensures room { length out.new.octets ≤ length out.old.octets + RAW_ROOM }
-    ensures limit { out.new.limit ≡ out.old.limit }
+    requires room { used + RAW_ROOM ≤ length line.old }
+    ensures text { take result line.new ≡ take used line.old ++ codes "HEX:" ++ flat_map (Spec.hex_text 2) (Spec.octets_at packet.now at count) }
+    ensures room { result ≤ used + RAW_ROOM }
+    ensures kept { length line.new ≡ length line.old }
 {
-    out.add_word(b"HEX:");
-    add_octets_at::<Digits>(packet, at, count, out);
+    let used = add_word(b"HEX:", line, used);
+    add_octets_at::<Digits>(packet, at, count, line, used)
 }
 
 // Appends so many octets from a bit on, in quotes.
 #[tactic(auto, unfolding(mib_model::specs::RawTexts::quoted))]
-fn add_quoted_field(packet: &[u8], at: u64, count: u16, out: &mut Page)
+fn add_quoted_field(packet: &[u8], at: u64, count: u16, line: &mut [u8], used: usize) -> usize
     requires count { count ≤ 1024 }
     requires inside { at + 8 * count ≤ 8 * length packet.now }
-    requires room { length out.old.octets + RAW_ROOM ≤ out.old.limit }
-    ensures text { out.new.octets ≡ out.old.octets ++ Spec.quoted (Spec.octets_at packet.now at count) }
-    ensures room { length out.new.octets ≤ length out.old.octets + RAW_ROOM }
-    ensures limit { out.new.limit ≡ out.old.limit }
+    requires room { used + RAW_ROOM ≤ length line.old }
+    ensures text { take result line.new ≡ take used line.old ++ Spec.quoted (Spec.octets_at packet.now at count) }
+    ensures room { result ≤ used + RAW_ROOM }
+    ensures kept { length line.new ≡ length line.old }
 {
-    out.push(b'"');
-    add_octets_at::<Quoted>(packet, at, count, out);
-    out.push(b'"');
+    let used = add_octet(b'"', line, used);
+    let used = add_octets_at::<Quoted>(packet, at, count, line, used);
+    add_octet(b'"', line, used)
 }
 
 // Appends days, milliseconds of the day and, with 64 bits, microseconds of the millisecond.
-fn add_day_time(packet: &[u8], at: u64, width: u16, out: &mut Page)
+fn add_day_time(
+    packet: &[u8],
+    at: u64,
+    width: u16,
+    shorts: Shorts<'_>,
+    line: &mut [u8],
+    used: usize,
+) -> usize
     requires width { 48 ≤ width }
     requires inside { at + width ≤ 8 * length packet.now }
-    requires room { length out.old.octets + 127 ≤ out.old.limit }
-    ensures text { out.new.octets ≡ out.old.octets ++ codes "TIME:" ++ Spec.day_time_text packet.now at width }
-    ensures room { length out.new.octets ≤ length out.old.octets + 127 }
-    ensures limit { out.new.limit ≡ out.old.limit }
+    requires room { used + 127 ≤ length line.old }
+    ensures text { take result line.new ≡ take used line.old ++ codes "TIME:" ++ Spec.day_time_text packet.now at width }
+    ensures room { result ≤ used + 127 }
+    ensures kept { length line.new ≡ length line.old }
 {
-    out.add_word(b"TIME:");
-    out.add_number(field(packet, at, 0, 16));
-    out.push(b':');
-    out.add_number(field(packet, at, 16, 32));
-    if width == 64 {
-        out.push(b':');
-        out.add_number(field(packet, at, 48, 16));
+    let used = add_word(b"TIME:", line, used);
+    let used = add_number(field(packet, at, 0, 16), shorts, line, used);
+    let used = add_octet(b':', line, used);
+    let used = add_number(field(packet, at, 16, 32), shorts, line, used);
+    if width != 64 {
+        return used;
     }
+    let used = add_octet(b':', line, used);
+    add_number(field(packet, at, 48, 16), shorts, line, used)
 }
 
 // Appends coarse and fine time, by their numbers of octets.
-fn add_octet_time(packet: &[u8], at: u64, coarse: u8, fine: u8, out: &mut Page)
+fn add_octet_time(
+    packet: &[u8],
+    at: u64,
+    coarse: u8,
+    fine: u8,
+    shorts: Shorts<'_>,
+    line: &mut [u8],
+    used: usize,
+) -> usize
     requires coarse { coarse ≤ 8 }
     requires fine { fine ≤ 8 }
     requires inside { at + 8 * coarse + 8 * fine ≤ 8 * length packet.now }
-    requires room { length out.old.octets + 86 ≤ out.old.limit }
-    ensures text { out.new.octets ≡ out.old.octets ++ codes "TIME:"
+    requires room { used + 86 ≤ length line.old }
+    ensures text { take result line.new ≡ take used line.old ++ codes "TIME:"
         ++ decimal (Bits.bits packet.now at (8 * coarse)) ++ Spec.fine_text packet.now (at + 8 * coarse) fine }
-    ensures room { length out.new.octets ≤ length out.old.octets + 86 }
-    ensures limit { out.new.limit ≡ out.old.limit }
+    ensures room { result ≤ used + 86 }
+    ensures kept { length line.new ≡ length line.old }
 {
-    out.add_word(b"TIME:");
-    out.add_number(field(packet, at, 0, 8 * coarse));
+    let mut end = add_word(b"TIME:", line, used);
+    end = add_number(field(packet, at, 0, 8 * coarse), shorts, line, end);
     if fine > 0 {
-        out.push(b':');
-        out.add_number(field(packet, at, 8 * u16::from(coarse), 8 * fine));
+        end = add_octet(b':', line, end);
+        end = add_number(
+            field(packet, at, 8 * u16::from(coarse), 8 * fine),
+            shorts,
+            line,
+            end,
+        );
     }
+    end
 }
 
 // Appends the raw text of a value that has no number.
+#[inline(never)]
 #[tactic(auto, unfolding(mib_model::specs::RawTexts::raw_text))]
-fn add_other(value: &Value, packet: &[u8], out: &mut Page)
+fn add_other(
+    value: &Value,
+    packet: &[u8],
+    shorts: Shorts<'_>,
+    line: &mut [u8],
+    used: usize,
+) -> usize
     requires inside { Bits.is_inside packet.now value.now.at value.now.shape.width ≡ true }
     requires sort { has_number value.now.shape.sort ≡ false }
-    requires room { length out.old.octets + RAW_ROOM ≤ out.old.limit }
-    ensures text { out.new.octets ≡ out.old.octets ++ Spec.raw_text value.now packet.now }
-    ensures room { length out.new.octets ≤ length out.old.octets + RAW_ROOM }
-    ensures limit { out.new.limit ≡ out.old.limit }
+    requires room { used + RAW_ROOM ≤ length line.old }
+    ensures text { take result line.new ≡ take used line.old ++ Spec.raw_text value.now packet.now }
+    ensures room { result ≤ used + RAW_ROOM }
+    ensures kept { length line.new ≡ length line.old }
 {
     let Value { at, shape, .. } = *value;
     let width = shape.width();
     match shape.sort() {
-        Sort::Unsigned | Sort::Signed => {}
-        Sort::Real => add_real(shape, packet, at, out),
-        Sort::Octets => add_hex_field(packet, at, width / 8, out),
-        Sort::Chars => add_quoted_field(packet, at, width / 8, out),
-        Sort::Cds => add_day_time(packet, at, width, out),
-        Sort::Cuc { coarse, fine } => add_octet_time(packet, at, coarse, fine, out),
-        Sort::Deduced => {}
+        Sort::Unsigned | Sort::Signed => used,
+        Sort::Real => add_real(shape, packet, at, line, used),
+        Sort::Octets => add_hex_field(packet, at, width / 8, line, used),
+        Sort::Chars => add_quoted_field(packet, at, width / 8, line, used),
+        Sort::Cds => add_day_time(packet, at, width, shorts, line, used),
+        Sort::Cuc { coarse, fine } => {
+            add_octet_time(packet, at, coarse, fine, shorts, line, used)
+        }
+        Sort::Deduced => used,
     }
 }
 
 /// Appends the raw text of a value.
+#[inline(always)]
 #[tactic(auto, unfolding(mib_model::specs::RawTexts::raw_text))]
-pub(crate) fn add_raw(value: &Value, packet: &[u8], out: &mut Page)
+pub(crate) fn add_raw(
+    value: &Value,
+    packet: &[u8],
+    shorts: Shorts<'_>,
+    line: &mut [u8],
+    used: usize,
+) -> usize
     requires inside { Bits.is_inside packet.now value.now.at value.now.shape.width ≡ true }
-    requires room { length out.old.octets + RAW_ROOM ≤ out.old.limit }
-    ensures text { out.new.octets ≡ out.old.octets ++ Spec.raw_text value.now packet.now }
-    ensures room { length out.new.octets ≤ length out.old.octets + RAW_ROOM }
-    ensures limit { out.new.limit ≡ out.old.limit }
+    requires room { used + RAW_ROOM ≤ length line.old }
+    ensures text { take result line.new ≡ take used line.old ++ Spec.raw_text value.now packet.now }
+    ensures room { result ≤ used + RAW_ROOM }
+    ensures kept { length line.new ≡ length line.old }
 {
     match value.shape.sort() {
-        Sort::Unsigned | Sort::Signed => add_integer(value.raw, out),
-        _ => add_other(value, packet, out),
+        Sort::Unsigned | Sort::Signed => add_integer(value.raw, shorts, line, used),
+        _ => add_other(value, packet, shorts, line, used),
     }
 }

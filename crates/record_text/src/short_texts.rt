@@ -85,10 +85,27 @@ impl ShortTexts {
         Ok(ShortTexts { texts })
     }
 
+    /// All of them, to be looked up.
+    #[inline(always)]
+    pub(crate) fn all(&self) -> Shorts<'_> {
+        Shorts {
+            texts: &self.texts[..SHORT_BOUND as usize],
+        }
+    }
+}
+
+/// The texts of all small numbers, to be looked up. A copy can be kept in registers while octets are written.
+#[derive(Clone, Copy)]
+pub(crate) struct Shorts<'a> {
+    texts: &'a [Short],
+    ghost told: { map texts_of texts.now ≡ number_texts_below SHORT_BOUND },
+}
+
+impl Shorts<'_> {
     /// The text of a number.
     #[inline(always)]
     #[tactic(auto, using(crate::proofs::ShortFacts::at_a_place))]
-    pub(crate) fn at(&self, n: u64) -> Short
+    pub(crate) fn at(self, n: u64) -> Short
         requires { n < SHORT_BOUND }
         ensures digits { digits_of result ≡ decimal n }
         ensures four { result.four ≡ four_digits n }

@@ -1,13 +1,15 @@
 // What stands behind a raw value.
-ghost use Rattle.std.specs.Prelude.{◌≡◌, ◌≤◌, ◌+◌, ◌++◌, length};
+ghost use Rattle.std.specs.Prelude.{◌≡◌, ◌≤◌, ◌+◌, ◌++◌, ℕ, false, length, take};
 ghost use Rattle.mib_model.specs.CalibrationViews.{calibrated_as};
 ghost use Rattle.mib_model.specs.Texts as Spec;
-ghost use Rattle.record_text.specs.TailViews.{tail_as};
+ghost use Rattle.record_text.specs.TailViews.{gives, tail_as};
 ghost use Rattle.record_text.specs.declared.tail.TheConstants.{TAIL_ROOM};
 
+use crate::count::add_count;
 use crate::octets::add_quoted;
-use crate::page::Page;
-use mib_model::Cal;
+use crate::place::add_word;
+use crate::short_texts::Shorts;
+use mib_model::{Cal, Line};
 
 /// The most octets of a tail: a status text of 64 octets.
 pub(crate) const TAIL_ROOM: usize = 261;
@@ -21,40 +23,70 @@ pub enum Tail<'a> {
     Invalid,
 }
 
-// Appends what a calibration gave.
-fn add_given(cal: &Cal<'_>, decimals: u8, out: &mut Page)
-    requires { length out.old.octets + TAIL_ROOM ≤ out.old.limit }
-    ensures text { out.new.octets ≡ out.old.octets ++ Spec.given_text (calibrated_as cal.now) decimals }
-    ensures room { length out.new.octets ≤ length out.old.octets + TAIL_ROOM }
-    ensures limit { out.new.limit ≡ out.old.limit }
+// Appends why a calibration gave nothing.
+#[inline(never)]
+fn add_failed(cal: &Cal<'_>, line: &mut [u8], used: usize) -> usize
+    requires nothing { gives cal.now ≡ false }
+    requires room { used + 12 ≤ length line.old }
+    ensures text { (decimals : ℕ) → take result line.new ≡ take used line.old ++ Spec.given_text (calibrated_as cal.now) decimals }
+    ensures room { result ≤ used + 12 }
+    ensures kept { length line.new ≡ length line.old }
 {
     match cal {
-        Cal::Value(number) => {
-            out.add_word(b" = ");
-            out.add_count(*number, decimals);
+        Cal::Value(_) | Cal::Text(_) => used,
+        Cal::NoText => add_word(b" ! NOTEXT", line, used),
+        Cal::Outside => add_word(b" ! OUTSIDE", line, used),
+        Cal::Over => add_word(b" ! OVER", line, used),
+        Cal::LogCurve => add_word(b" ! LOGCURVE", line, used),
+        Cal::RealCurve => add_word(b" ! REALCURVE", line, used),
+    }
+}
+
+// Appends what a calibration gave.
+#[inline(always)]
+fn add_given(
+    cal: &Cal<'_>,
+    decimals: u8,
+    shorts: Shorts<'_>,
+    number: &mut Line,
+    line: &mut [u8],
+    used: usize,
+) -> usize
+    requires { used + TAIL_ROOM ≤ length line.old }
+    ensures text { take result line.new ≡ take used line.old ++ Spec.given_text (calibrated_as cal.now) decimals }
+    ensures room { result ≤ used + TAIL_ROOM }
+    ensures kept { length line.new ≡ length line.old }
+{
+    match cal {
+        Cal::Value(v) => {
+            let used = add_word(b" = ", line, used);
+            add_count(*v, decimals, shorts, number, line, used)
         }
         Cal::Text(text) => {
-            out.add_word(b" = ");
-            add_quoted(text.bytes(), out);
+            let used = add_word(b" = ", line, used);
+            add_quoted(text.bytes(), line, used)
         }
-        Cal::NoText => out.add_word(b" ! NOTEXT"),
-        Cal::Outside => out.add_word(b" ! OUTSIDE"),
-        Cal::Over => out.add_word(b" ! OVER"),
-        Cal::LogCurve => out.add_word(b" ! LOGCURVE"),
-        Cal::RealCurve => out.add_word(b" ! REALCURVE"),
+        _ => add_failed(cal, line, used),
     }
 }
 
 /// Appends the text of a tail.
-pub(crate) fn add_tail(tail: &Tail<'_>, out: &mut Page)
-    requires { length out.old.octets + TAIL_ROOM ≤ out.old.limit }
-    ensures text { out.new.octets ≡ out.old.octets ++ Spec.tail_text (tail_as tail.now) }
-    ensures room { length out.new.octets ≤ length out.old.octets + TAIL_ROOM }
-    ensures limit { out.new.limit ≡ out.old.limit }
+#[inline(always)]
+pub(crate) fn add_tail(
+    tail: &Tail<'_>,
+    shorts: Shorts<'_>,
+    number: &mut Line,
+    line: &mut [u8],
+    used: usize,
+) -> usize
+    requires { used + TAIL_ROOM ≤ length line.old }
+    ensures text { take result line.new ≡ take used line.old ++ Spec.tail_text (tail_as tail.now) }
+    ensures room { result ≤ used + TAIL_ROOM }
+    ensures kept { length line.new ≡ length line.old }
 {
     match tail {
-        Tail::Plain => {}
-        Tail::Given { cal, decimals } => add_given(cal, *decimals, out),
-        Tail::Invalid => out.add_word(b" ? INVALID"),
+        Tail::Plain => used,
+        Tail::Given { cal, decimals } => add_given(cal, *decimals, shorts, number, line, used),
+        Tail::Invalid => add_word(b" ? INVALID", line, used),
     }
 }

@@ -1,5 +1,5 @@
 // The line of a value.
-ghost use Rattle.std.specs.Prelude.{◌≡◌, ◌≤◌, ◌+◌, ◌++◌, codes, length, true};
+ghost use Rattle.std.specs.Prelude.{◌≡◌, ◌≤◌, ◌+◌, ◌++◌, codes, length, take, true};
 ghost use Rattle.mib_model.specs.Bits as Bits;
 ghost use Rattle.mib_model.specs.Tails.{Plain};
 ghost use Rattle.mib_model.specs.Texts.{value_text};
@@ -7,33 +7,86 @@ ghost use Rattle.record_text.specs.TailViews.{tail_as};
 ghost use Rattle.record_text.specs.ValueParts.{begin_text, end_text};
 ghost use Rattle.record_text.specs.declared.lines.TheConstants.{BEGIN_ROOM, END_ROOM, LINES_ROOM, LINE_MOST, VALUE_ROOM};
 
-use crate::lines::Lines;
-use crate::page::Page;
+use crate::lines::{LINE_MOST, Lines};
+use crate::place::{add_indented, add_octet};
 use crate::raw::add_raw;
+use crate::short_texts::Shorts;
 use crate::tail::{Tail, add_tail};
-use mib_model::Value;
+use mib_model::{Line, Value};
 
 // Appends a value's name and raw text.
-fn add_begin(value: &Value, packet: &[u8], out: &mut Page)
+#[inline(always)]
+fn add_begin(
+    value: &Value,
+    packet: &[u8],
+    shorts: Shorts<'_>,
+    line: &mut [u8],
+    used: usize,
+) -> usize
     requires inside { Bits.is_inside packet.now value.now.at value.now.shape.width ≡ true }
-    requires room { length out.old.octets + BEGIN_ROOM ≤ out.old.limit }
-    ensures text { out.new.octets ≡ out.old.octets ++ begin_text value.now packet.now }
-    ensures room { length out.new.octets ≤ length out.old.octets + BEGIN_ROOM }
-    ensures limit { out.new.limit ≡ out.old.limit }
+    requires room { used + BEGIN_ROOM ≤ length line.old }
+    ensures text { take result line.new ≡ take used line.old ++ begin_text value.now packet.now }
+    ensures room { result ≤ used + BEGIN_ROOM }
+    ensures kept { length line.new ≡ length line.old }
 {
-    out.add_indented(&value.name);
-    add_raw(value, packet, out);
+    let used = add_indented(&value.name, line, used);
+    add_raw(value, packet, shorts, line, used)
 }
 
 // Appends a tail and ends the line.
-fn add_end(tail: &Tail<'_>, out: &mut Page)
-    requires room { length out.old.octets + END_ROOM ≤ out.old.limit }
-    ensures text { out.new.octets ≡ out.old.octets ++ end_text (tail_as tail.now) }
-    ensures room { length out.new.octets ≤ length out.old.octets + END_ROOM }
-    ensures limit { out.new.limit ≡ out.old.limit }
+#[inline(always)]
+fn add_end(
+    tail: &Tail<'_>,
+    shorts: Shorts<'_>,
+    number: &mut Line,
+    line: &mut [u8],
+    used: usize,
+) -> usize
+    requires room { used + END_ROOM ≤ length line.old }
+    ensures text { take result line.new ≡ take used line.old ++ end_text (tail_as tail.now) }
+    ensures room { result ≤ used + END_ROOM }
+    ensures kept { length line.new ≡ length line.old }
 {
-    add_tail(tail, out);
-    out.push(b'\n');
+    let used = add_tail(tail, shorts, number, line, used);
+    add_octet(b'\n', line, used)
+}
+
+// Puts a value's name and raw text behind what is there. The line has a known length, so that the compiler sees of each octet
+// that it falls inside.
+#[inline(always)]
+fn put_begin(
+    value: &Value,
+    packet: &[u8],
+    shorts: Shorts<'_>,
+    octets: &mut [u8],
+    used: usize,
+) -> usize
+    requires inside { Bits.is_inside packet.now value.now.at value.now.shape.width ≡ true }
+    requires room { used + LINE_MOST ≤ length octets.old }
+    ensures text { take result octets.new ≡ take used octets.old ++ begin_text value.now packet.now }
+    ensures room { result ≤ used + BEGIN_ROOM }
+    ensures kept { length octets.new ≡ length octets.old }
+{
+    let line = &mut octets[used..used + LINE_MOST];
+    used + add_begin(value, packet, shorts, line, 0)
+}
+
+// Puts a tail behind what is there, and ends the line.
+#[inline(always)]
+fn put_end(
+    tail: &Tail<'_>,
+    shorts: Shorts<'_>,
+    number: &mut Line,
+    octets: &mut [u8],
+    used: usize,
+) -> usize
+    requires room { used + LINE_MOST ≤ length octets.old }
+    ensures text { take result octets.new ≡ take used octets.old ++ end_text (tail_as tail.now) }
+    ensures room { result ≤ used + END_ROOM }
+    ensures kept { length octets.new ≡ length octets.old }
+{
+    let line = &mut octets[used..used + LINE_MOST];
+    used + add_end(tail, shorts, number, line, 0)
 }
 
 /// Begins the line of a value, whose bits must be in the packet: its name and its raw text. There must be room for 5,000
@@ -46,7 +99,8 @@ pub fn begin_value(value: &Value, packet: &[u8], out: &mut Lines)
     ensures room { length out.new ≤ length out.old + BEGIN_ROOM }
 {
     out.page.make_ready();
-    add_begin(value, packet, &mut out.page);
+    let shorts = out.shorts.all();
+    out.page.used = put_begin(value, packet, shorts, &mut out.page.octets, out.page.used);
 }
 
 /// Ends the line of a value: its tail. There must be room for 5,000 octets.
@@ -57,7 +111,14 @@ pub fn end_value(tail: &Tail<'_>, out: &mut Lines)
     ensures room { length out.new ≤ length out.old + END_ROOM }
 {
     out.page.make_ready();
-    add_end(tail, &mut out.page);
+    let shorts = out.shorts.all();
+    out.page.used = put_end(
+        tail,
+        shorts,
+        &mut out.number,
+        &mut out.page.octets,
+        out.page.used,
+    );
 }
 
 /// Ends the line of a value behind its raw text. There must be room for 5,000 octets.
@@ -68,19 +129,28 @@ pub fn end_plain_value(out: &mut Lines)
     ensures room { length out.new ≤ length out.old + END_ROOM }
 {
     out.page.make_ready();
-    out.page.push(b'\n');
+    out.page.used = add_octet(b'\n', &mut out.page.octets, out.page.used);
 }
 
 // Appends the line of a value.
+#[inline(never)]
 #[tactic(auto, unfolding(mib_model::specs::Texts::value_text))]
-fn add_value(value: &Value, packet: &[u8], tail: &Tail<'_>, out: &mut Page)
+fn add_value(
+    value: &Value,
+    packet: &[u8],
+    tail: &Tail<'_>,
+    shorts: Shorts<'_>,
+    number: &mut Line,
+    line: &mut [u8],
+    used: usize,
+) -> usize
     requires inside { Bits.is_inside packet.now value.now.at value.now.shape.width ≡ true }
-    requires room { length out.old.octets + VALUE_ROOM ≤ out.old.limit }
-    ensures text { out.new.octets ≡ out.old.octets ++ value_text value.now packet.now (tail_as tail.now) }
-    ensures room { length out.new.octets ≤ length out.old.octets + VALUE_ROOM }
+    requires room { used + VALUE_ROOM ≤ length line.old }
+    ensures text { take result line.new ≡ take used line.old ++ value_text value.now packet.now (tail_as tail.now) }
+    ensures room { result ≤ used + VALUE_ROOM }
 {
-    add_begin(value, packet, out);
-    add_end(tail, out);
+    let used = add_begin(value, packet, shorts, line, used);
+    add_end(tail, shorts, number, line, used)
 }
 
 /// Appends the line of a value, whose bits must be in the packet: its name, its raw text and its tail. There must be
@@ -92,5 +162,14 @@ pub fn value_line(value: &Value, packet: &[u8], tail: &Tail<'_>, out: &mut Lines
     ensures room { length out.new ≤ length out.old + VALUE_ROOM }
 {
     out.page.make_ready();
-    add_value(value, packet, tail, &mut out.page);
+    let shorts = out.shorts.all();
+    out.page.used = add_value(
+        value,
+        packet,
+        tail,
+        shorts,
+        &mut out.number,
+        &mut out.page.octets,
+        out.page.used,
+    );
 }
