@@ -50,28 +50,14 @@ fn shape_by(item: Option<&TypeItem>) -> Option<Shape>
     shape_of(item.ptc, item.pfc, item.endian)
 }
 
-// The occurrences of a row whose values have this shape.
-fn span_of(row: &PlfRow, shape: Shape) -> Span
-    ensures { span_places result ≡ occurrences row.now (Some shape) }
-{
-    Span {
-        octet: row.offby,
-        step: row.lgocc,
-        count: row.nbocc,
-        shape,
-        bit: row.offbi,
-        name: row.name,
-    }
-}
-
 // Adds the occurrences of a row, if its parameter has values.
 fn add_row(spans: &mut Vec<Span>, row: &PlfRow, types: &FirstRows<ByName>) -> Result<(), AllocError>
     ensures { OnOk result (spans_places spans.new.items ≡ spans_places spans.old.items
         ++ occurrences row.now (option_and_then item_encoding (item_named types.now row.now.name))) }
 {
     match shape_by(types.find(&row.name)) {
-        Some(shape) => spans.push(span_of(row, shape))?,
-        None => {}
+        Some(shape) if row.nbocc > 0 => spans.push(Span::new(row, shape))?,
+        _ => {}
     }
     Ok(())
 }
@@ -92,6 +78,7 @@ fn spans_of(
 }
 
 // Reads the values at the places of spans, and tells the end where one comes before the last of them.
+#[inline(always)]
 fn read_spans(spans: &[Span], packet: &[u8], values: &mut Values) -> Option<Ended>
     requires slots { length values.old.slots.now ≡ most_values }
     requires used { values.old.used ≤ most_values }
@@ -102,10 +89,29 @@ fn read_spans(spans: &[Span], packet: &[u8], values: &mut Values) -> Option<Ende
 {
     for span in spans {
         if let Some(stop) = span.read(packet, values) {
-            return Some(stop.ended(span.name));
+            return Some(stop.ended(span.name()));
         }
     }
     None
+}
+
+// The same, by values of its own, which the loop may keep in registers.
+#[inline(always)]
+fn read_apart(spans: &[Span], packet: &[u8], values: &mut Values) -> Option<Ended>
+    requires slots { length values.old.slots.now ≡ most_values }
+    requires used { values.old.used ≤ most_values }
+    ensures reads { Reads packet.now (spans_places spans.now) result values.old values.new }
+    ensures slots { length values.new.slots.now ≡ most_values }
+    ensures used { values.new.used ≤ most_values }
+    ensures borrow { values.new.slots.ghost_name ≡ values.old.slots.ghost_name }
+{
+    let mut own = Values {
+        slots: &mut *values.slots,
+        used: values.used,
+    };
+    let ended = read_spans(spans, packet, &mut own);
+    values.used = own.used;
+    ended
 }
 
 impl Layout {
@@ -145,7 +151,7 @@ impl Layout {
         ensures used { values.new.used ≤ most_values }
         ensures borrow { values.new.slots.ghost_name ≡ values.old.slots.ghost_name }
     {
-        match read_spans(&self.spans, packet, values) {
+        match read_apart(&self.spans, packet, values) {
             Some(ended) => ended,
             None => Ended::Whole,
         }
