@@ -48,6 +48,18 @@ fn number_in_eight(octets: &[u8], skip: u8, width: u8) -> u64
     BigEndian::read_u64(octets) << skip >> (64 - width)
 }
 
+/// The number of 1 to 64 bits in the eight octets from one on, behind so many bits of them.
+#[inline(always)]
+pub fn number_near(octets: &[u8], first: usize, skip: u8, width: u8) -> u64
+    requires some { 0 < width }
+    requires near { skip + width ≤ 64 }
+    requires eight { first + 8 ≤ length octets.now }
+    ensures value { result ≡ bits octets.now (8 * first + skip) width }
+    ensures within { result < 2 ^ width }
+{
+    number_in_eight(&octets[first..], skip, width)
+}
+
 // The number of 1 to 64 bits behind the first bits of an octet, 7 at most, in as few octets as hold it.
 #[cold]
 #[inline(never)]

@@ -17,5 +17,5 @@ pub use encoding::shape_of;
 pub use field::{number_at, signed, unsigned};
 pub use laws::bits_are_a_sum;
 pub use mib_model::{Ended, Endian, MOST_VALUES, Order, Shape, Sort, Value};
-pub use value::{number, take};
+pub use value::{number, take, take_near};
 pub use values::Values;

@@ -1,12 +1,12 @@
 // The value at a place of a packet.
-ghost use Rattle.std.specs.Prelude.{◌≡◌, ◌≢◌, ◌<◌, ◌≤◌, ◌+◌, ◌*◌, ◌/◌, ◌^◌, length, Some, None, true, if◌then◌else◌};
+ghost use Rattle.std.specs.Prelude.{◌≡◌, ◌≢◌, ◌<◌, ◌≤◌, ◌+◌, ◌*◌, ◌/◌, ◌^◌, length, Some, None, IfSome, true, if◌then◌else◌};
 ghost use Rattle.mib_model.specs.declared.shape.Sort.TheVariants as sorts;
 ghost use Rattle.mib_model.specs.Bits as Spec;
 ghost use Rattle.mib_model.specs.Bits.{bits, little_bits, signed_number};
 ghost use Rattle.mib_model.specs.Fixed.{value_at};
 ghost use Rattle.bit_field.specs.Numbers.{has_number};
 
-use crate::field::{complement, is_inside, number_from};
+use crate::field::{complement, is_inside, number_from, number_near};
 use mib_model::{Name, Order, Shape, Sort, Value};
 
 // The number in so many octets behind the first bits of an octet, the least significant first.
@@ -134,5 +134,61 @@ pub fn take(octets: &[u8], at: u64, name: Name, shape: Shape) -> Option<Value>
         at,
         raw: raw_number(octets, at, shape),
         shape,
+    })
+}
+
+// The number of a value in the eight octets from one on, behind so many bits of them, and 0 for a sort without one. Most
+// are unsigned, and `near_number` reads those itself.
+#[inline(never)]
+#[tactic(auto, unfolding(mib_model::specs::Bits::raw_number))]
+fn other_near(octets: &[u8], first: usize, skip: u8, shape: &Shape) -> i128
+    requires order { has_number shape.now.sort ≡ true → shape.now.order ≡ Order.Big }
+    requires near { skip + shape.now.width ≤ 64 }
+    requires eight { first + 8 ≤ length octets.now }
+    ensures { result ≡ Spec.raw_number shape.now octets.now (8 * first + skip) }
+{
+    match shape.sort() {
+        Sort::Unsigned => i128::from(number_near(octets, first, skip, number_width(*shape))),
+        Sort::Signed => {
+            let width = number_width(*shape);
+            i128::from(complement(number_near(octets, first, skip, width), width))
+        }
+        _ => 0,
+    }
+}
+
+// The number of a value in the eight octets from one on, behind so many bits of them, and 0 for a sort without one.
+#[inline(always)]
+#[tactic(auto, unfolding(mib_model::specs::Bits::raw_number))]
+fn near_number(octets: &[u8], first: usize, skip: u8, shape: &Shape) -> i128
+    requires order { has_number shape.now.sort ≡ true → shape.now.order ≡ Order.Big }
+    requires near { skip + shape.now.width ≤ 64 }
+    requires eight { first + 8 ≤ length octets.now }
+    ensures { result ≡ Spec.raw_number shape.now octets.now (8 * first + skip) }
+{
+    match shape.sort() {
+        Sort::Unsigned => i128::from(number_near(octets, first, skip, number_width(*shape))),
+        _ => other_near(octets, first, skip, shape),
+    }
+}
+
+/// The value of a parameter in the eight octets from one on, behind so many bits of them: it has no number, or one of the
+/// order `Big`. There is none where these octets aren't all there, and `take` tells.
+#[inline(always)]
+pub fn take_near(octets: &[u8], octet: u32, skip: u8, name: Name, shape: &Shape) -> Option<Value>
+    requires order { has_number shape.now.sort ≡ true → shape.now.order ≡ Order.Big }
+    requires near { skip + shape.now.width ≤ 64 }
+    ensures value { IfSome result (λ value. value ≡ value_at octets.now (record { name = name; at = 8 * octet + skip; shape = shape.now })) }
+    ensures inside { IfSome result (λ value. Spec.is_inside octets.now (8 * octet + skip) shape.now.width ≡ true) }
+{
+    let first = octet as usize;
+    if first + 8 > octets.len() {
+        return None;
+    }
+    Some(Value {
+        name,
+        at: 8 * u64::from(octet) + u64::from(skip),
+        raw: near_number(octets, first, skip, shape),
+        shape: *shape,
     })
 }

@@ -118,6 +118,14 @@ fn has_key<B: By>(row: &B::Row, key: &B::Key) -> bool
     B::key(row) == Some(*key)
 }
 
+// The first row of a key, by the map: out of the way of those that are found without it.
+#[inline(never)]
+fn probe<'a, B: By>(firsts: &'a HashMap<B::Key, B::Row>, key: &B::Key) -> Option<&'a B::Row>
+    ensures { option_copied result ≡ get B.Key.eq firsts.now key.now }
+{
+    firsts.get(key)
+}
+
 impl<B: By> FirstRows<B> {
     /// The first of these rows for each key. An error is want of memory.
     pub fn new(alloc: Global, rows: &[B::Row]) -> Result<FirstRows<B>, AllocError>
@@ -158,6 +166,6 @@ impl<B: By> FirstRows<B> {
                 return Some(row);
             }
         }
-        self.firsts.get(key)
+        probe::<B>(&self.firsts, key)
     }
 }

@@ -7,7 +7,7 @@ use Rattle.mib_model.specs.declared.rows.PlfRow.{PlfRow}
 use Rattle.mib_model.specs.Encodings.{Encoding}
 use Rattle.mib_model.specs.Fixed.{Place, occurrences}
 use Rattle.mib_model.specs.Layouts.{item_named, item_encoding, layout_places}
-use Rattle.layout_plan.specs.declared.span.Span.{Span}
+use Rattle.layout_plan.specs.Turns.{Turns}
 use Rattle.layout_plan.specs.Spans.{span_places, spans_places}
 
 -- what a row's bits are, by type items
@@ -30,7 +30,7 @@ layout_places-more plfs types i row below is =
     ap all (take_more plfs i row below) ∙ (flat_map-append places (take i plfs) (get_or plfs i row ∷ []) ∙ (ap behind (append-nil (places (get_or plfs i row))) ∙ ap last (sym is)))
 
 -- a span more
-pub spans_places-push : (spans : List Span) (span : Span) → spans_places (spans ++ span ∷ []) ≡ spans_places spans ++ span_places span
+pub spans_places-push : (spans : List Turns) (span : Turns) → spans_places (spans ++ span ∷ []) ≡ spans_places spans ++ span_places span
 spans_places-push spans span = flat_map-append span_places spans (span ∷ []) ∙ ap (λ (rest : List Place). spans_places spans ++ rest) (append-nil (span_places span))
 
 -- the spans of one row more

@@ -1,4 +1,5 @@
 pub mod Slices
+pub mod Turns
 pub mod Readings
 pub mod Spans
 pub mod Stops

@@ -5,9 +5,10 @@ ghost use Rattle.mib_model.specs.Layouts.{item_named, item_encoding, layout_plac
 ghost use Rattle.bit_field.specs.Taken.{taken};
 ghost use Rattle.layout_plan.specs.Readings.{Reads};
 ghost use Rattle.layout_plan.specs.Spans.{span_places, spans_places};
+ghost use Rattle.layout_plan.specs.Stops.{ended_at};
 
 use crate::items::ByName;
-use crate::span::Span;
+use crate::span::{Span, Stop};
 use bit_field::{Values, shape_of};
 use first_rows::FirstRows;
 use mib_model::{Ended, PidRow, PlfRow, Shape, Steps, TypeItem};
@@ -50,28 +51,14 @@ fn shape_by(item: Option<&TypeItem>) -> Option<Shape>
     shape_of(item.ptc, item.pfc, item.endian)
 }
 
-// The occurrences of a row whose values have this shape.
-fn span_of(row: &PlfRow, shape: Shape) -> Span
-    ensures { span_places result ≡ occurrences row.now (Some shape) }
-{
-    Span {
-        octet: row.offby,
-        step: row.lgocc,
-        count: row.nbocc,
-        shape,
-        bit: row.offbi,
-        name: row.name,
-    }
-}
-
 // Adds the occurrences of a row, if its parameter has values.
 fn add_row(spans: &mut Vec<Span>, row: &PlfRow, types: &FirstRows<ByName>) -> Result<(), AllocError>
     ensures { OnOk result (spans_places spans.new.items ≡ spans_places spans.old.items
         ++ occurrences row.now (option_and_then item_encoding (item_named types.now row.now.name))) }
 {
     match shape_by(types.find(&row.name)) {
-        Some(shape) => spans.push(span_of(row, shape))?,
-        None => {}
+        Some(shape) if row.nbocc > 0 => spans.push(Span::new(row, shape))?,
+        _ => {}
     }
     Ok(())
 }
@@ -91,21 +78,41 @@ fn spans_of(
     Ok(spans)
 }
 
-// Reads the values at the places of spans, and tells the end where one comes before the last of them.
-fn read_spans(spans: &[Span], packet: &[u8], values: &mut Values) -> Option<Ended>
+// Reads the values at the places of spans; where they stop before the last of them, tells why, and in which span.
+#[inline(always)]
+fn read_spans<'a>(spans: &'a [Span], packet: &[u8], values: &mut Values) -> Option<(Stop, &'a Span)>
     requires slots { length values.old.slots.now ≡ most_values }
     requires used { values.old.used ≤ most_values }
-    ensures reads { Reads packet.now (spans_places spans.now) result values.old values.new }
+    ensures reads { Reads packet.now (spans_places spans.now) (option_map (λ stopped. ended_at stopped.1.now.name stopped.0) result) values.old values.new }
     ensures slots { length values.new.slots.now ≡ most_values }
     ensures used { values.new.used ≤ most_values }
     ensures borrow { values.new.slots.ghost_name ≡ values.old.slots.ghost_name }
 {
     for span in spans {
         if let Some(stop) = span.read(packet, values) {
-            return Some(stop.ended(span.name));
+            return Some((stop, span));
         }
     }
     None
+}
+
+// The same, by values of its own, which the loop may keep in registers.
+#[inline(never)]
+fn read_apart<'a>(spans: &'a [Span], packet: &[u8], values: &mut Values) -> Option<(Stop, &'a Span)>
+    requires slots { length values.old.slots.now ≡ most_values }
+    requires used { values.old.used ≤ most_values }
+    ensures reads { Reads packet.now (spans_places spans.now) (option_map (λ stopped. ended_at stopped.1.now.name stopped.0) result) values.old values.new }
+    ensures slots { length values.new.slots.now ≡ most_values }
+    ensures used { values.new.used ≤ most_values }
+    ensures borrow { values.new.slots.ghost_name ≡ values.old.slots.ghost_name }
+{
+    let mut own = Values {
+        slots: &mut *values.slots,
+        used: values.used,
+    };
+    let stopped = read_spans(spans, packet, &mut own);
+    values.used = own.used;
+    stopped
 }
 
 impl Layout {
@@ -136,7 +143,7 @@ impl Layout {
 
     /// The values of a packet, in the order of the rows, and how they end: before the 8,193rd, or before the first whose
     /// bits aren't in the packet. It takes no memory.
-    #[inline(never)]
+    #[inline(always)]
     pub fn extract(&self, packet: &[u8], values: &mut Values) -> Ended
         requires slots { length values.old.slots.now ≡ most_values }
         requires used { values.old.used ≡ 0 }
@@ -145,8 +152,8 @@ impl Layout {
         ensures used { values.new.used ≤ most_values }
         ensures borrow { values.new.slots.ghost_name ≡ values.old.slots.ghost_name }
     {
-        match read_spans(&self.spans, packet, values) {
-            Some(ended) => ended,
+        match read_apart(&self.spans, packet, values) {
+            Some((stop, span)) => stop.ended(span.name()),
             None => Ended::Whole,
         }
     }

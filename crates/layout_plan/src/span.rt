@@ -1,23 +1,37 @@
 // The occurrences of one row of plf.
-ghost use Rattle.std.specs.Prelude.{◌≡◌, ◌≤◌, ◌<◌, ◌^◌, ◌+◌, ◌*◌, [], ◌∷◌, length};
-ghost use Rattle.mib_model.specs.Fixed.{Place, most_values};
+ghost use Rattle.std.specs.Prelude.{Some, ◌≡◌, ◌≤◌, ◌<◌, ◌^◌, ◌+◌, ◌*◌, [], ◌∷◌, length};
+ghost use Rattle.mib_model.specs.Fixed.{Place, most_values, occurrences};
 ghost use Rattle.layout_plan.specs.Readings.{Reads};
 ghost use Rattle.layout_plan.specs.Stops.{ended_at, ended_by};
-ghost use Rattle.layout_plan.specs.Spans.{first_of, place_in, span_places};
+ghost use Rattle.layout_plan.specs.Spans.{place_in, span_places};
+ghost use Rattle.layout_plan.specs.Turns.{is_big_or_none};
 
-use bit_field::{MOST_VALUES, Values, take};
-use mib_model::{Ended, Name, Shape};
+use bit_field::{MOST_VALUES, Values, take, take_near};
+use mib_model::{Ended, Name, Order, PlfRow, Shape, Sort};
+use std::marker::Model;
 
-/// The occurrences of a row: the octet of the first and the bit in it, the bits from one to the next, and how many there
-/// are. Fields lie so that little room is left between them.
-#[derive(Clone, Copy)]
+/// The occurrences of a row: the octet of the first and the bit behind its first, the bits from one to the next, and how many
+/// there are. Where `count` is 0 there is one, which `take_near` reads. Fields lie
+/// so that little room is left between them. Contracts see the occurrences.
+#[derive(Drop)]
 pub struct Span {
-    pub octet: u32,
-    pub step: u16,
-    pub count: u16,
-    pub shape: Shape,
-    pub bit: u8,
-    pub name: Name,
+    octet: u32,
+    step: u16,
+    count: u16,
+    shape: Shape,
+    bit: u8,
+    name: Name,
+}
+
+impl Model for Span {
+    ghost use Rattle.std.specs.Prelude.{◌≡◌, ◌+◌, ◌*◌};
+    ghost use Rattle.layout_plan.specs.Turns.{Turns, turns, IsNear};
+
+    ghost Value = { Turns };
+
+    ghost view = { λ s. record { name = s.name; first = 8 * s.octet + s.bit; step = s.step; count = turns s.count; shape = s.shape } };
+
+    ghost invariant = { λ s. s.count ≡ 0 → IsNear s.bit s.shape };
 }
 
 /// Why values end before the last place of a span.
@@ -75,12 +89,69 @@ fn first_bit(octet: u32, bit: u8) -> u64
     8 * u64::from(octet) + u64::from(bit)
 }
 
+// Whether values of a shape have no number or one of the order `Big`.
+fn is_big(shape: Shape) -> bool
+    ensures { result ≡ is_big_or_none shape }
+{
+    match shape.sort() {
+        Sort::Unsigned | Sort::Signed => matches!(shape.order(), Order::Big),
+        _ => true,
+    }
+}
+
+// The same place by the octet that is the eighth before the field's end, or the first of all where there are fewer, if the
+// field begins behind it; else by the octet in which it begins.
+fn near_place(octet: u32, bit: u8, width: u16) -> (u32, u8)
+    ensures { 8 * result.0 + result.1 ≡ 8 * octet + bit }
+{
+    let at = first_bit(octet, bit);
+    let end = (at + u64::from(width)).div_ceil(8);
+    let first = end.saturating_sub(8).min(at / 8);
+    if first <= u64::from(octet) {
+        (first as u32, (at - 8 * first) as u8)
+    } else {
+        (octet, bit)
+    }
+}
+
 impl Span {
+    /// The occurrences of a row that has any, whose values have this shape.
+    pub fn new(row: &PlfRow, shape: Shape) -> Span
+        requires { 0 < row.now.nbocc }
+        ensures { span_places result ≡ occurrences row.now (Some shape) }
+    {
+        let (octet, bit) = near_place(row.offby, row.offbi, shape.width());
+        let end = u32::from(bit) + u32::from(shape.width());
+        let is_near = row.nbocc == 1 && end <= 64 && is_big(shape);
+        Span {
+            octet,
+            step: row.lgocc,
+            count: if is_near { 0 } else { row.nbocc },
+            shape,
+            bit,
+            name: row.name,
+        }
+    }
+
+    /// The name of its values.
+    pub fn name(&self) -> Name
+        ensures { result ≡ self.now.name }
+    {
+        self.name
+    }
+
     // The first bit of its k-th place, k from 0 on.
     fn place(&self, k: u16) -> u64
-        ensures { result ≡ first_of self.now + k * self.now.step }
+        ensures { result ≡ self.now.first + k * self.now.step }
     {
         first_bit(self.octet, self.bit) + u64::from(k) * u64::from(self.step)
+    }
+
+    // How many places it has.
+    fn places(&self) -> u16
+        ensures { result ≡ self.now.count }
+    {
+        if self.count == 0 { 1 } else { self.count }
     }
 
     // Reads the values at its places, however many there are, and tells why where they stop before the last of them.
@@ -93,13 +164,32 @@ impl Span {
         ensures used { values.new.used ≤ most_values }
         ensures borrow { values.new.slots.ghost_name ≡ values.old.slots.ghost_name }
     {
-        for k in 0..self.count {
+        for k in 0..self.places() {
             let at = self.place(k);
             if let Some(stop) = read_value(packet, at, &self.name, self.shape, values) {
                 return Some(stop);
             }
         }
         None
+    }
+
+    // The same, by values of its own, so that the caller may keep its own in registers.
+    #[inline(always)]
+    fn read_apart(&self, packet: &[u8], values: &mut Values) -> Option<Stop>
+        requires slots { length values.old.slots.now ≡ most_values }
+        requires used { values.old.used ≤ most_values }
+        ensures reads { Reads packet.now (span_places self.now) (ended_by self.now.name result) values.old values.new }
+        ensures slots { length values.new.slots.now ≡ most_values }
+        ensures used { values.new.used ≤ most_values }
+        ensures borrow { values.new.slots.ghost_name ≡ values.old.slots.ghost_name }
+    {
+        let mut own = Values {
+            slots: &mut *values.slots,
+            used: values.used,
+        };
+        let stop = self.read_each(packet, &mut own);
+        values.used = own.used;
+        stop
     }
 
     /// Reads the values at its places, and tells why where they stop before the last of them.
@@ -112,11 +202,13 @@ impl Span {
         ensures used { values.new.used ≤ most_values }
         ensures borrow { values.new.slots.ghost_name ≡ values.old.slots.ghost_name }
     {
-        if self.count == 1 {
-            let at = first_bit(self.octet, self.bit);
-            read_value(packet, at, &self.name, self.shape, values)
-        } else {
-            self.read_each(packet, values)
+        if self.count == 0
+            && values.used < MOST_VALUES
+            && let Some(value) = take_near(packet, self.octet, self.bit, self.name, &self.shape)
+        {
+            values.push(value);
+            return None;
         }
+        self.read_apart(packet, values)
     }
 }

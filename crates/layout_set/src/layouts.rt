@@ -52,6 +52,14 @@ fn near_of(
     Ok(near)
 }
 
+// The layout of a SPID, by the map: out of the way of those that are found without it.
+#[inline(never)]
+fn probe(map: &HashMap<u32, Arc<Layout>>, spid: u32) -> Option<&Arc<Layout>>
+    ensures { option_map arc_value (option_copied result) ≡ layout_at map.now spid }
+{
+    map.get(&spid)
+}
+
 impl Layouts {
     /// No layouts. They take no memory.
     pub fn none(alloc: Global) -> Layouts
@@ -88,6 +96,6 @@ impl Layouts {
                 return Some(&kept.layout);
             }
         }
-        self.map.get(&spid)
+        probe(&self.map, spid)
     }
 }

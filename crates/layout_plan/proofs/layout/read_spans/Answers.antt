@@ -1,7 +1,5 @@
-use Rattle.std.proofs.Common.{◌∙◌, ◌+◌, None, Some, sym, subst}
+use Rattle.std.proofs.Common.{◌∙◌, ◌+◌, None, Some}
 use Rattle.mib_model.specs.declared.packet.Ended.{Ended}
-use Rattle.layout_plan.specs.Readings.{Reads}
-use Rattle.layout_plan.specs.Spans.{spans_places}
 use Rattle.layout_plan.specs.Stops.{ended_at}
 use Rattle.layout_plan.proofs.SpanFacts.{reads-more, reads-all}
 use Rattle.layout_plan.proofs.layout.read_spans.Goals as goal
@@ -9,9 +7,8 @@ use Rattle.layout_plan.proofs.layout.read_spans.Goals as goal
 pub returns-in-Some-clause-reads : goal.returns-in-Some-clause-reads
 returns-in-Some-clause-reads c =
     let stopped : Ended = ended_at c.span-item.result.name c.in-Some.stop in
-    subst (λ (ended : Ended). Reads c.args.packet.now (spans_places c.args.spans.now) (Some ended) c.args.values.now c.read.new.values) (sym c.ended.ensures)
-    (reads-all c.args.packet.now c.args.spans.now (c.loop-span.span-index + 1) stopped c.args.values.now c.read.new.values
-    (reads-more c.args.packet.now c.args.spans.now c.loop-span.span-index c.span-item.result (Some stopped) c.args.values.now c.loop-span.values c.read.new.values c.loop-span-test.true c.span-item.is c.loop-span.invariant.reads c.in-Some.ensures.reads))
+    reads-all c.args.packet.now c.args.spans.now (c.loop-span.span-index + 1) stopped c.args.values.now c.read.new.values
+    (reads-more c.args.packet.now c.args.spans.now c.loop-span.span-index c.span-item.result (Some stopped) c.args.values.now c.loop-span.values c.read.new.values c.loop-span-test.true c.span-item.is c.loop-span.invariant.reads c.in-Some.ensures.reads)
 
 pub loop-span-preserved : goal.loop-span-preserved
 loop-span-preserved c = record {
