@@ -26,8 +26,8 @@ const FAR: usize = 1_024;
 /// What is kept of each parameter of an edition: a slot for each plan, in the order of the plans. Contracts see the names
 /// and the slots.
 pub struct Board {
-    slots: Vec<Slot>,
-    guesses: Guesses,
+    pub(crate) slots: Vec<Slot>,
+    pub(crate) guesses: Guesses,
     // Where the places of a packet's values are noted. It says nothing between two packets.
     seats: Vec<usize>,
     // Made of what was read ahead; it says nothing.
