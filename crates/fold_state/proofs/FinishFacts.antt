@@ -21,6 +21,7 @@ use Rattle.mib_model.specs.Kept.{Memory, has_number}
 use Rattle.mib_model.specs.Parameters.{parameter}
 use Rattle.mib_model.specs.Plans.{has_plan}
 use Rattle.mib_model.specs.Tails.{Tail, Invalid, Plain, Told}
+use Rattle.mib_model.specs.declared.rows.OcfRow.{OcfRow}
 use Rattle.mib_model.specs.Texts.{told_text}
 use Rattle.param_plan.specs.Plain.{is_plain, plain_at}
 use Rattle.param_plan.specs.Slices.{ParamSlice, curve_in, slice_for}
@@ -51,6 +52,23 @@ finish-valid db memory v s given tail checked is holds made tailed done =
     let by : finished_by db memory v (Some s.pcf) ≡ told v (tail_for s.pcf.decim (given_for db s.pcf memory v)) (checked_by db memory v (given_for db s.pcf memory v) (check_of db v.name)) = rw holds refl in
     let made' : told v tail checked ≡ told v (tail_for s.pcf.decim given) (checked_by db memory v given (check_of db v.name)) = λ i. told v (tailed i) (done i) in
     made' ∙ (ap (λ (g : Option Calibrated). told v (tail_for s.pcf.decim g) (checked_by db memory v g (check_of db v.name))) made ∙ sym (ap (finished_by db memory v) is.row ∙ by))
+
+-- what a curve makes of a value that has a number
+pub given-number : (db : Database) (memory : Memory) (v : Value) (s : ParamSlice) (given : Option Calibrated) → IsSliceOf db v.name s → has_number v.shape.sort ≡ true
+    → given ≡ option_map (λ rows. calibration rows v.raw) (curve_in s memory) → given ≡ given_for db s.pcf memory v
+given-number db memory v s given is number made =
+    made ∙ (ap (λ (b : Bool). cond b (option_map (λ rows. calibration rows v.raw) (curve_in s memory)) None) (sym number) ∙ given-same db memory v s is)
+
+-- a value that has no number isn't checked
+unchecked : (db : Database) (memory : Memory) (v : Value) (check : Option OcfRow) → has_number v.shape.sort ≡ false → ◌≡◌ {A = Checked} (memory, None) (checked_by db memory v None check)
+unchecked db memory v None number = refl
+unchecked db memory v (Some row) number = rw number refl
+
+-- a value that is valid and has no number
+pub finish-numberless : (db : Database) (memory : Memory) (v : Value) (s : ParamSlice) → IsSliceOf db v.name s → is_valid memory s.pcf ≡ true → has_number v.shape.sort ≡ false
+    → ◌≡◌ {A = Finished} (memory, record { value = v; tail = Plain; change = None }) (finished db memory v)
+finish-numberless db memory v s is holds number =
+    finish-valid db memory v s None Plain (memory, None) is holds (rw number refl) refl (unchecked db memory v (check_of db v.name) number)
 
 -- the first item that passes, by its place
 found-first : {X : Type 0} (p : X → Bool) (xs : List X) (i : ℕ) (d : X) → i < length xs → p (get_or xs i d) ≡ true → ((k : ℕ) → k < i → p (get_or xs k d) ≡ false) → find p xs ≡ Some (get_or xs i d)

@@ -1,5 +1,5 @@
 -- The places of a packet's values, as they were noted.
-use Rattle.std.proofs.Common.{◌≡◌, ◌≤◌, ◌∙◌, ℕ, ◌+◌, ◌<◌, inl, inr, List, Option, Some, length, get_or, take, sym, ap, arith}
+use Rattle.std.proofs.Common.{◌≡◌, ◌≤◌, ◌∙◌, ℕ, ◌+◌, ◌<◌, inl, inr, List, Option, Some, length, get_or, take, sym, ap, arith, All}
 use Rattle.std.proofs.Math.ListN.{set}
 use Rattle.std.proofs.lemmas.Bool.{cases_lt}
 use Rattle.std.proofs.lemmas.Grind.{get_or-set_at}
@@ -9,7 +9,8 @@ use Rattle.std.specs.List.{position}
 use Rattle.mib_model.specs.declared.packet.Value.{Value}
 use Rattle.mib_model.specs.Kept.{Memory, all_entered, entered}
 use Rattle.fold_state.specs.Boards.{Slots, is_name_of, place_of}
-use Rattle.fold_state.specs.Premises.{AreSeated}
+use Rattle.fold_state.specs.Premises.{AreSeated, HasSlot}
+use Rattle.fold_state.proofs.FinishFacts.{slot-kept}
 
 -- places are those of a board of the same names
 pub seated-kept : (board other : Slots) (values : List Value) (count : ℕ) (seats : List ℕ) → other.names ≡ board.names → AreSeated board values count seats → AreSeated other values count seats
@@ -41,3 +42,7 @@ place-kept board other name same here = ap (position (is_name_of name)) (sym sam
 pub entered-more : (memory : Memory) (values : List Value) (v : Value) (i : ℕ) → i < length values → v ≡ get_or values i v → all_entered memory (take (i + 1) values) ≡ entered (all_entered memory (take i values)) v
 entered-more memory values v i below is =
     fold_more entered memory values i v below ∙ ap (entered (all_entered memory (take i values))) (sym is)
+
+-- slots are there by the names alone
+pub slots-kept : (board other : Slots) (values : List Value) → other.names ≡ board.names → All (λ v. HasSlot board v.name) values → All (λ v. HasSlot other v.name) values
+slots-kept board other values same slots = λ k d below. slot-kept board other (get_or values k d).name same (slots k d below)

@@ -2,6 +2,10 @@
 // needed.
 use crate::slot::Slot;
 use param_plan::{Param, Params};
+use std::sync::Arc;
+
+/// The plans whose rows are read ahead at once.
+pub const STRIDE: usize = 16;
 
 // The plan at a place, where there is one that isn't plain.
 fn plan_at(params: &Params, at: usize) -> Option<&Param> {
@@ -47,4 +51,29 @@ fn touch_parts(params: &Params, places: &[u32]) -> usize {
 /// Reads ahead what finishing will ask of the slots and plans at these places. The number that it gives says nothing.
 pub fn read_ahead(slots: &[Slot], params: &Params, places: &[u32]) -> usize {
     touch_all(slots, params, places) ^ touch_parts(params, places)
+}
+
+// The plan at a place of which something is kept.
+fn kept_plan<'a>(slots: &[Slot], plans: &'a [Arc<Param>], at: usize) -> Option<&'a Param> {
+    if slots.get(at)?.is_vacant() {
+        return None;
+    }
+    plans.get(at).map(|plan| &**plan)
+}
+
+// The rows of plans from a place on.
+fn touch_rows(slots: &[Slot], plans: &[Arc<Param>], first: usize) -> usize {
+    let mut seen = 0;
+    for at in first..first.saturating_add(STRIDE) {
+        if let Some(plan) = kept_plan(slots, plans, at) {
+            seen ^= plan.touch_rows();
+        }
+    }
+    seen
+}
+
+/// Reads ahead the rows of the plans from a place on, of an edition and of the one that comes in its place, where something
+/// was kept. The number that it gives says nothing.
+pub fn read_rows_ahead(slots: &[Slot], from: &Params, to: &Params, first: usize) -> usize {
+    touch_rows(slots, from.plans(), first) ^ touch_rows(slots, to.plans(), first)
 }

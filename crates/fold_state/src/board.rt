@@ -8,7 +8,7 @@ ghost use Rattle.mib_model.specs.WholeNumbers.{least_raw, greatest_raw};
 ghost use Rattle.mib_model.specs.declared.packet.Value.{Value};
 ghost use Rattle.fold_state.specs.Boards.{kept_as, memory_of, place_of, plan_names, vacant_for};
 
-use crate::ahead::read_ahead;
+use crate::ahead::{STRIDE, read_ahead, read_rows_ahead};
 use crate::guesses::Guesses;
 use crate::slot::Slot;
 use bit_field::MOST_VALUES;
@@ -26,8 +26,8 @@ const FAR: usize = 1_024;
 /// What is kept of each parameter of an edition: a slot for each plan, in the order of the plans. Contracts see the names
 /// and the slots.
 pub struct Board {
-    slots: Vec<Slot>,
-    guesses: Guesses,
+    pub(crate) slots: Vec<Slot>,
+    pub(crate) guesses: Guesses,
     // Where the places of a packet's values are noted. It says nothing between two packets.
     seats: Vec<usize>,
     // Made of what was read ahead; it says nothing.
@@ -150,6 +150,16 @@ impl Board {
         first
     }
 
+    /// Reads ahead what carrying will ask of the plans from this place on, once for so many places.
+    #[inline(always)]
+    pub(crate) fn read_on(&mut self, old: &Board, from: &Params, to: &Params, at: usize)
+        ensures { self.new ≡ self.old }
+    {
+        if at % STRIDE == 0 {
+            self.ahead = read_rows_ahead(&old.slots, from, to, at);
+        }
+    }
+
     /// The place of a name, which is looked for first where a guess says.
     #[inline(always)]
     pub(crate) fn place_near(&mut self, near: usize, name: &Name) -> Option<usize>
@@ -219,6 +229,14 @@ impl Board {
         ensures { (name : List ℕ) → place_of self.now name ≡ Some at → kept_as result.now ≡ memory_of self.now name }
     {
         &self.slots[at]
+    }
+
+    /// The name at a place.
+    pub(crate) fn name(&self, at: usize) -> &Name
+        requires { at < length self.now.names }
+        ensures { (name : List ℕ) → place_of self.now name ≡ Some at → result.now ≡ name }
+    {
+        &self.slots[at].name
     }
 
     /// Keeps the raw number of a value of the name at a place.

@@ -10,7 +10,7 @@ ghost use Rattle.mib_model.specs.SameRows as Same;
 
 use crate::board::Board;
 use crate::slot::Slot;
-use mib_model::{OcfRow, OcpRow, PcfRow};
+use mib_model::{Name, OcfRow, OcpRow, PcfRow};
 use param_plan::{Param, Params};
 
 // Whether two rows of pcf are equal.
@@ -80,6 +80,10 @@ fn kept_at(old: &Board, at: usize, from: &Params, plan: &Param) -> Slot
     ensures { (before after : Database) → IsParamsOf before from.now → old.now.names ≡ plan_names from.now → IsSliceOf after plan.now.pcf.name plan.now
         → place_of old.now plan.now.pcf.name ≡ Some at → kept_as result ≡ Spec.carry (memory_of old.now) before after plan.now.pcf.name }
 {
+    let kept = old.slot(at);
+    if kept.is_vacant() {
+        return *kept;
+    }
     let plans = from.plans();
     if at >= plans.len() {
         return Slot::new(plan.name());
@@ -90,14 +94,14 @@ fn kept_at(old: &Board, at: usize, from: &Params, plan: &Param) -> Slot
     held(*old.slot(at), &plan.rows().ocf)
 }
 
-// What is kept under the new edition of a parameter, which is looked for first at this place.
-fn kept_for(old: &Board, at: usize, from: &Params, plan: &Param) -> Slot
-    ensures { (before after : Database) → IsParamsOf before from.now → old.now.names ≡ plan_names from.now → IsSliceOf after plan.now.pcf.name plan.now
+// What is kept under the new edition of a parameter, whose name this is and which is looked for first at this place.
+fn kept_for(old: &Board, at: usize, from: &Params, name: &Name, plan: &Param) -> Slot
+    ensures { (before after : Database) → name.now ≡ plan.now.pcf.name → IsParamsOf before from.now → old.now.names ≡ plan_names from.now → IsSliceOf after plan.now.pcf.name plan.now
         → kept_as result ≡ Spec.carry (memory_of old.now) before after plan.now.pcf.name }
 {
-    match old.place_from(at, &plan.name()) {
+    match old.place_from(at, name) {
         Some(at) => kept_at(old, at, from, plan),
-        None => Slot::new(plan.name()),
+        None => Slot::new(*name),
     }
 }
 
@@ -111,7 +115,8 @@ impl Board {
             → place_of self.old plan.now.pcf.name ≡ Some at
             → memory_of self.new ≡ keeping (memory_of self.old) plan.now.pcf.name (Spec.carry (memory_of old.now) before after plan.now.pcf.name) }
     {
-        self.set_slot(at, kept_for(old, at, from, plan));
+        let name = *self.name(at);
+        self.set_slot(at, kept_for(old, at, from, &name, plan));
     }
 
     /// Takes over what an old board kept, where the edition changes: all of a name whose parameter, check but for the number
@@ -126,6 +131,7 @@ impl Board {
     {
         let plans = to.plans();
         for at in 0..plans.len() {
+            self.read_on(&old, from, to, at);
             self.carry_at(at, &old, from, &plans[at]);
         }
         self.take_guesses(old);

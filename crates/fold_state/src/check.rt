@@ -1,30 +1,18 @@
 // The check of a value's sample.
-ghost use Rattle.std.specs.Prelude.{◌≡◌, ◌<◌, List, ℕ, None, Some, length, option_map, if◌then◌else◌};
+ghost use Rattle.std.specs.Prelude.{◌≡◌, ◌<◌, ◌≤ℤ◌, List, ℕ, Some, length, option_map, true};
 ghost use Rattle.check_plan.specs.Samples.{sample_of};
 ghost use Rattle.fold_state.specs.Boards.{memory_of, place_of};
-ghost use Rattle.fold_state.specs.Premises.{IsRaw, IsSliceOf, checked_given, checked_in};
+ghost use Rattle.fold_state.specs.Premises.{IsSliceOf, checked_given, checked_in};
 ghost use Rattle.mib_model.specs.CalibrationViews.{calibrated_as};
-ghost use Rattle.mib_model.specs.Curves.{calibration};
 ghost use Rattle.mib_model.specs.declared.database.Database.{Database};
 ghost use Rattle.mib_model.specs.Kept.{has_number};
-ghost use Rattle.param_plan.specs.Slices.{curve_in};
+ghost use Rattle.mib_model.specs.WholeNumbers.{least_raw, greatest_raw};
 
 use crate::board::Board;
-use crate::value::{is_raw, sample_for};
+use crate::value::sample_for;
 use check_plan::{Checks, Sample};
 use mib_model::{Cal, Change, Value};
 use param_plan::Param;
-
-/// What the curve of a plan makes of a value, if the value has a number and there is a curve.
-pub fn calibrated<'a>(plan: &'a Param, value: &Value, kept: &Board) -> Option<Cal<'a>>
-    ensures { IsRaw value.now → option_map calibrated_as result ≡ (if has_number value.now.shape.sort
-        then option_map (λ rows. calibration rows value.now.raw) (curve_in plan.now (memory_of kept.now)) else None) }
-{
-    if !is_raw(value) {
-        return None;
-    }
-    plan.calibrate(value.raw, kept)
-}
 
 impl Board {
     // Classes a sample of the name at a place, and takes a step of its alarm.
@@ -38,7 +26,7 @@ impl Board {
         self.step(at, class, checks.nbchck(), sample)
     }
 
-    /// Checks a value of the name at a place by its plan, where it has a number and the plan has a check.
+    /// Checks a value, which has a number, of the name at a place by its plan, where the plan has a check.
     pub(crate) fn check(
         &mut self,
         at: usize,
@@ -46,14 +34,13 @@ impl Board {
         value: &Value,
         given: Option<Cal<'_>>,
     ) -> Option<Change>
-        requires { at < length self.old.names }
+        requires at { at < length self.old.names }
+        requires low { least_raw ≤ℤ value.now.raw }
+        requires high { value.now.raw ≤ℤ greatest_raw }
         ensures names { self.new.names ≡ self.old.names }
-        ensures checked { (db : Database) → IsSliceOf db value.now.name plan.now → place_of self.old value.now.name ≡ Some at → IsRaw value.now
-            → (memory_of self.new, result) ≡ checked_given db (memory_of self.old) value.now (option_map calibrated_as given.entry) }
+        ensures checked { (db : Database) → IsSliceOf db value.now.name plan.now → place_of self.old value.now.name ≡ Some at
+            → has_number value.now.shape.sort ≡ true → (memory_of self.new, result) ≡ checked_given db (memory_of self.old) value.now (option_map calibrated_as given.entry) }
     {
-        if !is_raw(value) {
-            return None;
-        }
         let Some(checks) = plan.checks() else {
             return None;
         };

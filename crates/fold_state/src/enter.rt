@@ -1,14 +1,16 @@
 // The raw numbers of a packet's values.
-ghost use Rattle.std.specs.Prelude.{◌≡◌, ◌≤◌, ◌<◌, Some, length, slice_set};
+ghost use Rattle.std.specs.Prelude.{◌≡◌, ◌≤◌, ◌<◌, Some, length, map, slice_set, take, IsTrue};
 ghost use Rattle.std.specs.List.{All};
-ghost use Rattle.fold_state.specs.Boards.{memory_of, place_of};
+ghost use Rattle.fold_state.specs.Boards.{board_of, memory_of, place_of, slot_name};
+ghost use Rattle.fold_state.specs.Places.{Rise};
 ghost use Rattle.fold_state.specs.Premises.{AreSeated, HasSlot, IsRaw};
 ghost use Rattle.mib_model.specs.Kept as Spec;
 ghost use Rattle.mib_model.specs.declared.packet.Value.{Value};
 
 use crate::board::Board;
+use crate::slot::Slot;
 use crate::value::is_raw;
-use mib_model::Value;
+use mib_model::{Name, Value};
 
 // Notes the place of the k-th value, where there is a seat for it.
 fn note_seat(seats: &mut Vec<usize>, k: usize, at: usize)
@@ -20,7 +22,75 @@ fn note_seat(seats: &mut Vec<usize>, k: usize, at: usize)
     }
 }
 
+// Whether the slot at a place has this name.
+#[inline(always)]
+fn is_named(slots: &[Slot], at: usize, name: &Name) -> bool
+    requires { Rise (map slot_name slots.now) }
+    ensures within { IsTrue result → at < length slots.now }
+    ensures place { IsTrue result → place_of (board_of slots.now) name.now ≡ Some at }
+{
+    at < slots.len() && slots[at].name == *name
+}
+
+// Enters the raw number of a value, if it has one, whose name stands at this place.
+#[inline(always)]
+fn enter_slot(slots: &mut [Slot], at: usize, value: &Value)
+    requires { at < length slots.old }
+    ensures names { map slot_name slots.new ≡ map slot_name slots.old }
+    ensures memory { place_of (board_of slots.old) value.now.name ≡ Some at → IsRaw value.now
+        → memory_of (board_of slots.new) ≡ Spec.entered (memory_of (board_of slots.old)) value.now }
+{
+    if is_raw(value) {
+        slots[at].enter(value.raw);
+    }
+}
+
+// Enters the raw numbers of values, in their order, as long as the slots at these places have their names, notes the places,
+// and tells how many values those are.
+#[inline(always)]
+fn enter_near(
+    slots: &mut [Slot],
+    values: &[Value],
+    places: &[u32],
+    seats: &mut [usize],
+) -> usize
+    requires places { length values.now ≤ length places.now }
+    requires seats { length values.now ≤ length seats.old }
+    requires rise { Rise (map slot_name slots.old) }
+    ensures few { result ≤ length values.now }
+    ensures names { map slot_name slots.new ≡ map slot_name slots.old }
+    ensures seats { AreSeated (board_of slots.old) values.now result seats.new }
+    ensures memory { All IsRaw values.now → memory_of (board_of slots.new) ≡ Spec.all_entered (memory_of (board_of slots.old)) (take result values.now) }
+{
+    for k in 0..values.len() {
+        let value = &values[k];
+        let at = places[k] as usize;
+        if !is_named(slots, at, &value.name) {
+            return k;
+        }
+        enter_slot(slots, at, value);
+        seats[k] = at;
+    }
+    values.len()
+}
+
 impl Board {
+    // Enters the raw numbers of the first values, as long as the guesses of their places are right, notes those places, and tells
+    // how many values they are.
+    #[inline(always)]
+    fn enter_guessed(&mut self, values: &[Value], first: usize, seats: &mut Vec<usize>) -> usize
+        ensures few { result ≤ length values.now }
+        ensures names { self.new.names ≡ self.old.names }
+        ensures seats { AreSeated self.old values.now result seats.new.items }
+        ensures memory { All IsRaw values.now → memory_of self.new ≡ Spec.all_entered (memory_of self.old) (take result values.now) }
+    {
+        let places = self.guesses.places(first, values.len());
+        if places.len() < values.len() || seats.len() < values.len() {
+            return 0;
+        }
+        enter_near(&mut self.slots, values, places, seats)
+    }
+
     // Enters the raw number of a value, whose place is looked for where a guess says, and tells the place.
     #[inline(always)]
     fn enter(&mut self, value: &Value, near: usize) -> usize
@@ -45,7 +115,8 @@ impl Board {
         ensures memory { All (λ v. HasSlot self.old v.name) values.now → All IsRaw values.now
             → memory_of self.new ≡ Spec.all_entered (memory_of self.old) values.now }
     {
-        for k in 0..values.len() {
+        let done = self.enter_guessed(values, first, seats);
+        for k in done..values.len() {
             let at = self.enter(&values[k], first.saturating_add(k));
             note_seat(seats, k, at);
         }

@@ -13,11 +13,13 @@ ghost use Rattle.mib_model.specs.Fixed.{most_values};
 ghost use Rattle.mib_model.specs.Kept.{all_entered};
 ghost use Rattle.mib_model.specs.Tails.{Plain};
 ghost use Rattle.mib_model.specs.Texts.{ended_text, head_text, told_text, value_text};
+ghost use Rattle.param_plan.specs.Plain.{AreMarksOf};
+ghost use Rattle.param_plan.specs.Slices.{ParamSlice};
 ghost use Rattle.record_text.specs.TailViews.{tail_as};
 ghost use Rattle.record_text.specs.declared.lines.TheConstants.{LINES_ROOM, LINE_MOST, HEAD_ROOM, VALUE_ROOM, NOTE_ROOM};
 
 use crate::board::Board;
-use crate::check::calibrated;
+use crate::value::is_raw;
 use mib_model::{Cal, Change, Ended, Found, Header, Text, Value};
 use param_plan::{Param, Params};
 use record_text::{
@@ -85,19 +87,22 @@ impl Board {
         if !plan.valid(self) {
             return (Tail::Invalid, None);
         }
-        let given = calibrated(plan, value, self);
+        if !is_raw(value) {
+            return (Tail::Plain, None);
+        }
+        let given = plan.calibrate(value.raw, self);
         let change = self.check(at, plan, value, given);
         (tail_for(plan.decimals(), given), change)
     }
 
-    // Whether of a value of the name at a place the raw number alone is shown.
+    // Whether of a value of the name at a place the raw number alone is shown, by the marks of plans.
     #[inline(always)]
-    fn is_shown_raw(&self, params: &Params, seat: usize, value: &Value) -> bool
-        ensures { IsTrue result → (db : Database) → IsParamsOf db params.now → self.now.names ≡ plan_names params.now
-            → place_of self.now value.now.name ≡ Some seat
+    fn is_shown_raw(&self, plain: &[bool], seat: usize, value: &Value) -> bool
+        ensures { IsTrue result → (db : Database) (params : List ParamSlice) → AreMarksOf params plain.now → IsParamsOf db params
+            → self.now.names ≡ plan_names params → place_of self.now value.now.name ≡ Some seat
             → Spec.told value.now Plain (memory_of self.now, None) ≡ Spec.finished db (memory_of self.now) value.now }
     {
-        params.is_plain(seat)
+        seat < plain.len() && plain[seat]
     }
 
     // Finishes a value by the plan of its name, which is at this place.
@@ -124,14 +129,17 @@ impl Board {
 
     // Finishes a value, whose place is this, and appends its line and that of what its check tells.
     #[tactic(auto, unfolding(mib_model::specs::Texts::value_text))]
+    #[inline(always)]
     fn finish_value(
         &mut self,
         params: &Params,
+        plain: &[bool],
         seat: usize,
         value: &Value,
         packet: &[u8],
         out: &mut Lines,
     )
+        requires marks { AreMarksOf params.now plain.now }
         requires inside { is_inside packet.now value.now.at value.now.shape.width ≡ true }
         requires room { length out.old + VALUE_ROOM + LINE_MOST ≤ LINES_ROOM }
         ensures names { self.new.names ≡ self.old.names }
@@ -141,7 +149,7 @@ impl Board {
         ensures room { length out.new ≤ length out.old + (VALUE_ROOM + NOTE_ROOM) }
     {
         begin_value(value, packet, out);
-        if self.is_shown_raw(params, seat, value) {
+        if self.is_shown_raw(plain, seat, value) {
             end_plain_value(out);
             return;
         }
@@ -158,6 +166,15 @@ impl Board {
         if k < seats.len() {
             return seats[k];
         }
+        self.seat_past(value)
+    }
+
+    // The place of a value for which there is no seat.
+    #[cold]
+    #[inline(never)]
+    fn seat_past(&self, value: &Value) -> usize
+        ensures { HasSlot self.now value.now.name → place_of self.now value.now.name ≡ Some result }
+    {
         match self.place(&value.name) {
             Some(at) => at,
             None => usize::MAX,
@@ -181,10 +198,11 @@ impl Board {
             → AreFinished db packet.now values.now (memory_of self.old) (memory_of self.new) out.old out.new }
         ensures room { length out.new ≤ length out.old + most_values * (VALUE_ROOM + NOTE_ROOM) }
     {
+        let plain = params.plain();
         for k in 0..values.len() {
             let value = &values[k];
             let seat = self.seat_of(seats, k, value);
-            self.finish_value(params, seat, value, packet, out);
+            self.finish_value(params, plain, seat, value, packet, out);
         }
     }
 

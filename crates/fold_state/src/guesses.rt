@@ -1,6 +1,8 @@
 // Where the names of values are looked for first.
+ghost use Rattle.std.specs.Prelude.{◌≤◌, ◌+◌};
+
 use crate::slot::Slot;
-use mib_model::Name;
+use mib_model::{NAME_SIZE, Name};
 use std::alloc::{AllocError, Global};
 
 /// The guesses by the octets of a name.
@@ -24,13 +26,31 @@ pub struct Guesses {
     named: Vec<u32>,
 }
 
-// A number made of the octets of a name.
-fn mixed(name: &Name) -> u32 {
-    let mut mixed = 0_u32;
-    for octet in name.bytes() {
-        mixed = mixed.wrapping_mul(31).wrapping_add(u32::from(*octet));
-    }
-    mixed.wrapping_mul(2_654_435_761) / 65_536
+// The eight octets of a name's room from a place on, as one number.
+#[inline(always)]
+fn word(room: &[u8; NAME_SIZE], at: usize) -> u64
+    requires { at + 8 ≤ 32 }
+{
+    u64::from_le_bytes([
+        room[at],
+        room[at + 1],
+        room[at + 2],
+        room[at + 3],
+        room[at + 4],
+        room[at + 5],
+        room[at + 6],
+        room[at + 7],
+    ])
+}
+
+// A number of 16 bits made of the octets of a name.
+fn mixed(name: &Name) -> usize {
+    let room = name.room();
+    let front = word(room, 0).wrapping_mul(0x9E37_79B9_7F4A_7C15);
+    let behind = word(room, 8).wrapping_mul(0xC2B2_AE3D_27D4_EB4F);
+    let third = word(room, 16).wrapping_mul(0x1656_67B1_9E37_79F9);
+    let last = word(room, 24).wrapping_mul(0xFF51_AFD7_ED55_8CCD);
+    ((front ^ behind ^ third ^ last) >> 48) as usize
 }
 
 impl Guesses {
@@ -65,7 +85,7 @@ impl Guesses {
 
     // Notes the place of a name.
     fn note_name(&mut self, name: &Name, at: usize) {
-        let key = mixed(name) as usize;
+        let key = mixed(name);
         if key < self.named.len() {
             self.named[key] = u32::try_from(at).unwrap_or(0);
         }
@@ -73,7 +93,7 @@ impl Guesses {
 
     /// The guess for a name, and a wrong one where there is none.
     pub fn named(&self, name: &Name) -> usize {
-        match self.named.get(mixed(name) as usize) {
+        match self.named.get(mixed(name)) {
             Some(place) => *place as usize,
             None => usize::MAX,
         }

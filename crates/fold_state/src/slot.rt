@@ -1,10 +1,11 @@
 // What is kept of a parameter.
-ghost use Rattle.std.specs.Prelude.{◌≡◌, ◌≤ℤ◌, Some, option_map};
+ghost use Rattle.std.specs.Prelude.{◌≡◌, ◌≤ℤ◌, Some, option_map, IsTrue};
 ghost use Rattle.std.specs.Option.{option_eq};
 ghost use Rattle.std.specs.Ordering.{int_eq};
 ghost use Rattle.check_plan.specs.Samples.{count_of, sample_of};
 ghost use Rattle.mib_model.specs.Alarms.{alarm};
 ghost use Rattle.mib_model.specs.Finish.{previous_after};
+ghost use Rattle.mib_model.specs.Kept.{nothing_kept};
 ghost use Rattle.mib_model.specs.WholeNumbers.{least_raw, greatest_raw};
 ghost use Rattle.fold_state.specs.Boards.{kept_as, stepped, turned_back, vacant};
 
@@ -47,6 +48,16 @@ impl Slot {
     /// A number made of its first octets and of its last: who asks for it early has the slot at hand later.
     pub fn touch(&self) -> usize {
         usize::from(self.latest == 0) ^ usize::from(self.previous.count < 0)
+    }
+
+    /// Whether it keeps nothing.
+    pub fn is_vacant(&self) -> bool
+        ensures { IsTrue result → kept_as self.now ≡ nothing_kept }
+    {
+        !self.has_latest
+            && !self.has_previous
+            && self.alarm.run() == 0
+            && self.alarm.spoken().is_none()
     }
 
     /// Keeps what another slot keeps.

@@ -1,6 +1,7 @@
 // The numbers of values, and what is checked of them.
 ghost use Rattle.std.specs.Prelude.{◌≡◌, ◌≤ℤ◌, ◌&&◌, int_le, option_map};
 ghost use Rattle.check_plan.specs.Samples.{sample_of};
+ghost use Rattle.fold_state.specs.Premises.{IsRaw};
 ghost use Rattle.mib_model.specs.CalibrationViews.{calibrated_as};
 ghost use Rattle.mib_model.specs.Counts as Counts;
 ghost use Rattle.mib_model.specs.Finish as Spec;
@@ -37,7 +38,8 @@ fn is_raw_number(number: i128) -> bool
 
 /// Whether a value has a number, and that one is a raw number.
 pub fn is_raw(value: &Value) -> bool
-    ensures { result ≡ (has_number value.now.shape.sort && (int_le least_raw value.now.raw && int_le value.now.raw greatest_raw)) }
+    ensures value { result ≡ (has_number value.now.shape.sort && (int_le least_raw value.now.raw && int_le value.now.raw greatest_raw)) }
+    ensures number { IsRaw value.now → result ≡ has_number value.now.shape.sort }
 {
     has_number(value.shape.sort()) && is_raw_number(value.raw)
 }

@@ -1,5 +1,5 @@
 -- Parameters of whose values the raw number alone is shown. [This profile.]
-use Rattle.std.specs.Prelude.{ℕ, Bool, false, not, ◌&&◌, ◌==◌, List, length, map, get_or}
+use Rattle.std.specs.Prelude.{◌≡◌, ◌<◌, ℕ, Bool, false, not, ◌&&◌, ◌==◌, List, length, map, get_or}
 use Rattle.std.specs.Arc.{arc_value}
 use Rattle.std.specs.Option.{is_some}
 use Rattle.std.specs.declared.sync.Arc.{Arc}
@@ -22,3 +22,7 @@ plain_behind plan = is_plain (arc_value plan)
 -- whether there is a plan at a place, and it is plain
 abbrev pub plain_at : List ParamSlice → ℕ → Bool
 plain_at slices at = get_or (map is_plain slices) at false
+
+-- as far as there are marks for places, they say whether the plans there are plain
+abbrev pub AreMarksOf : List ParamSlice → List Bool → Type 0
+AreMarksOf slices marks = (at : ℕ) → at < length marks → get_or marks at false ≡ plain_at slices at

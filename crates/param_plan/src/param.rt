@@ -124,6 +124,16 @@ impl Param {
         checks ^ curve
     }
 
+    /// A number made of the rows: who asks for it early has them at hand when they are compared.
+    pub fn touch_rows(&self) -> usize {
+        let rows = &self.rows;
+        let limit = match rows.ocps.first() {
+            Some(limit) => usize::from(limit.pos == 0),
+            None => 0,
+        };
+        limit ^ usize::from(rows.pcf.ptc == 0) ^ usize::from(rows.ocf.is_some())
+    }
+
     /// The rows compiled.
     pub fn rows(&self) -> &ParamRows
         ensures { slice_of result.now ≡ self.now }

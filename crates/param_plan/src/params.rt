@@ -4,7 +4,7 @@ ghost use Rattle.std.specs.List.{find};
 ghost use Rattle.std.specs.Option.{option_copied};
 ghost use Rattle.std.specs.Str.{bytes_eq};
 ghost use Rattle.param_plan.specs.Names.{Ascend};
-ghost use Rattle.param_plan.specs.Plain.{plain_at, plain_behind};
+ghost use Rattle.param_plan.specs.Plain.{AreMarksOf, plain_at, plain_behind};
 
 use crate::param::Param;
 use mib_model::Name;
@@ -84,6 +84,16 @@ impl Params {
         match &self.plain {
             Some(plain) => at < plain.len() && plain[at],
             None => self.is_plain_plan(at),
+        }
+    }
+
+    /// Whether the plan at each place is plain, and nothing where there was no memory to note it.
+    pub fn plain(&self) -> &[bool]
+        ensures { AreMarksOf self.now result.now }
+    {
+        match &self.plain {
+            Some(plain) => plain,
+            None => &[],
         }
     }
 

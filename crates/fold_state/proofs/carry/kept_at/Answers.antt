@@ -1,7 +1,7 @@
 use Rattle.std.proofs.Common.{◌∙◌, sym, ap}
 use Rattle.param_plan.specs.Slices.{ParamSlice}
 use Rattle.fold_state.specs.Boards.{kept_as, memory_of}
-use Rattle.fold_state.proofs.CarryFacts.{carried-same, carry-other, carry-same}
+use Rattle.fold_state.proofs.CarryFacts.{carried-same, carry-nothing, carry-other, carry-same}
 use Rattle.fold_state.proofs.FinishFacts.{plan-behind, plan-found, slice-found}
 use Rattle.fold_state.proofs.carry.kept_at.Goals as goal
 
@@ -22,3 +22,9 @@ returns c = λ before after plans made was at.
     let found = plan-found c.args.from.now c.args.old.now name c.args.at s made at is in
     let carried = sym (carried-same before after name s c.args.plan.now (slice-found before c.args.from.now name s plans found) was) ∙ (sym c.stays.ensures ∙ c.if-not-stays.false) in
     c.held.ensures ∙ carry-same (memory_of c.args.old.now) before after name (kept_as c.slot.result.now) c.rows.result.now.ocf carried (c.slot.ensures name at) (ap (λ (t : ParamSlice). t.ocf) c.rows.ensures ∙ was.ocf)
+
+pub returns-then-is_vacant : goal.returns-then-is_vacant
+returns-then-is_vacant c = λ before after plans made was at.
+    let name = c.args.plan.now.pcf.name in
+    let none = c.is_vacant.ensures c.if-is_vacant.true in
+    none ∙ sym (carry-nothing (memory_of c.args.old.now) before after name (sym (c.slot-kept.ensures name at) ∙ none))

@@ -2,14 +2,16 @@ use Rattle.std.proofs.Common.{◌≡◌, ◌∙◌, ◌<◌, ◌≤◌, List, �
 use Rattle.std.proofs.lemmas.List.{length-map}
 use Rattle.std.specs.Arc.{arc_value}
 use Rattle.param_plan.specs.Slices.{ParamSlice}
-use Rattle.fold_state.specs.Boards.{memory_of, plan_names}
+use Rattle.fold_state.specs.Boards.{Slots, memory_of, place_of, plan_names}
+use Rattle.mib_model.specs.Carry.{carry as carried}
+use Rattle.mib_model.specs.Kept.{keeping}
 use Rattle.fold_state.proofs.CarryFacts.{carried-all, carried-more, plan-placed}
 use Rattle.fold_state.proofs.FinishFacts.{plan-behind, plan-found, slice-found}
 use Rattle.fold_state.proofs.board.Board.carry.Goals as goal
 
 pub loop-at-preserved : goal.loop-at-preserved
 loop-at-preserved c = record {
-  names = c.carry_at.ensures.names ∙ c.loop-at.invariant.names;
+  names = c.carry_at.ensures.names ∙ (ap (λ (b : Slots). b.names) c.read_on.ensures ∙ c.loop-at.invariant.names);
   memory = λ before after one two.
       let s = c.deref.result.now in
       let to = c.args.to.now in
@@ -20,8 +22,12 @@ loop-at-preserved c = record {
       let within : c.loop-at.at < length to = omega (arith, c.loop-at-test.true, many, ap (λ (slices : List ParamSlice). length slices) c.plans-plans.ensures.plans) in
       let at = plan-placed to c.loop-at.self.names c.loop-at.at s c.plans-plans.ensures.ascend made within is in
       let was = slice-found after to s.pcf.name s two (plan-found to c.loop-at.self s.pcf.name c.loop-at.at s made at is) in
-      carried-more c.loop-at.self c.carry_at.new.self c.args.old before after c.loop-at.at s.pcf.name c.carry_at.ensures.names at
-      (c.carry_at.ensures.memory before after one c.requires.old was at) (c.loop-at.invariant.memory before after one two);
+      let read = c.read_on.ensures in
+      let here = ap (λ (b : Slots). place_of b s.pcf.name) read ∙ at in
+      let names = c.carry_at.ensures.names ∙ ap (λ (b : Slots). b.names) read in
+      let kept = c.carry_at.ensures.memory before after one c.requires.old was here ∙
+      ap (λ (b : Slots). keeping (memory_of b) s.pcf.name (carried (memory_of c.args.old) before after s.pcf.name)) read in
+      carried-more c.loop-at.self c.carry_at.new.self c.args.old before after c.loop-at.at s.pcf.name names at kept (c.loop-at.invariant.memory before after one two);
 }
 
 pub returns-clause-memory : goal.returns-clause-memory

@@ -1,19 +1,28 @@
-use Rattle.std.proofs.Common.{◌∙◌, ◌+◌, inl, inr, length, sym, subst, ap}
+use Rattle.std.proofs.Common.{◌≡◌, ◌∙◌, ◌+◌, ℕ, List, inl, inr, length, take, get_or, refl, sym, subst, ap, arith, All}
 use Rattle.std.proofs.lemmas.Bool.{cases_lt}
+use Rattle.std.proofs.lemmas.List.{take_all}
 use Rattle.mib_model.specs.declared.packet.Value.{Value}
-use Rattle.mib_model.specs.Kept.{Memory, entered}
+use Rattle.mib_model.specs.Kept.{Memory, all_entered, entered}
 use Rattle.fold_state.specs.Boards.{memory_of}
 use Rattle.fold_state.specs.Premises.{AreSeated, HasSlot, IsRaw}
 use Rattle.fold_state.proofs.FinishFacts.{each-item, slot-kept}
-use Rattle.fold_state.proofs.SeatFacts.{entered-more, seated-more, seated-past, place-kept}
+use Rattle.fold_state.proofs.SeatFacts.{entered-more, seated-kept, seated-more, seated-past, place-kept, slots-kept}
 use Rattle.fold_state.proofs.board.Board.enter_all.Goals as goal
+
+pub loop-k-init : goal.loop-k-init
+loop-k-init c = record {
+  names = refl;
+  seats = λ slots. seated-kept c.args.self.now c.enter_guessed-done.new.self c.args.values.now c.enter_guessed-done.result c.enter_guessed-done.new.seats.items c.enter_guessed-done.ensures.names
+      c.enter_guessed-done.ensures.seats;
+  memory = λ memory same slots numbers. same;
+}
 
 pub loop-k-preserved : goal.loop-k-preserved
 loop-k-preserved c =
     let i = c.loop-k.k in
     let values = c.args.values.now in
     let v = c.index-values-k.result in
-    let board = c.args.self.now in
+    let board = c.enter_guessed-done.new.self in
     let below = c.loop-k-test.true in
     let is = c.index-values-k.is in
     let same = c.loop-k.invariant.names in
@@ -26,8 +35,27 @@ loop-k-preserved c =
             | inl within ↦ subst (AreSeated board values (i + 1)) (sym (c.note_seat.ensures.noted within)) (seated-more board values v i c.enter-at.result c.loop-k.seats.items below is within here (c.loop-k.invariant.seats slots))
             | inr full ↦ subst (AreSeated board values (i + 1)) (sym (c.note_seat.ensures.past full)) (seated-past board values i c.loop-k.seats.items full (c.loop-k.invariant.seats slots))
           ];
-      memory = λ slots numbers.
+      memory = λ memory before slots numbers.
           let raw = each-item IsRaw values i v below is numbers in
           let slot = slot-kept board c.loop-k.self v.name same (each-item (λ (v : Value). HasSlot board v.name) values i v below is slots) in
-          c.enter-at.ensures.memory slot raw ∙ (ap (λ (m : Memory). entered m v) (c.loop-k.invariant.memory slots numbers) ∙ sym (entered-more (memory_of board) values v i below is));
+          c.enter-at.ensures.memory slot raw ∙ (ap (λ (m : Memory). entered m v) (c.loop-k.invariant.memory memory before slots numbers) ∙ sym (entered-more memory values v i below is));
     }
+
+pub returns-clause-names : goal.returns-clause-names
+returns-clause-names c = c.loop-k.invariant.names ∙ c.enter_guessed-done.ensures.names
+
+pub returns-clause-seats : goal.returns-clause-seats
+returns-clause-seats c = λ slots.
+    let values = c.args.values.now in
+    let board = c.enter_guessed-done.new.self in
+    let same = c.enter_guessed-done.ensures.names in
+    let seated = c.loop-k.invariant.seats (slots-kept c.args.self.now board values same slots) in
+    seated-kept board c.args.self.now values (length values) c.loop-k.seats.items (sym same) (λ k v below within. seated k v (omega (arith, below, c.loop-k-test.false)) within)
+
+pub returns-clause-memory : goal.returns-clause-memory
+returns-clause-memory c = λ slots numbers.
+    let values = c.args.values.now in
+    let memory = memory_of c.args.self.now in
+    let board = c.enter_guessed-done.new.self in
+    let entered = c.loop-k.invariant.memory memory (c.enter_guessed-done.ensures.memory numbers) (slots-kept c.args.self.now board values c.enter_guessed-done.ensures.names slots) numbers in
+    entered ∙ ap (λ (vs : List Value). all_entered memory vs) (take_all c.loop-k.k values c.loop-k-test.false)
