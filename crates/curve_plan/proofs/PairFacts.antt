@@ -1,13 +1,19 @@
 -- The two points that a raw number is taken by, of points that climb.
-use Rattle.std.proofs.Common.{◌≡◌, ℕ, zero, suc, ◌+◌, ◌-◌, ◌<◌, ◌≤◌, min, ℤ, ◌<ℤ◌, Bool, true, false, List, [], ◌∷◌, ◌++◌, Option, Some, None, IfSome, filter, length, get_or, int_le, refl, ap, add-one, ◌∙◌, arith}
+use Rattle.std.proofs.Common.{◌≡◌, ℕ, zero, suc, ◌+◌, ◌-◌, ◌<◌, ◌≤◌, min, ℤ, pos, ◌+ℤ◌, ◌<ℤ◌, ◌≤ℤ◌, sym, Bool, true, false, List, [], ◌∷◌, ◌++◌, Option, Some, None, IfSome, nat_lt, filter, length, get_or, int_le, refl, ap, add-one, ◌∙◌, arith}
 use Rattle.std.specs.List.{AllByRecursion, last_or}
 use Rattle.std.specs.List.Sorted.{IsPartitionPoint, IsPartitionedBy}
 use Rattle.dec_num.specs.declared.curve.Point.{Point}
 use Rattle.mib_model.specs.Points.{Knot, neighbours, pair_for}
 use Rattle.curve_plan.specs.declared.slope.Slope.{Slope}
-use Rattle.curve_plan.specs.Slopes.{IsSlope}
+use Rattle.mib_model.specs.Calibrated.{Counted}
+use Rattle.mib_model.specs.Points.{on_pair}
+use Rattle.curve_plan.specs.Slopes.{IsLine, IsOnLine, IsSlope}
+use Rattle.curve_plan.proofs.SlopeFacts.{on-line}
+use Rattle.std.proofs.lemmas.Bool.Decides.{nat_tests}
+use Rattle.std.proofs.lemmas.Int.{ints}
+use Rattle.std.proofs.lemmas.List.{get_or_default}
 use Rattle.curve_plan.specs.Knots.{knot_at, knots_at, Climbs, AreSlopes}
-use Rattle.curve_plan.proofs.NumberTests.{gt-test, le-fails, le-holds, le-past, lt-past}
+use Rattle.curve_plan.proofs.NumberTests.{gt-test, le-fails, le-holds, le-past, le-test, lt-past}
 
 -- how many pass a test that the first ones alone pass
 pub count-parted : {X : Type 0} (p : X → Bool) (xs : List X) (i : ℕ) → i ≤ length xs → IsPartitionPoint (λ y. p y ≡ true) (λ y. p y ≡ false) xs i → i ≡ length (filter p xs)
@@ -161,3 +167,73 @@ slopes-before ps slopes more slope at d all count below is added =
     rw added (slopes-more ps slopes slope d all (omega (arith, count, below)) (rw (before, place) at is))
 
 pub ruleset sloped = (climbs-before, slopes-before, no-slopes)
+
+-- there are fewer slopes than points
+slopes-fewer : (ps : List Point) (slopes : List (Option Slope)) (k : ℕ) → AreSlopes (knots_at ps) slopes → k < length slopes → suc k < length ps
+slopes-fewer ps [] k all below = absurd (omega (arith, below))
+slopes-fewer [] (s ∷ slopes) k all below = absurd all
+slopes-fewer (p ∷ []) (s ∷ slopes) k all below = absurd all
+slopes-fewer (p ∷ q ∷ more) (s ∷ slopes) zero all below = omega arith
+slopes-fewer (p ∷ q ∷ more) (s ∷ slopes) (suc k) all below =
+    let others = slopes-fewer (q ∷ more) slopes k all.1 (omega (arith, below)) in omega (arith, others)
+
+-- the slope at a place is that of the line there
+slope-there : (ps : List Point) (slopes : List (Option Slope)) (k : ℕ) (s : Slope) (d : Point) → AreSlopes (knots_at ps) slopes → k < length slopes → Some s ≡ get_or slopes k None
+    → IsSlope (knot_at (get_or ps k d)) (knot_at (get_or ps (suc k) d)) s
+slope-there ps slopes k s d all below is = rw (sym is) at (slope-at ps slopes k d all (slopes-fewer ps slopes k all below))
+
+-- the points on both sides of a raw number are those that it is taken by
+module _ (raw : ℤ) (ps : List Point) (up : Climbs (knots_at ps)) (k : ℕ) (within : suc k < length ps)
+    (first : (d : Point) → (get_or ps k d).x ≤ℤ raw) (second : (d : Point) → raw <ℤ (get_or ps (suc k) d).x) where
+  parted-here : IsPartitionPoint (λ y. is_low raw y ≡ true) (λ y. is_low raw y ≡ false) ps (suc k)
+  parted-here = (below, above) where
+    below : (i : ℕ) (d : Point) → 0 ≤ i → i < suc k → is_low raw (get_or ps i d) ≡ true
+    below i d a b = parted-at raw ps up i k d (omega (arith, b)) (omega (arith, within)) (le-test (get_or ps k d).x raw (first d))
+
+    above : (i : ℕ) (d : Point) → suc k ≤ i → i < length ps → is_low raw (get_or ps i d) ≡ false
+    above i d a b = go (is_low raw (get_or ps i d)) refl where
+      go : (t : Bool) → is_low raw (get_or ps i d) ≡ t → is_low raw (get_or ps i d) ≡ false
+      go false e = e
+      go true e =
+          let low = le-holds (get_or ps (suc k) d).x raw (parted-at raw ps up (suc k) i d a b e) in
+          let high = second d in
+          absurd (omega (arith, ints, low, high))
+
+  pub pair-here : (d : Point) → pair_for raw (neighbours (knots_at ps)) ≡ Some (pair_from raw ps k d)
+  pair-here d =
+      let counted : suc k ≡ length (filter (is_low raw) ps) = count-parted (is_low raw) ps (suc k) (omega (arith, within)) parted-here in
+      let long : length ps - 2 + 2 ≡ length ps = omega (arith, within) in
+      let place : k ≡ min (length (filter (is_low raw) ps) - 1) (length ps - 2) = omega (arith, within, counted) in
+      pair-in raw ps d up (length ps - 2) k long place
+
+-- what a curve makes of a raw number on a line before its end
+pub on-slope : (ps : List Point) (slopes : List (Option Slope)) (k inter : ℕ) (s : Slope) (raw count : ℤ) → Climbs (knots_at ps) → AreSlopes (knots_at ps) slopes → k < length slopes
+    → Some s ≡ get_or slopes k None → IsOnLine s raw count → raw <ℤ (s.x +ℤ pos s.run) → Counted count ≡ on_pair inter raw (pair_for raw (neighbours (knots_at ps)))
+on-slope [] slopes k inter s raw count up all below is on before = absurd (omega (arith, slopes-fewer [] slopes k all below))
+on-slope (p ∷ ps) slopes k inter s raw count up all below is on before =
+    let slope : (d : Point) → IsSlope (knot_at (get_or (p ∷ ps) k d)) (knot_at (get_or (p ∷ ps) (suc k) d)) s = λ d. slope-there (p ∷ ps) slopes k s d all below is in
+    let first : (d : Point) → (get_or (p ∷ ps) k d).x ≤ℤ raw = λ d. let it = slope d in omega (arith, ints, it.x, on.low) in
+    let second : (d : Point) → raw <ℤ (get_or (p ∷ ps) (suc k) d).x = λ d. let it = slope d in omega (arith, ints, it.x, it.run, before) in
+    on-line (knot_at (get_or (p ∷ ps) k p)) (knot_at (get_or (p ∷ ps) (suc k) p)) inter raw count s (slope p) on ∙
+    ap (on_pair inter raw) (sym (pair-here raw (p ∷ ps) up k (slopes-fewer (p ∷ ps) slopes k all below) first second p))
+
+-- a slope at a place is that of a line whose numbers fit words
+pub slope-line : (ps : List Point) (slopes : List (Option Slope)) (k : ℕ) (s : Slope) → AreSlopes (knots_at ps) slopes → k < length slopes → Some s ≡ get_or slopes k None → IsLine s
+slope-line [] slopes k s all below is = absurd (omega (arith, slopes-fewer [] slopes k all below))
+slope-line (p ∷ ps) slopes k s all below is = (slope-there (p ∷ ps) slopes k s p all below is).line
+
+-- the slope that is read at a place stands there
+pub slot-read : (slopes read : List (Option Slope)) (k : ℕ) (o : Option Slope) (s : Slope) → read ≡ slopes → true ≡ nat_lt k (length read) → o ≡ get_or read k o → o ≡ Some s
+    → (k < length slopes) × (Some s ≡ get_or slopes k None)
+slot-read slopes read k o s same inside stands is =
+    let here : k < length slopes = rw same at (nat_lt-holds k (length read) inside) in
+    let there : o ≡ get_or slopes k o = rw same at stands in
+    (here, sym is ∙ (there ∙ get_or_default slopes k o None here))
+  where
+    nat_lt-holds : (a b : ℕ) → true ≡ nat_lt a b → a < b
+    nat_lt-holds a b h = grind (arith, nat_tests, h)
+
+-- of a value where there is one, what follows from what is known
+pub known-more : {X : Type 0} (P Q : X → Type 0) (o : Option X) → ((x : X) → P x → Q x) → IfSome o P → IfSome o Q
+known-more P Q None more known = known
+known-more P Q (Some x) more known = more x known

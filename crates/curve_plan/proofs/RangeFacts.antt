@@ -110,6 +110,13 @@ module _ (raw : ℤ) where
     ]
   ]
 
+  -- the range at a place that holds a raw number is what is found
+  pub found-at-place : (xs : List Range) → AreSeparate xs → (k : ℕ) (x : Range) → k < length xs → x ≡ get_or xs k x → x.low ≤ℤ raw → raw ≤ℤ x.high → find (holds_raw raw) xs ≡ Some x
+  found-at-place xs apart k x here is low high =
+      let holds : holds_raw raw x ≡ true = both-true (int_le x.low raw) (int_le raw x.high) (le-test x.low raw low) (le-test raw x.high high) in
+      found-only (holds_raw raw) xs xs k x (IsPermutation-refl xs) here (sym is) holds
+      (λ j d b h. once xs apart j k d b here h (ap (holds_raw raw) (get_or_default xs k d x here ∙ sym is) ∙ holds))
+
   module _ (xs : List Range) (apart : AreSeparate xs) where
     -- none of ranges that begin above a raw number holds it
     pub halved-none : IsPartitionPoint (λ r. begins r ≡ true) (λ r. begins r ≡ false) xs 0 → find (holds_raw raw) xs ≡ None
@@ -124,10 +131,7 @@ module _ (raw : ℤ) where
 
       -- the last that begins at or below a raw number, where it ends at or above it
       pub halved-some : raw ≤ℤ x.high → find (holds_raw raw) xs ≡ Some x
-      halved-some up =
-          let holds : holds_raw raw x ≡ true = both-true (int_le x.low raw) (int_le raw x.high) low-here (le-test raw x.high up) in
-          found-only (holds_raw raw) xs xs k x (IsPermutation-refl xs) (omega (arith, next, within)) (sym is) holds
-          (λ j d b h. once xs apart j k d b (omega (arith, next, within)) h (ap (holds_raw raw) (get_or_default xs k d x (omega (arith, next, within)) ∙ sym is) ∙ holds))
+      halved-some up = found-at-place xs apart k x (omega (arith, next, within)) is (le-holds x.low raw low-here) up
 
       -- and none, where it ends below
       pub halved-past : x.high <ℤ raw → find (holds_raw raw) xs ≡ None

@@ -11,7 +11,7 @@ use Rattle.mib_model.specs.Counts.{half}
 use Rattle.mib_model.specs.Decimals.{with_sign}
 use Rattle.mib_model.specs.Points.{Knot, interpolated, on_pair, product_of}
 use Rattle.curve_plan.specs.declared.slope.Slope.{Slope}
-use Rattle.curve_plan.specs.Slopes.{climbed, rise_of, IsSlope}
+use Rattle.curve_plan.specs.Slopes.{climbed, rise_of, IsOnLine, IsSlope}
 use Rattle.dec_num.proofs.ScalingFacts.{nat_abs-neg}
 
 -- a climb by a quotient and its rest
@@ -69,32 +69,43 @@ narrow-result y false n one two = grind (arith, ints, nat_tests)
 narrow-result y true n one two = grind (arith, ints, nat_tests)
 
 -- the value on a line of which the slope is known
-pub interpolated-between : (p q : Knot) (s : Slope) (raw : ℤ) (numbers : ℕ) → IsSlope p q s → raw -ℤ p.x ≡ pos numbers → numbers ≤ s.run → s.run < 2 ^ 32
+interpolated-between : (p q : Knot) (s : Slope) (raw : ℤ) (numbers : ℕ) → IsSlope p q s → raw -ℤ p.x ≡ pos numbers → numbers ≤ s.run
     → Ok (p.y +ℤ with_sign s.falls (climbed numbers (rise_of s) s.run)) ≡ interpolated p q raw
 unfolding interpolated
-interpolated-between p q s raw numbers slope place inside few =
+interpolated-between p q s raw numbers slope place inside =
     let rise : ℕ = rise_of s in
     let climb : ℕ = climbed numbers rise s.run in
     let product : product_of p q raw ≡ with_sign s.falls (numbers * rise) = rw (place, slope.rise) (signed-product s.falls numbers rise) in
     let run : nat_abs (q.x -ℤ p.x) ≡ s.run = ap nat_abs slope.run in
-    let offset : half (product_of p q raw) (nat_abs (q.x -ℤ p.x)) ≡ with_sign s.falls climb = rw (product, run) (signed-half s.falls (numbers * rise) s.run slope.some) in
+    let offset : half (product_of p q raw) (nat_abs (q.x -ℤ p.x)) ≡ with_sign s.falls climb = rw (product, run) (signed-half s.falls (numbers * rise) s.run slope.line.some) in
     let small : numbers * rise ≤ 2 ^ 32 * 2 ^ 64 =
-    let fewer : numbers ≤ 2 ^ 32 = omega (arith, inside, few) in
+    let fewer : numbers ≤ 2 ^ 32 = omega (arith, inside, slope.line.short) in
     let one : numbers * rise ≤ 2 ^ 32 * rise = mul-le-mul_right rise fewer in
-    let less : rise ≤ 2 ^ 64 = omega (arith, slope.small) in
+    let less : rise ≤ 2 ^ 64 = omega (arith, slope.line.small) in
     let two : 2 ^ 32 * rise ≤ 2 ^ 32 * 2 ^ 64 = mul-le-mul_left (2 ^ 32) less in
     omega (arith, one, two) in
-    let near_rise : is_wide (q.y -ℤ p.y) ≡ false = rw slope.rise (grind (arith, nat_tests, signed-magnitude s.falls rise, slope.small)) in
+    let near_rise : is_wide (q.y -ℤ p.y) ≡ false = rw slope.rise (grind (arith, nat_tests, signed-magnitude s.falls rise, slope.line.small)) in
     let near_product : is_wide (product_of p q raw) ≡ false = rw product (grind (arith, nat_tests, signed-magnitude s.falls (numbers * rise), small)) in
     let near_value : is_wide_result (p.y +ℤ with_sign s.falls climb) ≡ false =
-    narrow-result p.y s.falls climb slope.near (omega (arith, slope.small, climbed-within numbers rise s.run inside)) in
+    narrow-result p.y s.falls climb slope.near (omega (arith, slope.line.small, climbed-within numbers rise s.run inside)) in
     rw (near_rise, near_product, offset, near_value) refl
 
 -- what two points make of a raw number between them
-pub on-between : (p q : Knot) (inter : ℕ) (raw v : ℤ) → p.x ≤ℤ raw → raw ≤ℤ q.x → Ok v ≡ interpolated p q raw → Counted v ≡ on_pair inter raw (Some (p, q))
+on-between : (p q : Knot) (inter : ℕ) (raw v : ℤ) → p.x ≤ℤ raw → raw ≤ℤ q.x → Ok v ≡ interpolated p q raw → Counted v ≡ on_pair inter raw (Some (p, q))
 on-between p q inter raw v low high is =
     let first : int_lt raw p.x ≡ false = grind (arith, ints) in
     let second : int_lt q.x raw ≡ false = grind (arith, ints) in
     rw (first, second) (ap calibrated is)
 
-pub ruleset between = (on-between)
+-- what two points make of a raw number on the line between them
+pub on-line : (p q : Knot) (inter : ℕ) (raw count : ℤ) (s : Slope) → IsSlope p q s → IsOnLine s raw count → Counted count ≡ on_pair inter raw (Some (p, q))
+on-line p q inter raw count s slope on =
+    let low : p.x ≤ℤ raw = omega (arith, ints, slope.x, on.low) in
+    let high : raw ≤ℤ q.x = omega (arith, ints, slope.x, slope.run, on.high) in
+    let same : raw -ℤ s.x ≡ raw -ℤ p.x = ap (λ (z : ℤ). raw -ℤ z) (sym slope.x) in
+    let place : raw -ℤ p.x ≡ pos (nat_abs (raw -ℤ p.x)) = grind (arith, ints, low) in
+    let inside : nat_abs (raw -ℤ p.x) ≤ s.run = grind (arith, ints, low, high, slope.run) in
+    let value : count ≡ p.y +ℤ with_sign s.falls (climbed (nat_abs (raw -ℤ p.x)) (rise_of s) s.run) = rw (sym same, slope.y) on.value in
+    on-between p q inter raw count low high (ap Ok value ∙ interpolated-between p q s raw (nat_abs (raw -ℤ p.x)) slope place inside)
+
+pub ruleset between = (on-line)

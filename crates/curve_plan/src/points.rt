@@ -8,8 +8,9 @@ ghost use Rattle.curve_plan.specs.Knots.{knot_at, knots_at, Climbs, AreApart, Ar
 ghost use Rattle.curve_plan.specs.Pairs.{pair_at};
 ghost use Rattle.curve_plan.specs.Slopes.{IsSlope};
 
+use crate::index::{Index, NEAR, near_number, nearest};
 use crate::pair::Pair;
-use crate::slope::{Slope, slope_of, value_between};
+use crate::slope::{Slope, slope_of};
 use dec_num::{Point, eng_of, interp, whole_number};
 use mib_model::{CafRow, Cal, CapRow, Eng};
 use std::alloc::{AllocError, Global};
@@ -19,6 +20,7 @@ use std::alloc::{AllocError, Global};
 pub struct PointCurve {
     points: Vec<Point>,
     slopes: Vec<Option<Slope>>,
+    index: Index,
     inter: u8,
 }
 
@@ -111,9 +113,16 @@ fn pair_of(points: &[Point], slopes: &[Option<Slope>], raw: i128) -> Option<Pair
     })
 }
 
+// The x of points, each as near as 64 bits come to it.
+fn starts_of(alloc: Global, points: &[Point]) -> Result<Vec<i64>, AllocError> {
+    let mut starts = Vec::new(alloc);
+    for point in points {
+        starts.push(nearest(point.x))?;
+    }
+    Ok(starts)
+}
+
 // What two points make of a raw number, step by step.
-#[cold]
-#[inline(never)]
 fn on_any_line(p: Point, q: Point, inter: u8, raw: i128) -> Cal<'static>
     requires order { p.x <ℤ q.x }
     requires low { least_raw ≤ℤ raw }
@@ -136,7 +145,7 @@ fn on_slope(pair: Pair, raw: i128) -> Option<Eng>
     requires sloped { IfSome pair.slope (IsSlope (knot_at pair.p) (knot_at pair.q)) }
     ensures { IfSome result (λ value. (inter : ℕ) → Counted value.count ≡ on_pair inter raw (Some (pair_at pair))) }
 {
-    value_between(pair.p, pair.q, pair.slope?, raw)
+    pair.slope?.value_at(near_number(raw)?)
 }
 
 // What two points make of a raw number.
@@ -175,15 +184,39 @@ impl PointCurve {
     {
         let points = sorted_points(alloc, caf, caps)?;
         let slopes = slopes_of(alloc, &points)?;
+        let index = Index::compile(alloc, &starts_of(alloc, &points)?)?;
         Ok(PointCurve {
             points,
             slopes,
+            index,
             inter: caf.inter,
         })
     }
 
-    /// What the curve makes of a raw number.
-    pub fn at(&self, raw: i128) -> Cal<'static>
+    // The value of a raw number on a line near where the index says.
+    #[inline(always)]
+    fn near(&self, raw: i128) -> Option<Eng>
+        requires climbs { Climbs (knots_at self.now.points.items) }
+        requires slopes { AreSlopes (knots_at self.now.points.items) self.now.slopes.items }
+        ensures { IfSome result (λ value. Counted value.count ≡ on_pair self.now.inter raw (pair_for raw (neighbours (knots_at self.now.points.items)))) }
+    {
+        let raw = near_number(raw)?;
+        let first = self.index.first(raw.cast_unsigned());
+        for step in 0..NEAR {
+            let Some(Some(slope)) = self.slopes.get(first.saturating_add(step)) else {
+                return None;
+            };
+            if let Some(value) = slope.value_before(raw) {
+                return Some(value);
+            }
+        }
+        None
+    }
+
+    // What the curve makes of a raw number whose line is searched for.
+    #[cold]
+    #[inline(never)]
+    fn searched(&self, raw: i128) -> Cal<'static>
         requires climbs { Climbs (knots_at self.now.points.items) }
         requires slopes { AreSlopes (knots_at self.now.points.items) self.now.slopes.items }
         requires low { least_raw ≤ℤ raw }
@@ -193,6 +226,21 @@ impl PointCurve {
         match pair_of(&self.points, &self.slopes, raw) {
             Some(pair) => on_line(pair, self.inter, raw),
             None => Cal::Outside,
+        }
+    }
+
+    /// What the curve makes of a raw number.
+    #[inline(always)]
+    pub fn at(&self, raw: i128) -> Cal<'static>
+        requires climbs { Climbs (knots_at self.now.points.items) }
+        requires slopes { AreSlopes (knots_at self.now.points.items) self.now.slopes.items }
+        requires low { least_raw ≤ℤ raw }
+        requires high { raw ≤ℤ greatest_raw }
+        ensures { calibrated_as result ≡ on_pair self.now.inter raw (pair_for raw (neighbours (knots_at self.now.points.items))) }
+    {
+        match self.near(raw) {
+            Some(value) => Cal::Value(value),
+            None => self.searched(raw),
         }
     }
 }

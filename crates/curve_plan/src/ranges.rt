@@ -1,10 +1,11 @@
 // Curves by status texts.
-ghost use Rattle.std.specs.Prelude.{◌≡◌, ◌&&◌, ℤ, true, int_le, filter_map, length, IfOk, IsTrue};
+ghost use Rattle.std.specs.Prelude.{◌≡◌, ◌&&◌, ℤ, true, int_le, filter_map, length, Some, IfOk, IfSome, IsTrue};
 ghost use Rattle.std.specs.List.{AllAdjacentBelow, find};
 ghost use Rattle.std.specs.Option.{option_copied};
 ghost use Rattle.mib_model.specs.CalibrationViews.{calibrated_as};
 ghost use Rattle.curve_plan.specs.Ranges.{range_of, holds_raw, text_of_range, precedes, AreSeparate};
 
+use crate::index::{Index, NEAR, lower_word, nearest};
 use dec_num::decimal_whole;
 use mib_model::{Cal, Text, TxpRow};
 use std::alloc::{AllocError, Global};
@@ -36,6 +37,7 @@ impl Range {
 pub struct RangeCurve {
     ranges: Vec<Range>,
     separate: bool,
+    index: Index,
 }
 
 // The range of a row, where its bounds are whole numbers.
@@ -93,6 +95,30 @@ fn halved(ranges: &[Range], raw: i128) -> Option<&Range>
     if raw <= range.high { Some(range) } else { None }
 }
 
+// The only range that holds a raw number, where it is one of the next from a place on.
+#[inline(always)]
+fn next_holding(ranges: &[Range], first: usize, raw: i128) -> Option<&Range>
+    requires { AreSeparate ranges.now }
+    ensures { IfSome result (λ range. find (holds_raw raw) ranges.now ≡ Some range.now) }
+{
+    for step in 0..NEAR {
+        let range = ranges.get(first.saturating_add(step))?;
+        if raw <= range.high {
+            return if range.low <= raw { Some(range) } else { None };
+        }
+    }
+    None
+}
+
+// The numbers at which ranges begin, each as near as 64 bits come to it.
+fn starts_of(alloc: Global, ranges: &[Range]) -> Result<Vec<i64>, AllocError> {
+    let mut starts = Vec::new(alloc);
+    for range in ranges {
+        starts.push(nearest(range.low))?;
+    }
+    Ok(starts)
+}
+
 impl RangeCurve {
     /// A number made of a range in the middle.
     pub fn touch(&self) -> usize {
@@ -110,30 +136,67 @@ impl RangeCurve {
         let ranges = ranges_of(alloc, txps)?;
         let mut ascending = Vec::from_slice(alloc, &ranges)?;
         ascending.sort_by_key(|range| range.low)?;
+        let index = Index::compile(alloc, &starts_of(alloc, &ascending)?)?;
         if are_separate(&ascending) {
             Ok(RangeCurve {
                 ranges: ascending,
                 separate: true,
+                index,
             })
         } else {
             Ok(RangeCurve {
                 ranges,
                 separate: false,
+                index,
             })
         }
     }
 
+    // The range that holds a raw number, searched for among all.
+    #[cold]
+    #[inline(never)]
+    fn searched(&self, raw: i128) -> Option<&Range>
+        requires { self.now.separate ≡ true → AreSeparate self.now.ranges.items }
+        ensures { option_copied result ≡ find (holds_raw raw) self.now.ranges.items }
+    {
+        if self.separate {
+            halved(&self.ranges, raw)
+        } else {
+            scanned(&self.ranges, raw)
+        }
+    }
+
+    // The range that holds a raw number, where it lies near where the index says.
+    #[inline(always)]
+    fn near(&self, raw: i128) -> Option<&Range>
+        requires { self.now.separate ≡ true → AreSeparate self.now.ranges.items }
+        ensures { IfSome result (λ range. find (holds_raw raw) self.now.ranges.items ≡ Some range.now) }
+    {
+        if !self.separate {
+            return None;
+        }
+        next_holding(&self.ranges, self.index.first(lower_word(raw)), raw)
+    }
+
+    // The range that a raw number's text is taken from.
+    #[inline(always)]
+    fn range(&self, raw: i128) -> Option<&Range>
+        requires { self.now.separate ≡ true → AreSeparate self.now.ranges.items }
+        ensures { option_copied result ≡ find (holds_raw raw) self.now.ranges.items }
+    {
+        match self.near(raw) {
+            Some(range) => Some(range),
+            None => self.searched(raw),
+        }
+    }
+
     /// The text of the first range in file order that holds a raw number.
+    #[inline(always)]
     pub fn at(&self, raw: i128) -> Cal<'_>
         requires { self.now.separate ≡ true → AreSeparate self.now.ranges.items }
         ensures { calibrated_as result ≡ text_of_range (find (holds_raw raw) self.now.ranges.items) }
     {
-        let range = if self.separate {
-            halved(&self.ranges, raw)
-        } else {
-            scanned(&self.ranges, raw)
-        };
-        match range {
+        match self.range(raw) {
             Some(range) => Cal::Text(&range.text),
             None => Cal::NoText,
         }
