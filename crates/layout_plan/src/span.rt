@@ -204,7 +204,7 @@ impl Span {
     {
         if self.count == 0
             && values.used < MOST_VALUES
-            && let Some(value) = take_near(packet, self.octet, self.bit, self.name, &self.shape)
+            && let Some(value) = take_near(packet, self.octet, self.bit, self.name, self.shape)
         {
             values.push(value);
             return None;
