@@ -72,8 +72,8 @@ fn touch_rows(slots: &[Slot], plans: &[Arc<Param>], first: usize) -> usize {
     seen
 }
 
-/// Reads ahead the rows of the plans from a place on, of an edition and of the one that comes in its place, where something
-/// was kept. The number that it gives says nothing.
-pub fn read_rows_ahead(slots: &[Slot], from: &Params, to: &Params, first: usize) -> usize {
-    touch_rows(slots, from.plans(), first) ^ touch_rows(slots, to.plans(), first)
+/// Reads ahead the rows of the plans from a place on, as far as something is kept of their parameters. Those of the edition
+/// before are mostly the same ones. The number that it gives says nothing.
+pub fn read_rows_ahead(slots: &[Slot], params: &Params, first: usize) -> usize {
+    touch_rows(slots, params.plans(), first)
 }
