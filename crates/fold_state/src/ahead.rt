@@ -7,41 +7,39 @@ use std::sync::Arc;
 /// The plans whose rows are read ahead at once.
 pub const STRIDE: usize = 16;
 
-// The plan at a place, where there is one that isn't plain.
-fn plan_at(params: &Params, at: usize) -> Option<&Param> {
-    if params.is_plain(at) {
+// The plan at a place, where there is one that isn't marked as plain.
+#[inline(always)]
+fn plan_at<'a>(plans: &'a [Arc<Param>], plain: &[bool], at: usize) -> Option<&'a Param> {
+    if at < plain.len() && plain[at] {
         return None;
     }
-    params.plans().get(at).map(|plan| &**plan)
-}
-
-// The slot at a place, and the plan itself.
-fn touch_both(slots: &[Slot], params: &Params, at: usize) -> usize {
-    let slot = match slots.get(at) {
-        Some(slot) => slot.touch(),
-        None => 0,
-    };
-    let plan = match plan_at(params, at) {
-        Some(plan) => plan.touch(),
-        None => 0,
-    };
-    slot ^ plan
+    if at < plans.len() {
+        Some(&plans[at])
+    } else {
+        None
+    }
 }
 
 // The slots, and the plans themselves.
-fn touch_all(slots: &[Slot], params: &Params, places: &[u32]) -> usize {
+fn touch_all(slots: &[Slot], plans: &[Arc<Param>], plain: &[bool], places: &[u32]) -> usize {
     let mut seen = 0;
     for place in places {
-        seen ^= touch_both(slots, params, *place as usize);
+        let at = *place as usize;
+        if at < slots.len() {
+            seen ^= slots[at].touch();
+        }
+        if let Some(plan) = plan_at(plans, plain, at) {
+            seen ^= plan.touch();
+        }
     }
     seen
 }
 
 // The plans' curves and limits.
-fn touch_parts(params: &Params, places: &[u32]) -> usize {
+fn touch_parts(plans: &[Arc<Param>], plain: &[bool], places: &[u32]) -> usize {
     let mut seen = 0;
     for place in places {
-        if let Some(plan) = plan_at(params, *place as usize) {
+        if let Some(plan) = plan_at(plans, plain, *place as usize) {
             seen ^= plan.touch_parts();
         }
     }
@@ -50,7 +48,9 @@ fn touch_parts(params: &Params, places: &[u32]) -> usize {
 
 /// Reads ahead what finishing will ask of the slots and plans at these places. The number that it gives says nothing.
 pub fn read_ahead(slots: &[Slot], params: &Params, places: &[u32]) -> usize {
-    touch_all(slots, params, places) ^ touch_parts(params, places)
+    let plans = params.plans();
+    let plain = params.plain();
+    touch_all(slots, plans, plain, places) ^ touch_parts(plans, plain, places)
 }
 
 // The plan at a place of which something is kept.
@@ -72,8 +72,8 @@ fn touch_rows(slots: &[Slot], plans: &[Arc<Param>], first: usize) -> usize {
     seen
 }
 
-/// Reads ahead the rows of the plans from a place on, of an edition and of the one that comes in its place, where something
-/// was kept. The number that it gives says nothing.
-pub fn read_rows_ahead(slots: &[Slot], from: &Params, to: &Params, first: usize) -> usize {
-    touch_rows(slots, from.plans(), first) ^ touch_rows(slots, to.plans(), first)
+/// Reads ahead the rows of the plans from a place on, as far as something is kept of their parameters. Those of the edition
+/// before are mostly the same ones. The number that it gives says nothing.
+pub fn read_rows_ahead(slots: &[Slot], params: &Params, first: usize) -> usize {
+    touch_rows(slots, params.plans(), first)
 }

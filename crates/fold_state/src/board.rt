@@ -152,11 +152,11 @@ impl Board {
 
     /// Reads ahead what carrying will ask of the plans from this place on, once for so many places.
     #[inline(always)]
-    pub(crate) fn read_on(&mut self, old: &Board, from: &Params, to: &Params, at: usize)
+    pub(crate) fn read_on(&mut self, old: &Board, to: &Params, at: usize)
         ensures { self.new ≡ self.old }
     {
         if at % STRIDE == 0 {
-            self.ahead = read_rows_ahead(&old.slots, from, to, at);
+            self.ahead = read_rows_ahead(&old.slots, to, at);
         }
     }
 

@@ -131,7 +131,7 @@ impl Board {
     {
         let plans = to.plans();
         for at in 0..plans.len() {
-            self.read_on(&old, from, to, at);
+            self.read_on(&old, to, at);
             self.carry_at(at, &old, from, &plans[at]);
         }
         self.take_guesses(old);

@@ -48,12 +48,7 @@ fn enter_slot(slots: &mut [Slot], at: usize, value: &Value)
 // Enters the raw numbers of values, in their order, as long as the slots at these places have their names, notes the places,
 // and tells how many values those are.
 #[inline(always)]
-fn enter_near(
-    slots: &mut [Slot],
-    values: &[Value],
-    places: &[u32],
-    seats: &mut [usize],
-) -> usize
+fn enter_near(slots: &mut [Slot], values: &[Value], places: &[u32], seats: &mut [usize]) -> usize
     requires places { length values.now ≤ length places.now }
     requires seats { length values.now ≤ length seats.old }
     requires rise { Rise (map slot_name slots.old) }

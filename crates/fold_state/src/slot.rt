@@ -47,7 +47,7 @@ impl Slot {
 
     /// A number made of its first octets and of its last: who asks for it early has the slot at hand later.
     pub fn touch(&self) -> usize {
-        usize::from(self.latest == 0) ^ usize::from(self.previous.count < 0)
+        self.latest as usize ^ usize::from(self.previous.count < 0)
     }
 
     /// Whether it keeps nothing.

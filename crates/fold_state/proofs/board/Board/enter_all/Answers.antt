@@ -1,4 +1,4 @@
-use Rattle.std.proofs.Common.{◌≡◌, ◌∙◌, ◌+◌, ℕ, List, inl, inr, length, take, get_or, refl, sym, subst, ap, arith, All}
+use Rattle.std.proofs.Common.{◌∙◌, ◌+◌, List, inl, inr, length, refl, sym, subst, ap, arith}
 use Rattle.std.proofs.lemmas.Bool.{cases_lt}
 use Rattle.std.proofs.lemmas.List.{take_all}
 use Rattle.mib_model.specs.declared.packet.Value.{Value}

@@ -1,4 +1,4 @@
-use Rattle.std.proofs.Common.{◌∙◌, [], List, ℕ, ap, sym, get_or}
+use Rattle.std.proofs.Common.{◌∙◌, [], ap, sym, get_or}
 use Rattle.std.proofs.lemmas.List.Quantifiers.{position-Some}
 use Rattle.fold_state.specs.Boards.{Slots, is_name_of}
 use Rattle.fold_state.proofs.BoardFacts.{name-at, same-name, slot-within}

@@ -1,5 +1,5 @@
-use Rattle.std.proofs.Common.{◌≡◌, ◌∙◌, Bool, false, List, get_or, length, map, ap, arith}
-use Rattle.param_plan.specs.Plain.{is_plain, plain_behind}
+use Rattle.std.proofs.Common.{◌≡◌, ◌∙◌, Bool, false, List, get_or, map, ap, arith}
+use Rattle.param_plan.specs.Plain.{plain_behind}
 use Rattle.param_plan.proofs.PlainFacts.{marks-same}
 use Rattle.param_plan.proofs.params.Params.plain.Goals as goal
 
