@@ -5,7 +5,7 @@ ghost use Rattle.mib_model.specs.RawTexts as Spec;
 
 use crate::field::{field, whole_octets};
 use crate::place::{add_ends, add_octet, add_word};
-use crate::plain::{eights_stand, fours_stand, sixteens_stand, stands_as_itself};
+use crate::plain::{eights_stand, fours_stand, sixteens_stand, stands_as_itself, twos_stand};
 
 // A hexadecimal digit, in upper case.
 fn hex_digit(n: u8) -> u8
@@ -194,6 +194,7 @@ fn add_spelled(octets: &[u8], line: &mut [u8], used: usize) -> usize
     match octets.len() {
         8..=16 if eights_stand(octets) => add_ends::<8>(octets, line, used),
         4..8 if fours_stand(octets) => add_ends::<4>(octets, line, used),
+        2..4 if twos_stand(octets) => add_ends::<2>(octets, line, used),
         17..=32 if sixteens_stand(octets) => add_ends::<16>(octets, line, used),
         _ => add_octets::<Quoted>(octets, line, used),
     }

@@ -1,5 +1,5 @@
 // Where the octets of lines are written.
-ghost use Rattle.std.specs.Prelude.{◌≡◌, ◌≤◌, ◌<◌, ◌+◌, [], length, take, IfOk};
+ghost use Rattle.std.specs.Prelude.{◌≡◌, ◌≤◌, ◌<◌, ◌+◌, [], length, take, IfOk, IsFalse, IsTrue};
 ghost use Rattle.record_text.specs.declared.lines.TheConstants.{LINES_ROOM, LINE_MOST};
 
 use crate::lines::{LINE_MOST, LINES_ROOM};
@@ -63,6 +63,15 @@ impl Page {
         self.used = 0;
     }
 
+    /// Whether so many octets are ready that a line can be appended.
+    #[inline(always)]
+    pub(crate) fn is_ready(&self) -> bool
+        ensures ready { IsTrue result → length self.now.octets + LINE_MOST ≤ self.now.limit }
+        ensures short { IsFalse result → self.now.limit < length self.now.octets + LINE_MOST }
+    {
+        self.used + LINE_MOST <= self.octets.len()
+    }
+
     /// Makes so many octets ready that a line can be appended.
     #[inline(always)]
     pub(crate) fn make_ready(&mut self)
@@ -70,7 +79,7 @@ impl Page {
         ensures octets { self.new.octets ≡ self.old.octets }
         ensures limit { length self.new.octets + LINE_MOST ≤ self.new.limit }
     {
-        if self.used + LINE_MOST > self.octets.len() {
+        if !self.is_ready() {
             self.widen();
         }
     }

@@ -16,6 +16,19 @@ pub(crate) fn stands_as_itself(octet: u8) -> bool
 }
 
 #[inline(always)]
+fn four_stand(octets: &[u8], at: usize) -> bool
+    requires { at + 4 ≤ length octets.now }
+    ensures { OnTrue result (StandBetween octets.now at (at + 4)) }
+{
+    let v = u8x4::from_slice(&octets[at..]);
+    let from_space = v - u8x4::splat(b' ');
+    let others = from_space.simd_ge(u8x4::splat(0x5F))
+        | v.simd_eq(u8x4::splat(b'"'))
+        | v.simd_eq(u8x4::splat(b'\\'));
+    others.to_bitmask() == 0
+}
+
+#[inline(always)]
 fn eight_stand(octets: &[u8], at: usize) -> bool
     requires { at + 8 ≤ length octets.now }
     ensures { OnTrue result (StandBetween octets.now at (at + 8)) }
@@ -54,6 +67,16 @@ fn ends<const N: usize, const M: usize>(text: &[u8]) -> [u8; M]
     put(&mut both, 0, &first);
     put(&mut both, N, &last);
     both
+}
+
+/// Whether 2 to 4 octets are found to stand as themselves.
+#[inline(always)]
+pub(crate) fn twos_stand(octets: &[u8]) -> bool
+    requires some { 2 ≤ length octets.now }
+    requires few { length octets.now ≤ 4 }
+    ensures { OnTrue result (flat_map quoted_octet octets.now ≡ octets.now) }
+{
+    four_stand(&ends::<2, 4>(octets), 0)
 }
 
 /// Whether 4 to 8 octets are found to stand as themselves.

@@ -255,6 +255,9 @@ pub fn ended_line(ended: &Ended, out: &mut Lines)
     ensures text { out.new ≡ out.old ++ Spec.ended_text ended.now }
     ensures room { length out.new ≤ length out.old + NOTE_ROOM }
 {
+    if let Ended::Whole = ended {
+        return;
+    }
     out.page.make_ready();
     out.page.used = add_ended(ended, &mut out.page.octets, out.page.used);
 }

@@ -89,6 +89,20 @@ fn put_end(
     used + add_end(tail, shorts, number, line, 0)
 }
 
+// Begins the line of a value where more octets may have to be made ready.
+#[cold]
+#[inline(never)]
+fn begin_on_more(value: &Value, packet: &[u8], out: &mut Lines)
+    requires inside { Bits.is_inside packet.now value.now.at value.now.shape.width ≡ true }
+    requires room { length out.old + LINE_MOST ≤ LINES_ROOM }
+    ensures text { out.new ≡ out.old ++ begin_text value.now packet.now }
+    ensures room { length out.new ≤ length out.old + BEGIN_ROOM }
+{
+    out.page.make_ready();
+    let shorts = out.shorts.all();
+    out.page.used = add_begin(value, packet, shorts, &mut out.page.octets, out.page.used);
+}
+
 /// Begins the line of a value, whose bits must be in the packet: its name and its raw text. There must be room for 5,000
 /// octets.
 #[inline(always)]
@@ -98,7 +112,10 @@ pub fn begin_value(value: &Value, packet: &[u8], out: &mut Lines)
     ensures text { out.new ≡ out.old ++ begin_text value.now packet.now }
     ensures room { length out.new ≤ length out.old + BEGIN_ROOM }
 {
-    out.page.make_ready();
+    if !out.page.is_ready() {
+        begin_on_more(value, packet, out);
+        return;
+    }
     let shorts = out.shorts.all();
     out.page.used = put_begin(value, packet, shorts, &mut out.page.octets, out.page.used);
 }
