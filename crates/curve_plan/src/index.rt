@@ -31,7 +31,12 @@ pub fn nearest(number: i128) -> i64 {
 pub fn near_number(number: i128) -> Option<i64>
     ensures { IfSome result (λ near. near ≡ number) }
 {
-    i64::try_from(number).ok()
+    let near = lower_word(number).cast_signed();
+    if i128::from(near) == number {
+        Some(near)
+    } else {
+        None
+    }
 }
 
 /// The lower 64 bits of a number.

@@ -95,6 +95,7 @@ fn advance(raw: i128, power: i128, total: i128, coefficient: i128) -> Option<(i1
 }
 
 // The next power, and the sum with the term of its coefficient, where all are numbers of 64 bits.
+#[inline(always)]
 fn near_advance(raw: i64, power: i64, total: i64, coefficient: i64) -> Option<(i64, i64)>
     ensures { IfSome result (λ p. advanced raw power total coefficient ≡ Some p) }
 {
@@ -145,6 +146,7 @@ fn near_of(scaled: &Option<(i128, [i128; 4])>) -> Option<NearPoly>
 }
 
 // The sum of a first coefficient and of those of the powers from 1 on, where all are numbers of 64 bits.
+#[inline(always)]
 fn near_total(first: i64, rest: &[i64], raw: i64) -> Option<i64>
     ensures { IfSome result (λ z. sum_behind raw (pos 1) first rest.now ≡ Some z) }
 {
@@ -158,18 +160,43 @@ fn near_total(first: i64, rest: &[i64], raw: i64) -> Option<i64>
     Some(total)
 }
 
-// The sum of coefficients at a number, where all are numbers of 64 bits.
-fn near_sum(near: &Option<NearPoly>, raw: i128) -> Option<i64>
-    ensures { IfSome result (λ z. near_sum near.now raw ≡ Some z) }
+// The sum of coefficients at a number that isn't a word of 32 bits, where all are numbers of 64 bits.
+#[inline(never)]
+fn long_sum(near: &NearPoly, raw: i128) -> Option<i64>
+    ensures { IfSome result (λ z. near_sum (Some near.now) raw ≡ Some z) }
 {
-    let Some(near) = near else {
-        return None;
-    };
     let raw = near_number(raw)?;
     near_total(near.first, &near.rest[..usize::from(near.count)], raw)
 }
 
+// The sum of coefficients at a number, where all are numbers of 64 bits.
+#[inline(always)]
+fn short_sum(near: &NearPoly, raw: i128) -> Option<i64>
+    ensures { IfSome result (λ z. near_sum (Some near.now) raw ≡ Some z) }
+{
+    match u32::try_from(raw) {
+        Ok(raw) => {
+            let raw = i64::from(raw);
+            near_total(near.first, &near.rest[..usize::from(near.count)], raw)
+        }
+        Err(_) => long_sum(near, raw),
+    }
+}
+
+// The sum of coefficients at a number, where they are there and all are numbers of 64 bits.
+#[inline(always)]
+fn near_sum(near: &Option<NearPoly>, raw: i128) -> Option<i64>
+    ensures { IfSome result (λ z. near_sum near.now raw ≡ Some z) }
+{
+    match near {
+        Some(near) => short_sum(near, raw),
+        None => None,
+    }
+}
+
 // The sum of coefficients at a number, where no step is too wide.
+#[cold]
+#[inline(never)]
 fn far_sum(scaled: &Option<(i128, [i128; 4])>, raw: i128) -> Option<i128>
     requires { IfSome scaled.now (λ c. nat_abs c.0 < STEP_BOUND) }
     ensures value { result ≡ sum_of scaled.now raw }
@@ -197,6 +224,7 @@ fn far_total(first: i128, rest: &[i128], raw: i128) -> Option<i128>
 
 // A sum of 64 bits at a scale of 12 at most, brought to counts of 10^-12.
 #[tactic(auto, using(crate::proofs::NearFacts::near_counts))]
+#[inline(always)]
 fn near_to_count(sum: i64, scale: u8) -> i128
     requires { scale ≤ 12 }
     ensures { Some result ≡ narrow_result (Spec.to_count scale sum) }
@@ -205,6 +233,7 @@ fn near_to_count(sum: i64, scale: u8) -> i128
 }
 
 // A sum at a scale, brought to counts of 10^-12, where it is below the bound of results.
+#[inline(always)]
 fn to_count(sum: i128, scale: u8) -> Option<i128>
     requires { nat_abs sum < STEP_BOUND }
     ensures { result ≡ narrow_result (Spec.to_count scale sum) }
@@ -216,6 +245,8 @@ fn to_count(sum: i128, scale: u8) -> Option<i128>
 }
 
 // A sum at a scale, brought to counts of 10^-12 step by step, where it is below the bound of results.
+#[cold]
+#[inline(never)]
 fn far_to_count(sum: i128, scale: u8) -> Option<i128>
     requires { nat_abs sum < STEP_BOUND }
     ensures { result ≡ narrow_result (Spec.to_count scale sum) }
@@ -263,6 +294,7 @@ impl PolyCurve {
     }
 
     // The count at a number, where no step is too wide.
+    #[inline(always)]
     fn count_at(&self, raw: i128) -> Option<i128>
         ensures { or_over result ≡ Spec.polynomial self.now raw }
     {
@@ -274,6 +306,7 @@ impl PolyCurve {
 
     /// `A0 + A1·x + A2·x^2 + A3·x^3 + A4·x^4` at a raw number, or that it leaves the bounds (SCOS-2000 Database Import ICD,
     /// mcf; the scale, the rounding and the bounds are this profile's).
+    #[inline(always)]
     pub fn at(&self, raw: i128) -> Result<Eng, Over>
         requires low { least_raw ≤ℤ raw }
         requires high { raw ≤ℤ greatest_raw }
