@@ -96,7 +96,7 @@ fn read_spans<'a>(spans: &'a [Span], packet: &[u8], values: &mut Values) -> Opti
     None
 }
 
-// The same, by values of its own, which the loop may keep in registers.
+// Reads them by values of its own, which the loop may keep in registers.
 #[inline(never)]
 fn read_apart<'a>(spans: &'a [Span], packet: &[u8], values: &mut Values) -> Option<(Stop, &'a Span)>
     requires slots { length values.old.slots.now ≡ most_values }

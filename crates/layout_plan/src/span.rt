@@ -10,9 +10,9 @@ use bit_field::{MOST_VALUES, Values, take, take_near};
 use mib_model::{Ended, Name, Order, PlfRow, Shape, Sort};
 use std::marker::Model;
 
-/// The occurrences of a row: the octet of the first and the bit behind its first, the bits from one to the next, and how many
-/// there are. Where `count` is 0 there is one, which `take_near` reads. Fields lie
-/// so that little room is left between them. Contracts see the occurrences.
+/// The occurrences of a row: the octet from which the first is read and the bits before it there, the bits from one to the next,
+/// and how many there are. Where `count` is 0 there is one, which `take_near` reads. Fields lie so that little room is left
+/// between them. Contracts see the occurrences.
 #[derive(Drop)]
 pub struct Span {
     octet: u32,
