@@ -130,7 +130,8 @@ impl RangeCurve {
 
     /// Reads the ranges of a curve's rows.
     pub fn compile(alloc: Global, txps: &[TxpRow]) -> Result<RangeCurve, AllocError>
-        ensures ranges { IfOk result (λ curve. (raw : ℤ) → find (holds_raw raw) curve.ranges.items ≡ find (holds_raw raw) (filter_map range_of txps.now)) }
+        ensures ranges { IfOk result (λ curve. (raw : ℤ) → find (holds_raw raw) curve.ranges.items
+            ≡ find (holds_raw raw) (filter_map range_of txps.now)) }
         ensures separate { IfOk result (λ curve. curve.separate ≡ true → AreSeparate curve.ranges.items) }
     {
         let ranges = ranges_of(alloc, txps)?;

@@ -96,8 +96,8 @@ fn kept_at(old: &Board, at: usize, from: &Params, plan: &Param) -> Slot
 
 // What is kept under the new edition of a parameter, whose name this is and which is looked for first at this place.
 fn kept_for(old: &Board, at: usize, from: &Params, name: &Name, plan: &Param) -> Slot
-    ensures { (before after : Database) → name.now ≡ plan.now.pcf.name → IsParamsOf before from.now → old.now.names ≡ plan_names from.now → IsSliceOf after plan.now.pcf.name plan.now
-        → kept_as result ≡ Spec.carry (memory_of old.now) before after plan.now.pcf.name }
+    ensures { (before after : Database) → name.now ≡ plan.now.pcf.name → IsParamsOf before from.now → old.now.names ≡ plan_names from.now
+        → IsSliceOf after plan.now.pcf.name plan.now → kept_as result ≡ Spec.carry (memory_of old.now) before after plan.now.pcf.name }
 {
     match old.place_from(at, name) {
         Some(at) => kept_at(old, at, from, plan),

@@ -39,7 +39,8 @@ impl Board {
         requires high { value.now.raw ≤ℤ greatest_raw }
         ensures names { self.new.names ≡ self.old.names }
         ensures checked { (db : Database) → IsSliceOf db value.now.name plan.now → place_of self.old value.now.name ≡ Some at
-            → has_number value.now.shape.sort ≡ true → (memory_of self.new, result) ≡ checked_given db (memory_of self.old) value.now (option_map calibrated_as given.entry) }
+            → has_number value.now.shape.sort ≡ true
+            → (memory_of self.new, result) ≡ checked_given db (memory_of self.old) value.now (option_map calibrated_as given.entry) }
     {
         let Some(checks) = plan.checks() else {
             return None;
