@@ -1,5 +1,5 @@
 // The value at a place of a packet.
-ghost use Rattle.std.specs.Prelude.{pos, ◌≡◌, ◌≢◌, ◌<◌, ◌≤◌, ◌+◌, ◌*◌, ◌/◌, ◌^◌, length, Some, None, IfSome, IfNone, true, if◌then◌else◌};
+ghost use Rattle.std.specs.Prelude.{pos, ◌≡◌, ◌≢◌, ◌<◌, ◌≤◌, ◌+◌, ◌*◌, ◌/◌, ◌^◌, length, Some, None, IfSome, IfNone, OnSome, true, if◌then◌else◌};
 ghost use Rattle.mib_model.specs.declared.shape.Sort.TheVariants as sorts;
 ghost use Rattle.mib_model.specs.Bits as Spec;
 ghost use Rattle.mib_model.specs.Bits.{bits, little_bits, signed_number};
@@ -200,6 +200,7 @@ pub fn take_near(octets: &[u8], octet: u32, skip: u8, name: Name, shape: Shape) 
     requires near { skip + shape.width ≤ 64 }
     ensures value { IfSome result (λ value. value ≡ value_at octets.now (record { name = name; at = 8 * octet + skip; shape = shape })) }
     ensures inside { IfSome result (λ value. Spec.is_inside octets.now (8 * octet + skip) shape.width ≡ true) }
+    ensures eight { OnSome result (octet + 8 ≤ length octets.now) }
     ensures none { IfNone result (length octets.now < octet + 8) }
 {
     let first = octet as usize;

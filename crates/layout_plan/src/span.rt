@@ -99,7 +99,7 @@ fn is_big(shape: Shape) -> bool
     }
 }
 
-// The same place by the octet that is the eighth before the field's end, or the first of all where there are fewer, if the
+// A place, told by the octet that is the eighth before the field's end, or the first of all where there are fewer, if the
 // field begins behind it; else by the octet in which it begins.
 fn near_place(octet: u32, bit: u8, width: u16) -> (u32, u8)
     ensures { 8 * result.0 + result.1 ≡ 8 * octet + bit }
@@ -173,7 +173,7 @@ impl Span {
         None
     }
 
-    // The same, by values of its own, so that the caller may keep its own in registers.
+    // Reads them by values of its own, so that the caller may keep its own in registers.
     #[inline(always)]
     fn read_apart(&self, packet: &[u8], values: &mut Values) -> Option<Stop>
         requires slots { length values.old.slots.now ≡ most_values }
