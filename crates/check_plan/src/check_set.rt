@@ -1,5 +1,6 @@
 // The checks of a parameter: limits without a condition, limits with one, and states.
 ghost use Rattle.std.specs.Prelude.{◌≡◌, option_map, IfOk};
+ghost use Rattle.check_plan.specs.Calms.{is_calm};
 ghost use Rattle.check_plan.specs.CheckSets.{any_violated, any_far, is_unexpected, class_in, IsCalmSet, IsSetOf};
 ghost use Rattle.check_plan.specs.Samples.{count_of, sample_of};
 
@@ -82,6 +83,14 @@ impl CheckSet {
             limits: Vec::from_slice(alloc, &limits)?,
             apart,
         })
+    }
+
+    /// Whether a sample is one of which nothing is told, whatever is kept and whatever the last number was.
+    #[inline(always)]
+    pub fn is_calm(&self, sample: Sample) -> bool
+        ensures { result ≡ is_calm self.now.calm (sample_of sample.entry) }
+    {
+        self.calm.holds(sample)
     }
 
     /// The class of a sample: the first that holds of Hard, Status, Delta and Soft, else Nominal.

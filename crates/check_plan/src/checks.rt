@@ -1,5 +1,7 @@
-ghost use Rattle.std.specs.Prelude.{◌≡◌, option_map, IfOk};
+ghost use Rattle.std.specs.Prelude.{◌≡◌, ℤ, Option, option_map, IfOk, IsTrue};
 ghost use Rattle.mib_model.specs.Checks as Spec;
+ghost use Rattle.mib_model.specs.Kept.{Memory};
+ghost use Rattle.mib_model.specs.declared.check.Class.TheVariants.{Nominal};
 ghost use Rattle.check_plan.specs.Samples.{count_of, sample_of};
 
 use crate::check_set::CheckSet;
@@ -71,5 +73,14 @@ impl Checks {
         ensures { result ≡ Spec.class_of self.now.ocps (sample_of sample.entry) (option_map count_of previous) (K.memory kept.now) }
     {
         self.set.class_of(sample, previous, kept)
+    }
+
+    /// Whether a sample is of class Nominal whatever is kept and whatever the last checked number was, as nearly all are.
+    /// `false` says nothing.
+    #[inline(always)]
+    pub fn is_nominal(&self, sample: Sample) -> bool
+        ensures { IsTrue result → (previous : Option ℤ) (memory : Memory) → Spec.class_of self.now.ocps (sample_of sample.entry) previous memory ≡ Nominal }
+    {
+        self.set.is_calm(sample)
     }
 }

@@ -15,6 +15,18 @@ pub trait Holds {
         ensures { result ≡ Spec.holds (memory self.now) name number };
 }
 
+/// Keeps nothing, so that no condition holds.
+#[derive(Clone, Copy)]
+pub struct Nothing;
+
+impl Holds for Nothing {
+    ghost memory = { λ _. Spec.empty_memory };
+
+    fn holds(&self, _name: Name, _number: i128) -> bool {
+        false
+    }
+}
+
 /// Whether there is no condition, or one that holds.
 pub fn is_met<K: Holds>(name: Option<Name>, number: i128, kept: &K) -> bool
     ensures { result ≡ Spec.is_met (K.memory kept.now) name number }

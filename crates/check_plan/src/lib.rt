@@ -18,6 +18,6 @@ mod state;
 
 pub use alarm::Alarm;
 pub use checks::Checks;
-pub use condition::{Holds, is_met};
+pub use condition::{Holds, Nothing, is_met};
 pub use mib_model::{Change, Class};
 pub use sample::Sample;

@@ -131,6 +131,7 @@ impl Curve {
 
     /// What the curve makes of a raw number from -2^63 to 2^64 - 1 (SCOS-2000 Database Import ICD, caf, txf, mcf and
     /// lgf). It takes no memory.
+    #[inline(always)]
     pub fn apply(&self, raw: i128) -> Cal<'_>
         requires low { least_raw ≤ℤ raw }
         requires high { raw ≤ℤ greatest_raw }

@@ -34,13 +34,21 @@ module _ (db : Database) (sound : IsSound db) (packet : List ℕ) (half : Half) 
   pub taken-inside : All (λ v. is_inside packet v.at v.shape.width ≡ true) (take half.used slots)
   taken-inside = All-weaker (IsValueOf db packet) (λ v. is_inside packet v.at v.shape.width ≡ true) (λ v of. of.inside) (take half.used slots) taken-values
 
+  -- their numbers are raw numbers
+  pub taken-raw : All IsRaw (take half.used slots)
+  taken-raw = All-weaker (IsValueOf db packet) IsRaw (λ v of. of.number) (take half.used slots) taken-values
+
+  -- plans of all parameters are those of the database
+  pub taken-params : (params : List ParamSlice) → params ≡ param_slices db → IsParamsOf db params
+  taken-params params all = subst (IsParamsOf db) (sym all) (params-of db sound)
+
   -- they are what plans of all parameters, and a board for these, need
   pub taken-fit : (params : List ParamSlice) (board : Slots) → params ≡ param_slices db → board.names ≡ plan_names (param_slices db) → Fits db params board (take half.used slots)
   taken-fit params board all same = record {
-    plans = subst (IsParamsOf db) (sym all) (params-of db sound);
+    plans = taken-params params all;
     names = same ∙ ap plan_names (sym all);
     slots = All-weaker (IsValueOf db packet) (λ v. HasSlot board v.name) (λ v of. slot-of db board v.name same of.planned) (take half.used slots) taken-values;
-    numbers = All-weaker (IsValueOf db packet) IsRaw (λ v of. of.number) (take half.used slots) taken-values;
+    numbers = taken-raw;
   }
 
   abbrev vs : List Value

@@ -1,4 +1,4 @@
-// The record of a packet that was decoded, and what is kept after it.
+// The record of a packet that was decoded, what is kept after it, and the lines that are drawn ahead.
 ghost use Rattle.std.specs.Prelude.{◌≡◌, ◌≤◌, ◌+◌, length, take};
 ghost use Rattle.std.specs.Option.{option_copied};
 ghost use Rattle.decode_one.specs.Halves.{IsHalf};
@@ -6,12 +6,13 @@ ghost use Rattle.decode_one.specs.Steps.{ComesTo, HasStepped};
 ghost use Rattle.edition_plans.specs.Params.{param_slices};
 ghost use Rattle.fold_state.specs.Boards.{memory_of, plan_names};
 ghost use Rattle.fold_state.specs.declared.finish.TheConstants.{TEXT_BEFORE};
+ghost use Rattle.fold_state.specs.Sketches.{AreShown};
 ghost use Rattle.mib_model.specs.Interpreter.{Course, StampedPacket, title_of};
 ghost use Rattle.record_text.specs.declared.lines.TheConstants.{LINES_ROOM, LINE_MOST};
 
 use crate::half::Half;
 use edition_plans::Plans;
-use fold_state::{Board, Seen, finish_is_a_step};
+use fold_state::{Board, Drawer, Seen, Sketch, finish_is_a_step};
 use mib_model::{Found, Text, Value};
 use record_text::Lines;
 
@@ -60,4 +61,56 @@ pub fn finish<P: Plans>(
     };
     board.finish(params, &seen, out);
     finish_is_a_step();
+}
+
+/// Finishes a packet that was decoded so, of whose values a sketch shows some: as `finish` does.
+#[inline(always)]
+pub fn finish_sketched<P: Plans>(
+    plans: &P,
+    number: u64,
+    packet: &[u8],
+    half: &Half,
+    values: &[Value],
+    sketch: &Sketch,
+    board: &mut Board,
+    out: &mut Lines,
+)
+    requires half { IsHalf (P.tables plans.now) packet.now half.now values.now }
+    requires shown { AreShown (P.tables plans.now) packet.now (take half.now.used values.now) sketch.now }
+    requires board { board.old.names ≡ plan_names (param_slices (P.tables plans.now)) }
+    requires room { length out.old ≤ TEXT_BEFORE }
+    ensures names { board.new.names ≡ board.old.names }
+    ensures step { (c : Course) (s : StampedPacket) → ComesTo c s number packet.now (P.tables plans.now) (memory_of board.old)
+        → HasStepped c s (memory_of board.new) out.old out.new }
+    ensures room { length out.new + LINE_MOST ≤ LINES_ROOM }
+{
+    let params = plans.params();
+    let seen = Seen {
+        number,
+        header: &half.header,
+        found: &half.found,
+        ended: &half.ended,
+        packet,
+        values: &values[..half.used as usize],
+        title: title(plans, &half.found),
+    };
+    board.finish_sketched(params, &seen, sketch, out);
+    finish_is_a_step();
+}
+
+/// Draws the lines of a packet that was decoded so, as far as the sketch has room. It takes no memory.
+pub fn draw<P: Plans>(
+    plans: &P,
+    packet: &[u8],
+    half: &Half,
+    values: &[Value],
+    drawer: &mut Drawer,
+    sketch: &mut Sketch,
+)
+    requires half { IsHalf (P.tables plans.now) packet.now half.now values.now }
+    ensures shown { AreShown (P.tables plans.now) packet.now (take half.now.used values.now) sketch.new }
+    ensures few { length sketch.new ≤ half.now.used }
+{
+    let taken = &values[..half.used as usize];
+    drawer.draw(plans.params(), &half.found, packet, taken, sketch);
 }

@@ -45,7 +45,12 @@ fn add_next<P: Plans, S: Source>(
     ensures missed { S.missed (source_of feed.new) ≡ S.missed (source_of feed.old) }
     ensures borrow { S.borrow (source_of feed.new) ≡ S.borrow (source_of feed.old) }
 {
-    let Buffers { frame, slots, half } = &mut *room.buffers;
+    let Buffers {
+        frame,
+        slots,
+        half,
+        ..
+    } = &mut *room.buffers;
     match feed.next(frame.slice_mut()) {
         Next::Packet { octets, header } => {
             let packet = &frame.slice()[..octets as usize];

@@ -2,6 +2,7 @@ ghost use Rattle.std.specs.Prelude.{◌≡◌, take};
 ghost use Rattle.decode_session.specs.Frames.{IsFramed};
 
 use crate::room::{Buffers, Room};
+use edition_plans::Plans;
 use mib_model::Header;
 use work_queue::Numbered;
 
@@ -24,10 +25,10 @@ impl Numbered for Cell {
 }
 
 impl Cell {
-    ghost use Rattle.decode_session.specs.Cells.{packet_in};
+    ghost use Rattle.decode_session.specs.Cells.{IsDecoded, packet_in};
 
     /// The cell of a packet that stands in a room.
-    pub(crate) fn new(number: u64, octets: u32, header: Header, room: Room) -> Cell
+    pub fn new(number: u64, octets: u32, header: Header, room: Room) -> Cell
         requires { IsFramed room.buffers.value.frame octets header }
         ensures number { result.number ≡ number }
         ensures packet { packet_in result ≡ take octets room.buffers.value.frame }
@@ -42,14 +43,28 @@ impl Cell {
     }
 
     /// Its packet.
-    pub(crate) fn packet(&self) -> &[u8]
+    pub fn packet(&self) -> &[u8]
         ensures { result.now ≡ packet_in self.now }
     {
         &self.buffers.frame.slice()[..self.octets as usize]
     }
 
+    /// Decodes its packet by these plans, in its buffers.
+    pub fn decode<P: Plans>(&mut self, plans: &P)
+        ensures { IsDecoded (P.tables plans.now) self.old self.new }
+    {
+        let Buffers {
+            frame,
+            slots,
+            half,
+            ..
+        } = &mut *self.buffers;
+        let packet = &frame.slice()[..self.octets as usize];
+        half.decode(plans, &self.header, packet, slots.slice_mut());
+    }
+
     /// Its buffers.
-    pub(crate) fn into_room(self) -> Room {
+    pub fn into_room(self) -> Room {
         Room {
             buffers: self.buffers,
         }

@@ -4,7 +4,6 @@ ghost use Rattle.std.specs.List.{AllZip};
 ghost use Rattle.decode_session.specs.Cells.{IsDecoded};
 
 use crate::cell::Cell;
-use crate::room::Buffers;
 use decode_pool::{Work, run_batch};
 use edition_plans::Plans;
 use std::thread::Threads;
@@ -21,9 +20,7 @@ impl<P: Plans + Sync> Work for Decoding<'_, P> {
     ghost made = { λ work before after. IsDecoded (P.tables work.plans.now) before after };
 
     fn work(&self, cell: &mut Cell) {
-        let Buffers { frame, slots, half } = &mut *cell.buffers;
-        let packet = &frame.slice()[..cell.octets as usize];
-        half.decode(self.plans, &cell.header, packet, slots.slice_mut());
+        cell.decode(self.plans);
     }
 }
 

@@ -12,7 +12,7 @@ use crate::room::{Buffers, Room};
 use bit_field::{MOST_VALUES, shape_of};
 use decode_one::Half;
 use edition_plans::Plans;
-use fold_state::Board;
+use fold_state::{Board, Sketch};
 use frame_region::Region;
 use mib_model::{Ended, Endian, Found, Header, Name, Shape, Value};
 use packet_feed::PACKET_SIZE;
@@ -117,8 +117,8 @@ impl Home {
         })
     }
 
-    // Takes all rooms, which are so many.
-    fn take_rooms(&mut self, alloc: Global, count: u16) -> Result<Vec<Room>, AllocError>
+    /// Takes all rooms, which are so many. An error is want of memory.
+    pub fn take_rooms(&mut self, alloc: Global, count: u16) -> Result<Vec<Room>, AllocError>
         requires { AreOutOf count 0 self.old }
         ensures out { OnOk result (AreOutOf count count self.new) }
         ensures free { IfOk result (λ rooms. vec_len rooms ≡ count) }
@@ -136,6 +136,7 @@ impl Home {
                 frame,
                 slots,
                 half: unheard(),
+                sketch: Sketch::new(alloc)?,
             };
             rooms.push_reserved(Room {
                 buffers: Box::new(alloc, buffers)?,
@@ -154,6 +155,7 @@ impl Home {
                 frame,
                 slots,
                 half: _,
+                sketch: _,
             } = Box::into_inner(buffers);
             self.frames.give(frame);
             self.slots.give(slots);

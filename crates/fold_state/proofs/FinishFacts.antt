@@ -71,7 +71,7 @@ finish-numberless db memory v s is holds number =
     finish-valid db memory v s None Plain (memory, None) is holds (rw number refl) refl (unchecked db memory v (check_of db v.name) number)
 
 -- the first item that passes, by its place
-found-first : {X : Type 0} (p : X → Bool) (xs : List X) (i : ℕ) (d : X) → i < length xs → p (get_or xs i d) ≡ true → ((k : ℕ) → k < i → p (get_or xs k d) ≡ false) → find p xs ≡ Some (get_or xs i d)
+pub found-first : {X : Type 0} (p : X → Bool) (xs : List X) (i : ℕ) (d : X) → i < length xs → p (get_or xs i d) ≡ true → ((k : ℕ) → k < i → p (get_or xs k d) ≡ false) → find p xs ≡ Some (get_or xs i d)
 found-first p [] i d below here before = absurd (omega (arith, below))
 found-first p (x ∷ xs) zero d below here before = rw here refl
 found-first p (x ∷ xs) (suc i) d below here before = rw (before 0 (omega arith)) (found-first p xs i d (omega (arith, below)) here (λ k b. before (suc k) (omega (arith, b))))

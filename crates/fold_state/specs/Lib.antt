@@ -1,4 +1,5 @@
 pub mod Boards
 pub mod Places
 pub mod Premises
+pub mod Sketches
 pub mod Laws

@@ -1,8 +1,13 @@
 // What is read ahead: the slots and plans of a packet's values lie far apart in memory, so all are asked for before the first is
 // needed.
+use crate::sketch::Sketch;
 use crate::slot::Slot;
+use mib_model::Value;
 use param_plan::{Param, Params};
 use std::sync::Arc;
+
+/// From so many plans on they don't all lie in the processor's cache, and are read ahead.
+pub const FAR: usize = 1_024;
 
 /// The plans whose rows are read ahead at once.
 pub const STRIDE: usize = 16;
@@ -18,6 +23,18 @@ fn plan_at<'a>(plans: &'a [Arc<Param>], plain: &[bool], at: usize) -> Option<&'a
     } else {
         None
     }
+}
+
+/// Reads ahead the slots at these places alone. The number that it gives says nothing.
+pub fn read_slots_ahead(slots: &[Slot], places: &[u32]) -> usize {
+    let mut seen = 0;
+    for place in places {
+        let at = *place as usize;
+        if at < slots.len() {
+            seen ^= slots[at].touch();
+        }
+    }
+    seen
 }
 
 // The slots, and the plans themselves.
@@ -51,6 +68,63 @@ pub fn read_ahead(slots: &[Slot], params: &Params, places: &[u32]) -> usize {
     let plans = params.plans();
     let plain = params.plain();
     touch_all(slots, plans, plain, places) ^ touch_parts(plans, plain, places)
+}
+
+// The values of a packet, which another processor wrote.
+fn touch_values(values: &[Value]) -> usize {
+    let mut seen = 0;
+    for value in values {
+        seen ^= value.at as usize;
+    }
+    seen
+}
+
+// The plans of values of which nothing is shown.
+fn touch_open(plans: &[Arc<Param>], sketch: &Sketch, places: &[u32]) -> usize {
+    let mut seen = 0;
+    for k in 0..places.len() {
+        if sketch.is_open(k) {
+            if let Some(plan) = plan_at(plans, &[], places[k] as usize) {
+                seen ^= plan.touch();
+            }
+        }
+    }
+    seen
+}
+
+// Their curves and limits.
+fn touch_open_parts(plans: &[Arc<Param>], sketch: &Sketch, places: &[u32]) -> usize {
+    let mut seen = 0;
+    for k in 0..places.len() {
+        if sketch.is_open(k) {
+            if let Some(plan) = plan_at(plans, &[], places[k] as usize) {
+                seen ^= plan.touch_parts();
+            }
+        }
+    }
+    seen
+}
+
+/// Reads ahead what finishing by a sketch will ask. The number that it gives says nothing.
+pub fn read_sketched_ahead(
+    slots: &[Slot],
+    params: &Params,
+    values: &[Value],
+    sketch: &Sketch,
+) -> usize {
+    let places = sketch.places();
+    let plans = params.plans();
+    touch_values(values)
+        ^ sketch.touch()
+        ^ read_slots_ahead(slots, places)
+        ^ touch_open(plans, sketch, places)
+        ^ touch_open_parts(plans, sketch, places)
+}
+
+/// Reads ahead what drawing will ask of the plans at these places. The number that it gives says nothing.
+pub fn read_plans_ahead(params: &Params, places: &[u32]) -> usize {
+    let plans = params.plans();
+    touch_all(&[], plans, &[], places) ^ touch_parts(plans, params.plain(), places)
 }
 
 // The plan at a place of which something is kept.

@@ -7,21 +7,20 @@ ghost use Rattle.mib_model.specs.Kept.{has_number};
 ghost use Rattle.mib_model.specs.WholeNumbers.{least_raw, greatest_raw};
 ghost use Rattle.mib_model.specs.declared.packet.Value.{Value};
 ghost use Rattle.fold_state.specs.Boards.{kept_as, memory_of, place_of, plan_names, vacant_for};
+ghost use Rattle.fold_state.specs.Sketches.{after_nominal};
 
-use crate::ahead::{STRIDE, read_ahead, read_rows_ahead};
+use crate::ahead::{FAR, STRIDE, read_ahead, read_rows_ahead, read_sketched_ahead};
 use crate::guesses::Guesses;
+use crate::sketch::Sketch;
 use crate::slot::Slot;
 use bit_field::MOST_VALUES;
 use check_plan::{Holds, Sample};
-use mib_model::{Change, Class, MadeFor, Name};
+use mib_model::{Change, Class, Eng, MadeFor, Name, Value};
 use param_plan::{Param, Params};
 use std::alloc::{AllocError, Global};
 use std::marker::Model;
 use std::mem;
 use std::sync::Arc;
-
-// From so many plans on they don't all lie in the processor's cache, and are read ahead.
-const FAR: usize = 1_024;
 
 /// What is kept of each parameter of an edition: a slot for each plan, in the order of the plans. Contracts see the names
 /// and the slots.
@@ -150,6 +149,15 @@ impl Board {
         first
     }
 
+    /// Reads ahead what finishing values by a sketch will ask.
+    pub(crate) fn begin_sketched(&mut self, params: &Params, values: &[Value], sketch: &Sketch)
+        ensures { self.new ≡ self.old }
+    {
+        if self.slots.len() >= FAR {
+            self.ahead = read_sketched_ahead(&self.slots, params, values, sketch);
+        }
+    }
+
     /// Reads ahead what carrying will ask of the plans from this place on, once for so many places.
     #[inline(always)]
     pub(crate) fn read_on(&mut self, old: &Board, to: &Params, at: usize)
@@ -267,6 +275,17 @@ impl Board {
             (alarm ((memory_of self.old name).spoken, (memory_of self.old name).run) class repeats) }
     {
         self.slots[at].step(class, repeats, sample)
+    }
+
+    /// Takes the step of the alarm of the name at a place after a nominal number, and gives what is told of it.
+    #[inline(always)]
+    pub(crate) fn step_nominal(&mut self, at: usize, number: Eng) -> Option<Change>
+        requires { at < length self.old.names }
+        ensures names { self.new.names ≡ self.old.names }
+        ensures stepped { (name : List ℕ) → place_of self.old name ≡ Some at
+            → (memory_of self.new, result) ≡ after_nominal (memory_of self.old) name number.count }
+    {
+        self.slots[at].step_nominal(number)
     }
 
     /// Keeps something else at a place.

@@ -16,6 +16,7 @@ use param_plan::Param;
 
 impl Board {
     // Classes a sample of the name at a place, and takes a step of its alarm.
+    #[inline(always)]
     fn check_sample(&mut self, at: usize, checks: &Checks, sample: Sample) -> Option<Change>
         requires { at < length self.old.names }
         ensures names { self.new.names ≡ self.old.names }
@@ -27,6 +28,7 @@ impl Board {
     }
 
     /// Checks a value, which has a number, of the name at a place by its plan, where the plan has a check.
+    #[inline(always)]
     pub(crate) fn check(
         &mut self,
         at: usize,

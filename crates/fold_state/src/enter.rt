@@ -86,6 +86,42 @@ impl Board {
         enter_near(&mut self.slots, values, places, seats)
     }
 
+    // Enters the raw numbers of the first values, as long as these places are theirs, notes the places, and tells how many values
+    // they are.
+    #[inline(always)]
+    fn enter_hinted(&mut self, values: &[Value], places: &[u32], seats: &mut Vec<usize>) -> usize
+        ensures few { result ≤ length values.now }
+        ensures names { self.new.names ≡ self.old.names }
+        ensures seats { AreSeated self.old values.now result seats.new.items }
+        ensures memory { All IsRaw values.now → memory_of self.new ≡ Spec.all_entered (memory_of self.old) (take result values.now) }
+    {
+        if places.len() < values.len() || seats.len() < values.len() {
+            return 0;
+        }
+        enter_near(&mut self.slots, values, places, seats)
+    }
+
+    // Enters the raw numbers of the first values, as long as these places are theirs, or where none are given the guesses from here
+    // on, notes the places, and tells how many values they are.
+    #[inline(always)]
+    fn enter_first(
+        &mut self,
+        values: &[Value],
+        first: usize,
+        hints: Option<&[u32]>,
+        seats: &mut Vec<usize>,
+    ) -> usize
+        ensures few { result ≤ length values.now }
+        ensures names { self.new.names ≡ self.old.names }
+        ensures seats { AreSeated self.old values.now result seats.new.items }
+        ensures memory { All IsRaw values.now → memory_of self.new ≡ Spec.all_entered (memory_of self.old) (take result values.now) }
+    {
+        match hints {
+            Some(places) => self.enter_hinted(values, places, seats),
+            None => self.enter_guessed(values, first, seats),
+        }
+    }
+
     // Enters the raw number of a value, whose place is looked for where a guess says, and tells the place.
     #[inline(always)]
     fn enter(&mut self, value: &Value, near: usize) -> usize
@@ -102,15 +138,22 @@ impl Board {
         at
     }
 
-    /// Enters the raw numbers of values, in their order, and notes their places, as far as there are seats for them. The guesses
-    /// of their places begin here.
-    pub(crate) fn enter_all(&mut self, values: &[Value], first: usize, seats: &mut Vec<usize>)
+    /// Enters the raw numbers of values, in their order, and notes their places, as far as there are seats for them. The places are
+    /// looked for where hints say, if there are any, and else where the guesses do from here on.
+    #[inline(always)]
+    pub(crate) fn enter_all(
+        &mut self,
+        values: &[Value],
+        first: usize,
+        hints: Option<&[u32]>,
+        seats: &mut Vec<usize>,
+    )
         ensures names { self.new.names ≡ self.old.names }
         ensures seats { All (λ v. HasSlot self.old v.name) values.now → AreSeated self.old values.now (length values.now) seats.new.items }
         ensures memory { All (λ v. HasSlot self.old v.name) values.now → All IsRaw values.now
             → memory_of self.new ≡ Spec.all_entered (memory_of self.old) values.now }
     {
-        let done = self.enter_guessed(values, first, seats);
+        let done = self.enter_first(values, first, hints, seats);
         for k in done..values.len() {
             let at = self.enter(&values[k], first.saturating_add(k));
             note_seat(seats, k, at);

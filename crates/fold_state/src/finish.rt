@@ -3,7 +3,7 @@ ghost use Rattle.std.specs.List.{All, flat_map};
 ghost use Rattle.std.specs.Option.{option_copied};
 ghost use Rattle.fold_state.specs.Boards.{memory_of, place_of, plan_names};
 ghost use Rattle.fold_state.specs.declared.finish.TheConstants.{TEXT_BEFORE};
-ghost use Rattle.fold_state.specs.Premises.{AreFinished, AreSeated, Fits, HasSlot, IsFinished, IsParamsOf, IsRaw, IsSliceOf};
+ghost use Rattle.fold_state.specs.Premises.{AreEntered, AreFinished, AreSeated, Fits, HasSlot, IsFinished, IsParamsOf, IsRaw, IsSliceOf};
 ghost use Rattle.mib_model.specs.AlarmTexts.{change_text_of};
 ghost use Rattle.mib_model.specs.Bits.{is_inside};
 ghost use Rattle.mib_model.specs.CalibrationViews.{calibrated_as};
@@ -42,16 +42,16 @@ pub struct Seen<'a> {
     pub title: Option<&'a Text>,
 }
 
-// The kind of a packet, by which the places of its values are guessed: its SPID.
-fn kind_of(found: &Found) -> u32 {
+/// The kind of a packet, by which the places of its values are guessed: its SPID.
+pub(crate) fn kind_of(found: &Found) -> u32 {
     match *found {
         Found::Spid { spid, .. } => spid,
         _ => 0,
     }
 }
 
-// The tail of a valid value, for so many decimals.
-fn tail_for<'a>(decimals: u8, given: Option<Cal<'a>>) -> Tail<'a>
+/// The tail of a valid value, for so many decimals.
+pub(crate) fn tail_for<'a>(decimals: u8, given: Option<Cal<'a>>) -> Tail<'a>
     ensures { tail_as result ≡ Spec.tail_for decimals (option_map calibrated_as given.entry) }
 {
     match given {
@@ -60,8 +60,8 @@ fn tail_for<'a>(decimals: u8, given: Option<Cal<'a>>) -> Tail<'a>
     }
 }
 
-// Appends the line of a change, where one is told.
-fn add_change(value: &Value, change: Option<Change>, out: &mut Lines)
+/// Appends the line of a change, where one is told.
+pub(crate) fn add_change(value: &Value, change: Option<Change>, out: &mut Lines)
     requires { length out.old + LINE_MOST ≤ LINES_ROOM }
     ensures text { out.new ≡ out.old ++ change_text_of value.now.name change }
     ensures room { length out.new ≤ length out.old + NOTE_ROOM }
@@ -73,6 +73,7 @@ fn add_change(value: &Value, change: Option<Change>, out: &mut Lines)
 
 impl Board {
     // Finishes a value of the name at a place by its plan: its tail, and the change that is told with it.
+    #[inline(always)]
     fn finish_at<'a>(
         &mut self,
         at: usize,
@@ -106,6 +107,7 @@ impl Board {
     }
 
     // Finishes a value by the plan of its name, which is at this place.
+    #[inline(always)]
     fn finish_by<'a>(
         &mut self,
         params: &'a Params,
@@ -127,10 +129,10 @@ impl Board {
         self.finish_at(seat, &plans[seat], value)
     }
 
-    // Finishes a value, whose place is this, and appends its line and that of what its check tells.
+    /// Finishes a value, whose place is this, and appends its line and that of what its check tells.
     #[tactic(auto, unfolding(mib_model::specs::Texts::value_text))]
     #[inline(always)]
-    fn finish_value(
+    pub(crate) fn finish_value(
         &mut self,
         params: &Params,
         plain: &[bool],
@@ -158,8 +160,8 @@ impl Board {
         add_change(value, change, out);
     }
 
-    // The place of the k-th value, which is noted where there are seats enough.
-    fn seat_of(&self, seats: &[usize], k: usize, value: &Value) -> usize
+    /// The place of the k-th value, which is noted where there are seats enough.
+    pub(crate) fn seat_of(&self, seats: &[usize], k: usize, value: &Value) -> usize
         ensures { (k < length seats.now → place_of self.now value.now.name ≡ Some (get_or seats.now k 0)) → HasSlot self.now value.now.name
             → place_of self.now value.now.name ≡ Some result }
     {
@@ -206,6 +208,35 @@ impl Board {
         }
     }
 
+    /// Enters the raw numbers of values, and gives their places, as far as there are seats for them. The places are looked for where
+    /// hints say, if there are any, and else where the guesses do from here on.
+    #[inline(always)]
+    pub(crate) fn enter_seated(
+        &mut self,
+        values: &[Value],
+        first: usize,
+        hints: Option<&[u32]>,
+    ) -> Vec<usize>
+        ensures names { self.new.names ≡ self.old.names }
+        ensures entered { (db : Database) (params : List ParamSlice) → Fits db params self.old values.now
+            → AreEntered db params values.now self.old self.new result.items }
+    {
+        let mut seats = self.take_seats();
+        self.enter_all(values, first, hints, &mut seats);
+        seats
+    }
+
+    /// Gives the seats back, and appends the line that tells how values ended.
+    pub(crate) fn end(&mut self, seats: Vec<usize>, ended: &Ended, out: &mut Lines)
+        requires { length out.old + LINE_MOST ≤ LINES_ROOM }
+        ensures same { self.new ≡ self.old }
+        ensures text { out.new ≡ out.old ++ ended_text ended.now }
+        ensures room { length out.new ≤ length out.old + NOTE_ROOM }
+    {
+        self.give_seats(seats);
+        ended_line(ended, out);
+    }
+
     /// Finishes the values of a packet: enters their raw numbers, then calibrates and checks each in its order, and appends
     /// the packet's record without its edition. There are at most 8,192 values, whose bits are in the packet, and the text
     /// before has at most `TEXT_BEFORE` octets. What is kept and appended is that of the definitions where the board was made
@@ -226,10 +257,8 @@ impl Board {
     {
         head_line(seen.number, seen.header, seen.found, seen.title, out);
         let first = self.begin(params, kind_of(seen.found), seen.values.len());
-        let mut seats = self.take_seats();
-        self.enter_all(seen.values, first, &mut seats);
+        let seats = self.enter_seated(seen.values, first, None);
         self.finish_all(params, &seats, seen.values, seen.packet, out);
-        self.give_seats(seats);
-        ended_line(seen.ended, out);
+        self.end(seats, seen.ended, out);
     }
 }

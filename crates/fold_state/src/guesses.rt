@@ -3,7 +3,9 @@ ghost use Rattle.std.specs.Prelude.{◌≤◌, ◌+◌};
 
 use crate::slot::Slot;
 use mib_model::{NAME_SIZE, Name};
+use param_plan::Param;
 use std::alloc::{AllocError, Global};
+use std::sync::Arc;
 
 /// The guesses by the octets of a name.
 const NAMED: usize = 65_536;
@@ -54,21 +56,35 @@ fn mixed(name: &Name) -> usize {
 }
 
 impl Guesses {
-    /// Guesses for the names of slots at these places. An error is want of memory.
-    pub fn new(alloc: Global, slots: &[Slot]) -> Result<Guesses, AllocError> {
+    // Guesses for so many names, none of which is noted.
+    fn sized(alloc: Global, count: usize) -> Result<Guesses, AllocError> {
         let nothing = Kind {
             spid: 0,
             first: 0,
             count: 0,
         };
-        let mut guesses = Guesses {
-            kinds: vec![in alloc; nothing; slots.len()]?,
-            places: vec![in alloc; 0; slots.len().saturating_mul(8)]?,
+        Ok(Guesses {
+            kinds: vec![in alloc; nothing; count]?,
+            places: vec![in alloc; 0; count.saturating_mul(8)]?,
             free: 0,
             named: vec![in alloc; 0; NAMED]?,
-        };
+        })
+    }
+
+    /// Guesses for the names of slots at these places. An error is want of memory.
+    pub fn new(alloc: Global, slots: &[Slot]) -> Result<Guesses, AllocError> {
+        let mut guesses = Guesses::sized(alloc, slots.len())?;
         for at in 0..slots.len() {
             guesses.note_name(&slots[at].name, at);
+        }
+        Ok(guesses)
+    }
+
+    /// Guesses for the names of plans at these places. An error is want of memory.
+    pub fn of_plans(alloc: Global, plans: &[Arc<Param>]) -> Result<Guesses, AllocError> {
+        let mut guesses = Guesses::sized(alloc, plans.len())?;
+        for at in 0..plans.len() {
+            guesses.note_name(&plans[at].name(), at);
         }
         Ok(guesses)
     }

@@ -1,12 +1,14 @@
 // What is kept of a parameter.
-ghost use Rattle.std.specs.Prelude.{◌≡◌, ◌≤ℤ◌, Some, option_map, IsTrue};
+ghost use Rattle.std.specs.Prelude.{◌≡◌, ◌≤ℤ◌, None, Some, option_map, IsTrue};
 ghost use Rattle.std.specs.Option.{option_eq};
 ghost use Rattle.std.specs.Ordering.{int_eq};
 ghost use Rattle.check_plan.specs.Samples.{count_of, sample_of};
 ghost use Rattle.mib_model.specs.Alarms.{alarm};
+ghost use Rattle.mib_model.specs.Checks.{Numbered};
 ghost use Rattle.mib_model.specs.Finish.{previous_after};
 ghost use Rattle.mib_model.specs.Kept.{nothing_kept};
 ghost use Rattle.mib_model.specs.WholeNumbers.{least_raw, greatest_raw};
+ghost use Rattle.mib_model.specs.declared.check.Class.TheVariants.{Nominal};
 ghost use Rattle.fold_state.specs.Boards.{kept_as, stepped, turned_back, vacant};
 
 use check_plan::{Alarm, Sample};
@@ -127,6 +129,39 @@ impl Slot {
         let change = self.alarm.step(class, repeats);
         self.check(sample);
         change
+    }
+
+    // Whether no class is spoken of, and the run is ended.
+    #[inline(always)]
+    fn is_calm(&self) -> bool
+        ensures { IsTrue result → self.now.alarm ≡ (None, 0) }
+    {
+        self.alarm.run() == 0 && self.alarm.spoken().is_none()
+    }
+
+    // Keeps a checked number.
+    #[inline(always)]
+    fn keep_number(&mut self, number: Eng)
+        ensures kept { kept_as self.new ≡ (record (kept_as self.old) { previous = Some number.count }) }
+        ensures name { self.new.name ≡ self.old.name }
+    {
+        self.previous = number;
+        self.has_previous = true;
+    }
+
+    /// Takes the step of the alarm after a nominal number, keeps the number, and gives what is told of it.
+    #[inline(always)]
+    #[tactic(auto, unfolding(mib_model::specs::Alarms::alarm))]
+    pub fn step_nominal(&mut self, number: Eng) -> Option<Change>
+        ensures kept { (kept_as self.new, result) ≡ stepped (kept_as self.old) (Numbered number.count)
+            (alarm ((kept_as self.old).spoken, (kept_as self.old).run) Nominal 0) }
+        ensures name { self.new.name ≡ self.old.name }
+    {
+        if self.is_calm() {
+            self.keep_number(number);
+            return None;
+        }
+        self.step(Class::Nominal, 0, Sample::Number(number))
     }
 
     // Keeps a checked number, where a sample is one.

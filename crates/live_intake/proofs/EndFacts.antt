@@ -27,7 +27,7 @@ use Rattle.live_intake.specs.declared.reading.Reading.{Reading}
 use Rattle.live_intake.specs.declared.reading.Reading.TheVariants as reading
 use Rattle.live_intake.specs.Intake.{Counts, EndsAs, EndsBy, Gives, Going, Intakes, Prints, is_out_failed, tail_of}
 use Rattle.live_intake.specs.Opening.{lead_of}
-use Rattle.live_intake.specs.Reading.{Fills, HasReadingCause, IsRead, ReadsOn}
+use Rattle.live_intake.specs.Reading.{Closes, HasReadingCause, IsRead, ReadsOn}
 use Rattle.live_intake.specs.Stamped.{stamp_of, stamped_by, text_of}
 use Rattle.live_intake.proofs.GoingFacts.{Known, AllRead, all-read, done-read, going-on, opened-read}
 use Rattle.live_intake.proofs.StampedFacts.{text-append}
@@ -40,7 +40,7 @@ use Rattle.mib_model.specs.Texts.{cut_text, rest_text}
 
 -- ---- texts in part
 
-part-whole : (text tail : List ℕ) (old new : Known) → Appends old new text → AppendsPrefix old new (text ++ tail)
+pub part-whole : (text tail : List ℕ) (old new : Known) → Appends old new text → AppendsPrefix old new (text ++ tail)
 part-whole text tail old new wrote = (length text, subst (Appends old new) (sym (take_at text tail (length text) refl)) wrote)
 
 part-same : (text : List ℕ) (old new : Known) → Appends old new text → AppendsPrefix old new text
@@ -157,25 +157,25 @@ module _ (first : Database) where
       (part-of own origin left old new (p.text ++ batch) (all-read first own edition db memory cells origin left p.text p.going) (part-whole p.text batch old new (subst (λ w. Appends old w p.text) (sym kept) p.printed)))
       (behind-none (length own < most_packets) before now left same)
 
-  -- writing stopped in the records of a batch
-  pub stops-batch : (read : Reading) (own after : RegisterHistory) (edition : ℕ) (db : Database) (memory : Memory) (cells all : List Cell) (before now : ℕ) (origin left behind old mid new : Known) → length after ≤ most_packets
-      → Fills (edition, db) read own after cells all left behind → HasReadingCause read before now → Prints first own (standing edition db memory) cells origin left old mid
+  -- writing stopped in the records of a stretch
+  pub stops-stretch : (how : Reading) (own middle after : RegisterHistory) (edition : ℕ) (db : Database) (memory : Memory) (cells all : List Cell) (before now : ℕ) (origin left place behind old mid new : Known) → length after ≤ most_packets
+      → ReadsOn (edition, db) own middle cells all left place → Closes (edition, db) how middle after place behind → HasReadingCause how before now → Prints first own (standing edition db memory) cells origin left old mid
       → AppendsPrefix mid new (batch_text edition db memory (all_stamped edition db all)) → Intakes (Err (fault.Print stop.Out)) first after before now origin behind old new
-  stops-batch read own after edition db memory cells all before now origin left behind old mid new few fills cause p wrote = by_reading read fills cause
+  stops-stretch how own middle after edition db memory cells all before now origin left place behind old mid new few r closes cause p wrote = by_reading how closes cause
     where
-      batch : List ℕ
-      batch = batch_text edition db memory (all_stamped edition db all)
+      part : Part first middle origin place old new
+      part =
+          part-of middle origin place old new (p.text ++ batch_text edition db memory (all_stamped edition db all))
+          (all-read first middle edition db memory all origin place p.text (going-on first own middle edition db memory cells all origin left place p.text p.going r)) (part-behind p.text (batch_text edition db memory (all_stamped edition db all)) old mid new p.printed wrote)
 
-      part : (middle : RegisterHistory) (place : Known) → ReadsOn (edition, db) own middle cells all left place → Part first middle origin place old new
-      part middle place r =
-          part-of middle origin place old new (p.text ++ batch) (all-read first middle edition db memory all origin place p.text (going-on first own middle edition db memory cells all origin left place p.text p.going r)) (part-behind p.text batch old mid new p.printed wrote)
-
-      by_reading : (read : Reading) → Fills (edition, db) read own after cells all left behind → HasReadingCause read before now → Intakes (Err (fault.Print stop.Out)) first after before now origin behind old new
-      by_reading reading.Paused (r, some) cause = stopped after before now origin behind behind old new few (part after behind r) (behind-none (length after < most_packets) before now behind cause)
-      by_reading (reading.Opens o) (middle, place, r, opens) cause =
-          stopped after before now origin behind behind old new few (part-more middle after o.edition opens.shown o.cell origin place behind old new opens.is_read (part middle place r)) (behind-none (length after < most_packets) before now behind cause)
-      by_reading (reading.Ended why) (place, r, ends, less) cause =
-          stopped after before now origin place behind old new few (part after place r) (behind-ended why (length after < most_packets) before now place behind ends cause less)
+      by_reading : (how : Reading) → Closes (edition, db) how middle after place behind → HasReadingCause how before now → Intakes (Err (fault.Print stop.Out)) first after before now origin behind old new
+      by_reading reading.Paused (own_is, left_is) cause =
+          stopped after before now origin behind behind old new few
+          (subst (λ o. Part first o origin behind old new) (sym own_is) (subst (λ l. Part first middle origin l old new) (sym left_is) part)) (behind-none (length after < most_packets) before now behind cause)
+      by_reading (reading.Opens o) opens cause =
+          stopped after before now origin behind behind old new few (part-more middle after o.edition opens.shown o.cell origin place behind old new opens.is_read part) (behind-none (length after < most_packets) before now behind cause)
+      by_reading (reading.Ended why) (own_is, ends, less) cause =
+          stopped after before now origin place behind old new few (subst (λ o. Part first o origin place old new) (sym own_is) part) (behind-ended why (length after < most_packets) before now place behind ends cause less)
 
   -- writing stopped in the line of an edition
   pub stops-opening : (own after : RegisterHistory) (course : Course) (edition : ℕ) (shown : Database) (cell : Cell) (before now : ℕ) (origin left behind old mid new : Known) → length after ≤ most_packets → now ≡ before

@@ -4,4 +4,5 @@ mod ReadingFacts
 mod GoingFacts
 mod StepFacts
 mod EndFacts
+mod AheadFacts
 pub mod SharedEdition

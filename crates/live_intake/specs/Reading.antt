@@ -57,6 +57,12 @@ Fills last (reading.Opens opening) before after cells all old new =
 Fills last (reading.Ended why) before after cells all old new =
     (left : Option (List ℕ)) × ReadsOn last before after cells all old left × EndsFeed why left new × (length after < most_packets)
 
+-- why no packet more of an edition is read: the next one opens another batch; or the feed ended before the limit; or none was asked for
+abbrev pub Closes : ℕ × Database → Reading → RegisterHistory → RegisterHistory → Option (List ℕ) → Option (List ℕ) → Type 0
+Closes last reading.Paused before after old new = (after ≡ before) × (new ≡ old)
+Closes last (reading.Opens opening) before after old new = IsOpening last opening before after old new
+Closes last (reading.Ended why) before after old new = (after ≡ before) × EndsFeed why old new × (length after < most_packets)
+
 -- the count of the feed rose where the reading ended by its fault
 abbrev pub HasReadingCause : Reading → ℕ → ℕ → Type 0
 HasReadingCause reading.Paused before now = now ≡ before

@@ -7,6 +7,9 @@
 //! where the edition changes.
 #![tactic(auto)]
 
+mod ahead;
+mod batch;
+mod beside;
 mod ending;
 mod in_use;
 mod intake;

@@ -46,8 +46,8 @@ pub(crate) enum Reading {
     Ended(Filled),
 }
 
-// Reads the next packet into a room, and stamps it.
-fn read_stamped<R: Wait, S: Source>(
+/// Reads the next packet into a room, and stamps it.
+pub(crate) fn read_stamped<R: Wait, S: Source>(
     rt: &R,
     register: &Register<Edition, Board>,
     seat: &mut Seat<Editions<Edition, Board>>,

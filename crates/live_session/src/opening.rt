@@ -7,9 +7,11 @@ ghost use Rattle.mib_model.specs.Desk.{desk_start};
 ghost use Rattle.turn_cell.specs.Seats.{own_moves};
 
 use crate::sides::IntakeSide;
-use decode_session::{Home, Stock, rooms_for};
+use decode_ahead::{Crew, rooms_ahead};
+use decode_session::{Home, Stock};
 use desk::Desk;
 use edition::Edition;
+use edition_plans::Plans;
 use edition_register::{Editions, Register};
 use fold_state::Board;
 use live_intake::InUse;
@@ -36,9 +38,10 @@ pub(crate) fn open(alloc: Global, first: Edition, workers: u8) -> Result<Opened,
     ensures draft { IfOk result (λ opened. desk_of opened.desk ≡ desk_start first) }
     ensures editions { IfOk result (λ opened. editions_of opened.desk ≡ first ∷ []) }
 {
-    let rooms = rooms_for(workers);
+    let rooms = rooms_ahead(workers);
     let mut home = Home::with_rooms(alloc, rooms)?;
     let stock = Stock::with_rooms(alloc, &first, &mut home, rooms)?;
+    let crew = Crew::new(alloc, first.params(), workers, rooms)?;
     let handle = Arc::new(alloc, first)?;
     let desk = Desk::new(alloc, Arc::try_clone(&handle)?)?;
     let (register, intake, seat) = Register::new(alloc, Arc::try_clone(&handle)?)?;
@@ -49,6 +52,7 @@ pub(crate) fn open(alloc: Global, first: Edition, workers: u8) -> Result<Opened,
             seat: intake,
             in_use,
             stock,
+            crew,
             workers,
         },
         seat,

@@ -70,7 +70,7 @@ fn run_both<R: Threads + Wait + Sync, F: Source, D: Source + Send, O: Sink, P: S
             requires seat { IsSeat 0 register.now intake.now.seat }
             requires unused { own_moves intake.now.seat ≡ [] }
             requires fresh { IsFresh (first_of register.now) intake.now.in_use intake.now.stock }
-        { run_intake(rt, register, intake, feed, out) },
+        { run_intake(rt, alloc, register, intake, feed, out) },
     );
     (ended, end)
 }
@@ -116,7 +116,7 @@ pub(crate) fn run<R: Threads + Wait + Sync, F: Source, D: Source + Send, O: Sink
     register.meet(&mut intake.seat, seat);
     match begun {
         Some(end) => {
-            let ended = run_intake(rt, register, intake, feed, out);
+            let ended = run_intake(rt, alloc, register, intake, feed, out);
             return (ended, end);
         }
         None => {

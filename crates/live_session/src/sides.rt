@@ -11,6 +11,7 @@ ghost use Rattle.live_intake.specs.Intake.{Intakes};
 ghost use Rattle.live_session.specs.Sides.{IsFresh};
 ghost use Rattle.turn_cell.specs.Seats.{own_moves, seen_by};
 
+use decode_ahead::Crew;
 use decode_session::{RunEnd, RunFault, Stock, Stop};
 use desk::Desk;
 use desk_lines::{DeskReader, LINE_ROOM};
@@ -34,6 +35,7 @@ pub(crate) struct IntakeSide {
     pub seat: Seat<Editions<Edition, Board>>,
     pub in_use: InUse,
     pub stock: Stock,
+    pub crew: Crew,
     pub workers: u8,
     ghost some: { 1 ≤ workers },
 }
@@ -41,6 +43,7 @@ pub(crate) struct IntakeSide {
 /// Takes in the packets of a feed.
 pub(crate) fn run_intake<R: Threads + Wait + Sync, F: Source, O: Sink>(
     rt: &R,
+    alloc: Global,
     register: &Register<Edition, Board>,
     side: &mut IntakeSide,
     feed: &mut F,
@@ -60,10 +63,12 @@ pub(crate) fn run_intake<R: Threads + Wait + Sync, F: Source, O: Sink>(
 {
     take_in(
         rt,
+        alloc,
         register,
         &mut side.seat,
         &mut side.in_use,
         &mut side.stock,
+        &mut side.crew,
         feed,
         out,
         side.workers,

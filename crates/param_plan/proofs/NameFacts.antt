@@ -1,11 +1,14 @@
 -- What is found by its name among items whose names ascend.
-use Rattle.std.proofs.Common.{◌≡◌, ◌∙◌, ℕ, zero, suc, ◌+◌, ◌-◌, ◌<◌, inl, inr, Bool, true, false, List, Some, None, Less, Equal, Greater, Ordering, length, get_or, refl, sym, ap, subst, arith}
+use Rattle.std.proofs.Common.{◌≡◌, ◌∙◌, ℕ, zero, suc, ◌+◌, ◌-◌, ◌<◌, inl, inr, Bool, true, false, List, [], ◌∷◌, Some, None, Less, Equal, Greater, Ordering, length, get_or, refl, sym, ap, subst, arith, ltb}
 use Rattle.std.proofs.lemmas.Bool.{cases_lt, cases_order}
 use Rattle.std.proofs.lemmas.List.{get_or_default}
 use Rattle.std.proofs.lemmas.List.Sorted.{IsPermutation-refl, searchable_from_sorted}
 use Rattle.std.specs.Cmp.{tied_back}
 use Rattle.std.specs.Cmp.Lexicographic.{nat_list_cmp_total, slice_cmp, texts_ties}
-use Rattle.std.specs.List.{AllAdjacentBelow, find}
+use Rattle.std.proofs.lemmas.Bool.Decides.{nat_tests}
+use Rattle.std.proofs.lemmas.List.Sums.{position_or_len_is}
+use Rattle.std.proofs.lemmas.Slice.Eq.{bytes_eq-Decides}
+use Rattle.std.specs.List.{AllAdjacentBelow, find, position}
 use Rattle.std.specs.List.Sorted.{IsNonDecreasingBy, IsPartitionPoint, IsSortedBy}
 use Rattle.std.specs.Ordering.{is_eq, is_lt, nat_cmp, ordering_index, ordering_reverse}
 use Rattle.std.specs.Str.{bytes_eq}
@@ -18,6 +21,22 @@ equal-from : (r : Ordering) → is_eq r ≡ true → r ≡ Equal
 equal-from Less e = absurd (cc e)
 equal-from Equal e = refl
 equal-from Greater e = absurd (cc e)
+
+module _ {X : Type 0} (p : X → Bool) where
+  -- the first place that passes
+  pub place-first : (xs : List X) (i : ℕ) (d : X) → i < length xs → p (get_or xs i d) ≡ true → ((k : ℕ) → k < i → p (get_or xs k d) ≡ false) → position p xs ≡ Some i
+  place-first xs i d below here before =
+      let is = position_or_len_is p xs i d (omega arith) before (λ _. here) in
+      let within : ltb i (length xs) ≡ true = grind (arith, nat_tests) in
+      rw (is, within) refl
+
+  -- no place passes
+  pub place-none : (xs : List X) → ((k : ℕ) (d : X) → k < length xs → p (get_or xs k d) ≡ false) → position p xs ≡ None
+  place-none [] none = refl
+  place-none (x ∷ xs) none =
+      let is = position_or_len_is p (x ∷ xs) (length (x ∷ xs)) x (omega arith) (λ k below. none k x below) (λ past. absurd (omega (arith, past))) in
+      let without : ltb (length (x ∷ xs)) (length (x ∷ xs)) ≡ false = grind (arith, nat_tests) in
+      rw (is, without) refl
 
 module _ {X : Type 0} (key : X → List ℕ) (name : List ℕ) where
   abbrev pub is_named : X → Bool
@@ -90,3 +109,22 @@ module _ {X : Type 0} (key : X → List ℕ) (name : List ℕ) where
   pub named-missing : (xs : List X) → Rise xs → (i : ℕ)
       → (IsNonDecreasingBy (λ y. ordering_index (order (key y) name)) xs → IsPartitionPoint (λ y. order (key y) name ≡ Less) (λ y. order (key y) name ≡ Greater) xs i) → find is_named xs ≡ None
   named-missing xs up i ends = found-none is_named xs xs (IsPermutation-refl xs) (named-nowhere xs up i ends)
+
+  -- an item of a name is at the first place of the name
+  pub place-named : (xs : List X) → Rise xs → (k : ℕ) (x : X) → k < length xs → x ≡ get_or xs k x → is_named x ≡ true → position is_named xs ≡ Some k
+  place-named xs up k x below is here =
+      let same : key (get_or xs k x) ≡ name = ap key (sym is) ∙ (bytes_eq-Decides (key x) name).0 here in
+      place-first is_named xs k x below (ap is_named (sym is) ∙ here)
+      (λ j before. not-named (get_or xs j x) Less (subst (λ (y : List ℕ). order (key (get_or xs j x)) y ≡ Less) same (below-far xs up j k x before below)) refl)
+
+  -- an item that is neither less nor greater than a name is at its first place
+  pub place-of-tied : (xs : List X) → Rise xs → (k : ℕ) → k < length xs → ((d : X) → order (key (get_or xs k d)) name ≡ Equal) → position is_named xs ≡ Some k
+  place-of-tied [] up k below same = absurd (omega (arith, below))
+  place-of-tied (x ∷ xs) up k below same =
+      let item = get_or (x ∷ xs) k x in
+      place-named (x ∷ xs) up k item below (get_or_default (x ∷ xs) k x item below) (texts_ties (key item) name ∙ ap is_eq (same x))
+
+  -- where a search ends between lower and higher names, the name has no place
+  pub place-missing : (xs : List X) → Rise xs → (i : ℕ)
+      → (IsNonDecreasingBy (λ y. ordering_index (order (key y) name)) xs → IsPartitionPoint (λ y. order (key y) name ≡ Less) (λ y. order (key y) name ≡ Greater) xs i) → position is_named xs ≡ None
+  place-missing xs up i ends = place-none is_named xs (named-nowhere xs up i ends)

@@ -6,11 +6,14 @@ use Rattle.std.specs.Arc.{arc_value}
 use Rattle.std.specs.declared.sync.Arc.{Arc}
 use Rattle.std.specs.Option.{is_some}
 use Rattle.mib_model.specs.declared.plan.CurveRows.{CurveRows}
+use Rattle.mib_model.specs.declared.rows.CurRow.{CurRow}
+use Rattle.mib_model.specs.Finish.{is_valid}
 use Rattle.mib_model.specs.Kept.{Memory}
+use Rattle.mib_model.specs.Kept.{is_met as met}
 use Rattle.param_plan.specs.declared.choice.Selection.{Selection}
 use Rattle.param_plan.specs.Choices.{is_met, only_curve, selections_in}
 use Rattle.param_plan.specs.Plain.{has_no_curve, is_plain, plain_at, plain_behind}
-use Rattle.param_plan.specs.Slices.{ParamSlice, curve_in}
+use Rattle.param_plan.specs.Slices.{ParamSlice, curve_by, curve_in}
 use Rattle.param_plan.proofs.ChoiceFacts.{chosen-same}
 
 both : (a b : Bool) → (a && b) ≡ true → (a ≡ true) × (b ≡ true)
@@ -77,3 +80,23 @@ pub plan-at : (plans : List (Arc ParamSlice Global)) (params : List ParamSlice) 
     → at < length plans → plan ≡ get_or plans at plan → is_plain (arc_value plan) ≡ plain_at params at
 plan-at plans params at plan seen below is =
     ap plain_behind is ∙ (sym (get_or-map plain_behind plans at plan false below) ∙ ap (λ (marks : List Bool). get_or marks at false) (marks-same plans params seen))
+
+-- what has no condition is valid whatever is kept
+pub settled-valid : (s : ParamSlice) (conditional : Bool) → conditional ≡ is_some s.pcf.valid → conditional ≡ false → (memory : Memory)
+    → is_valid memory s.pcf ≡ true
+settled-valid s conditional is none memory = go s.pcf.valid (sym is ∙ none) where
+  go : (name : Option (List ℕ)) → is_some name ≡ false → met memory name s.pcf.valpar ≡ true
+  go None h = refl
+  go (Some name) h = absurd (cc h)
+
+by-rows : (m n : Memory) (curtx : Option (List ℕ)) (curs : List CurRow) (curves : List (Option CurveRows)) → selections_in curtx curs curves ≡ []
+    → curve_by m curtx curs curves ≡ curve_by n curtx curs curves
+by-rows m n (Some name) curs curves none = refl
+by-rows m n None curs curves none =
+    let chosen : Memory → List Selection → Option CurveRows = λ memory selections. option_and_then (λ selection. selection.choice) (find (is_met memory) selections) in
+    sym (chosen-same m None curs curves refl) ∙ (ap (chosen m) none ∙ (sym (ap (chosen n) none) ∙ chosen-same n None curs curves refl))
+
+-- what has no selections has one curve, or none, whatever is kept
+pub settled-curve : (s : ParamSlice) (selections : List Selection) → selections ≡ selections_in s.pcf.curtx s.curs s.curves → selections ≡ []
+    → (m n : Memory) → curve_in s m ≡ curve_in s n
+settled-curve s selections is none m n = by-rows m n s.pcf.curtx s.curs s.curves (sym is ∙ none)

@@ -1,9 +1,11 @@
-ghost use Rattle.std.specs.Prelude.{◌≡◌, ◌≤ℤ◌, ◌+◌, option_map, option_and_then, IfOk, OnOk, OnErr};
+ghost use Rattle.std.specs.Prelude.{◌≡◌, ◌≤ℤ◌, ◌+◌, option_map, option_and_then, true, IfOk, IsTrue, OnOk, OnErr};
 ghost use Rattle.std.specs.List.{find};
 ghost use Rattle.std.specs.Option.{option_copied};
+ghost use Rattle.std.specs.Str.{bytes_eq};
 ghost use Rattle.mib_model.specs.CalibrationViews.{calibrated_as};
 ghost use Rattle.mib_model.specs.Curves.{calibration};
 ghost use Rattle.mib_model.specs.Finish.{is_valid};
+ghost use Rattle.mib_model.specs.Kept.{Memory, empty_memory};
 ghost use Rattle.mib_model.specs.WholeNumbers.{least_raw, greatest_raw};
 ghost use Rattle.param_plan.specs.Choices.{is_met, selections_in};
 ghost use Rattle.param_plan.specs.Plain.{is_plain};
@@ -21,6 +23,7 @@ use std::sync::ledger::Ledger;
 /// The rows of a parameter, compiled. What is asked of it for each value lies together, and the rows lie apart. Contracts
 /// see the rows.
 pub struct Param {
+    name: Name,
     conditional: bool,
     decim: u8,
     without_selections: bool,
@@ -34,6 +37,7 @@ pub struct Param {
 impl Drop for Param {
     fn drop(self) {
         let Param {
+            name: _,
             conditional: _,
             decim: _,
             without_selections: _,
@@ -53,8 +57,8 @@ impl Model for Param {
 
     ghost view = { λ param. slice_of param.rows.value };
 
-    ghost invariant = { λ param. ArePartsOf (slice_of param.rows.value) param.conditional param.decim param.without_selections param.only
-        param.selections.items param.checks };
+    ghost invariant = { λ param. ArePartsOf (slice_of param.rows.value) param.name param.conditional param.decim param.without_selections
+        param.only param.selections.items param.checks };
 }
 
 // The checks of a parameter that has a row of ocf.
@@ -79,6 +83,7 @@ impl Param {
         let pcf = rows.pcf;
         let selections = selections_of(alloc, pcf.curtx, &rows.curs, &rows.curves)?;
         Ok(Param {
+            name: pcf.name,
             conditional: pcf.valid.is_some(),
             decim: pcf.decim,
             without_selections: selections.is_empty(),
@@ -149,10 +154,29 @@ impl Param {
     }
 
     /// The parameter's name.
+    #[inline(always)]
     pub fn name(&self) -> Name
         ensures { result ≡ self.now.pcf.name }
     {
-        self.rows.pcf.name
+        self.name
+    }
+
+    /// Whether this is the parameter's name.
+    #[inline(always)]
+    pub fn is_named(&self, name: &Name) -> bool
+        ensures { result ≡ bytes_eq self.now.pcf.name name.now }
+    {
+        self.name == *name
+    }
+
+    /// Whether there is no condition and no selection, so that each value is valid and its curve is that of CURTX, if any,
+    /// whatever is kept.
+    #[inline(always)]
+    pub fn is_settled(&self) -> bool
+        ensures valid { IsTrue result → (memory : Memory) → is_valid memory self.now.pcf ≡ true }
+        ensures curve { IsTrue result → (memory : Memory) → curve_in self.now memory ≡ curve_in self.now empty_memory }
+    {
+        !self.conditional && self.without_selections
     }
 
     /// The checks, where the parameter has a row of ocf.

@@ -1,6 +1,6 @@
-ghost use Rattle.std.specs.Prelude.{◌≡◌, map, IfOk};
+ghost use Rattle.std.specs.Prelude.{◌≡◌, map, Some, IfOk, IsTrue};
 ghost use Rattle.std.specs.Arc.{arc_value};
-ghost use Rattle.std.specs.List.{find};
+ghost use Rattle.std.specs.List.{find, position};
 ghost use Rattle.std.specs.Option.{option_copied};
 ghost use Rattle.std.specs.Str.{bytes_eq};
 ghost use Rattle.param_plan.specs.Names.{Ascend};
@@ -95,6 +95,37 @@ impl Params {
             Some(plain) => plain,
             None => &[],
         }
+    }
+
+    /// Whether the plan at a place is that of a name.
+    #[inline(always)]
+    pub fn is_at(&self, at: usize, name: &Name) -> bool
+        ensures { IsTrue result → position (λ slice. bytes_eq slice.pcf.name name.now) self.now ≡ Some at }
+    {
+        at < self.plans.len() && self.plans[at].is_named(name)
+    }
+
+    // The place of the plan of a name, by halving.
+    #[inline(never)]
+    fn halved(&self, name: Name) -> Option<usize>
+        ensures { result ≡ position (λ slice. bytes_eq slice.pcf.name name) self.now }
+    {
+        let found = self.plans.binary_search_by_key(&name, |plan| plan.name());
+        match found {
+            Ok(at) => Some(at),
+            Err(_) => None,
+        }
+    }
+
+    /// The place of the plan of a name, which is looked for first at this one.
+    #[inline(always)]
+    pub fn place_near(&self, guess: usize, name: &Name) -> Option<usize>
+        ensures { result ≡ position (λ slice. bytes_eq slice.pcf.name name.now) self.now }
+    {
+        if self.is_at(guess, name) {
+            return Some(guess);
+        }
+        self.halved(*name)
     }
 
     /// The plan of this name, found by halving.

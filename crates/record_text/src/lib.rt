@@ -25,6 +25,7 @@ mod short;
 mod short_texts;
 mod tail;
 mod value;
+mod written;
 
 pub use code::code_line;
 pub use lines::{
@@ -34,3 +35,4 @@ pub use record::{change_line, cut_line, edition_line, ended_line, head_line};
 pub use reply::reply_line;
 pub use tail::Tail;
 pub use value::{begin_value, end_plain_value, end_value, value_line};
+pub use written::add_written;

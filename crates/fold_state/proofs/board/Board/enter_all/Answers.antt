@@ -12,8 +12,8 @@ use Rattle.fold_state.proofs.board.Board.enter_all.Goals as goal
 pub loop-k-init : goal.loop-k-init
 loop-k-init c = record {
   names = refl;
-  seats = λ slots. seated-kept c.args.self.now c.enter_guessed-done.new.self c.args.values.now c.enter_guessed-done.result c.enter_guessed-done.new.seats.items c.enter_guessed-done.ensures.names
-      c.enter_guessed-done.ensures.seats;
+  seats = λ slots. seated-kept c.args.self.now c.enter_first-done.new.self c.args.values.now c.enter_first-done.result c.enter_first-done.new.seats.items c.enter_first-done.ensures.names
+      c.enter_first-done.ensures.seats;
   memory = λ memory same slots numbers. same;
 }
 
@@ -22,7 +22,7 @@ loop-k-preserved c =
     let i = c.loop-k.k in
     let values = c.args.values.now in
     let v = c.index-values-k.result in
-    let board = c.enter_guessed-done.new.self in
+    let board = c.enter_first-done.new.self in
     let below = c.loop-k-test.true in
     let is = c.index-values-k.is in
     let same = c.loop-k.invariant.names in
@@ -42,13 +42,13 @@ loop-k-preserved c =
     }
 
 pub returns-clause-names : goal.returns-clause-names
-returns-clause-names c = c.loop-k.invariant.names ∙ c.enter_guessed-done.ensures.names
+returns-clause-names c = c.loop-k.invariant.names ∙ c.enter_first-done.ensures.names
 
 pub returns-clause-seats : goal.returns-clause-seats
 returns-clause-seats c = λ slots.
     let values = c.args.values.now in
-    let board = c.enter_guessed-done.new.self in
-    let same = c.enter_guessed-done.ensures.names in
+    let board = c.enter_first-done.new.self in
+    let same = c.enter_first-done.ensures.names in
     let seated = c.loop-k.invariant.seats (slots-kept c.args.self.now board values same slots) in
     seated-kept board c.args.self.now values (length values) c.loop-k.seats.items (sym same) (λ k v below within. seated k v (omega (arith, below, c.loop-k-test.false)) within)
 
@@ -56,6 +56,6 @@ pub returns-clause-memory : goal.returns-clause-memory
 returns-clause-memory c = λ slots numbers.
     let values = c.args.values.now in
     let memory = memory_of c.args.self.now in
-    let board = c.enter_guessed-done.new.self in
-    let entered = c.loop-k.invariant.memory memory (c.enter_guessed-done.ensures.memory numbers) (slots-kept c.args.self.now board values c.enter_guessed-done.ensures.names slots) numbers in
+    let board = c.enter_first-done.new.self in
+    let entered = c.loop-k.invariant.memory memory (c.enter_first-done.ensures.memory numbers) (slots-kept c.args.self.now board values c.enter_first-done.ensures.names slots) numbers in
     entered ∙ ap (λ (vs : List Value). all_entered memory vs) (take_all c.loop-k.k values c.loop-k-test.false)

@@ -6,30 +6,27 @@ use Rattle.std.specs.List.{flat_map}
 use Rattle.fold_state.specs.Boards.{Slots, memory_of}
 use Rattle.fold_state.specs.Premises.{AreSeated}
 use Rattle.fold_state.proofs.FinishFacts.{fits-kept}
-use Rattle.fold_state.proofs.SeatFacts.{seated-kept}
 use Rattle.fold_state.proofs.board.Board.finish.Goals as goal
 
 pub returns-clause-memory : goal.returns-clause-memory
 returns-clause-memory c = λ db fits.
     let values = c.args.seen.now.values.now in
-    let same = c.take_seats-seats.ensures ∙ c.begin-first.ensures in
-    let board = c.take_seats-seats.new.self in
+    let same = c.begin-first.ensures in
+    let board = c.begin-first.new.self in
     let began = fits-kept db c.args.params.now c.args.self.now board values (ap (λ (b : Slots). b.names) same) fits in
-    let entered = fits-kept db c.args.params.now board c.enter_all.new.self values c.enter_all.ensures.names began in
-    let seated = seated-kept board c.enter_all.new.self values (length values) c.enter_all.new.seats.items c.enter_all.ensures.names (c.enter_all.ensures.seats began.slots) in
-    let handed = subst (λ (seats : List ℕ). AreSeated c.enter_all.new.self values (length values) seats) (sym c.deref.ensures.value) seated in
-    let memory = c.enter_all.ensures.memory began.slots began.numbers ∙ ap (λ (b : Slots). all_entered (memory_of b) values) same in
-    ap memory_of c.give_seats.ensures ∙ ((c.finish_all.ensures.finished db entered handed).memory ∙ ap (λ (m : Memory). (all_finished db m values).0) memory)
+    let entered = c.enter_seated-seats.ensures.entered db c.args.params.now began in
+    let handed = subst (λ (seats : List ℕ). AreSeated c.enter_seated-seats.new.self values (length values) seats) (sym c.deref.ensures.value) entered.seated in
+    let memory = entered.memory ∙ ap (λ (b : Slots). all_entered (memory_of b) values) same in
+    ap memory_of c.end.ensures.same ∙ ((c.finish_all.ensures.finished db entered.fits handed).memory ∙ ap (λ (m : Memory). (all_finished db m values).0) memory)
 
 pub returns-clause-text : goal.returns-clause-text
 returns-clause-text c = λ db fits.
     let values = c.args.seen.now.values.now in
-    let same = c.take_seats-seats.ensures ∙ c.begin-first.ensures in
-    let board = c.take_seats-seats.new.self in
+    let same = c.begin-first.ensures in
+    let board = c.begin-first.new.self in
     let began = fits-kept db c.args.params.now c.args.self.now board values (ap (λ (b : Slots). b.names) same) fits in
-    let entered = fits-kept db c.args.params.now board c.enter_all.new.self values c.enter_all.ensures.names began in
-    let seated = seated-kept board c.enter_all.new.self values (length values) c.enter_all.new.seats.items c.enter_all.ensures.names (c.enter_all.ensures.seats began.slots) in
-    let handed = subst (λ (seats : List ℕ). AreSeated c.enter_all.new.self values (length values) seats) (sym c.deref.ensures.value) seated in
-    let memory = c.enter_all.ensures.memory began.slots began.numbers ∙ ap (λ (b : Slots). all_entered (memory_of b) values) same in
-    let text = (c.finish_all.ensures.finished db entered handed).text ∙ ap (λ (m : Memory). c.head_line.new.out ++ flat_map (told_text c.args.seen.now.packet.now) (all_finished db m values).1) memory in
-    c.ended_line.ensures.text ∙ (rw (text, c.head_line.ensures.text) (simp append_assoc))
+    let entered = c.enter_seated-seats.ensures.entered db c.args.params.now began in
+    let handed = subst (λ (seats : List ℕ). AreSeated c.enter_seated-seats.new.self values (length values) seats) (sym c.deref.ensures.value) entered.seated in
+    let memory = entered.memory ∙ ap (λ (b : Slots). all_entered (memory_of b) values) same in
+    let text = (c.finish_all.ensures.finished db entered.fits handed).text ∙ ap (λ (m : Memory). c.head_line.new.out ++ flat_map (told_text c.args.seen.now.packet.now) (all_finished db m values).1) memory in
+    c.end.ensures.text ∙ (rw (text, c.head_line.ensures.text) (simp append_assoc))
