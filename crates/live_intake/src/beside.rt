@@ -149,6 +149,21 @@ fn run_beside<K: Tables + Send + Sync, R: Threads + Wait + Sync, S: Source, O: S
             requires rooms { vec_len stock.now.rooms + length waiting.now.items ≤ vec_capacity stock.now.rooms }
             requires waiting { vec_len stock.now.rooms + length waiting.now.items ≤ waiting.now.capacity }
             requires names { stock.now.board.names ≡ plan_names (param_slices edition.now) }
+            ensures seat { IsSeat 0 register.entry.now seat.exit.now }
+            ensures seen { StartsWith (seen_by seat.exit.now) (seen_by seat.entry.now) }
+            ensures taken { IsTaken result (first_of register.entry.now) edition.entry.now (S.faults (source_of feed.entry.now)) (S.faults (source_of feed.exit.now))
+                (own_moves seat.entry.now) (own_moves seat.exit.now) waiting.entry.now.items (S.left (source_of feed.entry.now)) (S.left (source_of feed.exit.now))
+                (O.written out.entry.now) (O.written out.exit.now) (memory_of stock.entry.now.board) (memory_of stock.exit.now.board) }
+            ensures read { IfOk result (λ reading. HasReadingCause reading (S.faults (source_of feed.entry.now)) (S.faults (source_of feed.exit.now))) }
+            ensures cause { HasCause (O.faults out.entry.now) (O.faults out.exit.now) result }
+            ensures number { number.exit.now ≡ length (own_moves seat.exit.now) + 1 }
+            ensures limit { number.exit.now ≤ most_packets + 1 }
+            ensures free { IfOk result (λ reading. vec_len stock.exit.now.rooms + held_by reading ≡ vec_len stock.entry.now.rooms + length waiting.entry.now.items) }
+            ensures rooms { vec_capacity stock.entry.now.rooms ≤ vec_capacity stock.exit.now.rooms }
+            ensures cells { stock.exit.now.cells ≡ stock.entry.now.cells }
+            ensures names { stock.exit.now.board.names ≡ stock.entry.now.board.names }
+            ensures missed { S.missed (source_of feed.exit.now) ≡ S.missed (source_of feed.entry.now) }
+            ensures borrow { S.borrow (source_of feed.exit.now) ≡ S.borrow (source_of feed.entry.now) }
         { take_open(rt, register, seat, edition, number, ahead, waiting, stock, feed, out) },
     )
 }

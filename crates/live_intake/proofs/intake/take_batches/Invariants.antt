@@ -12,8 +12,8 @@ use Rattle.live_intake.proofs.intake.take_batches.Given as goal
 use Rattle.packet_feed.specs.Feed.{source_of}
 use Rattle.turn_cell.specs.Seats.{own_moves, seen_by}
 
-abbrev pub invariant-loop-feed : goal.invariant-loop-feed
-invariant-loop-feed g l = record {
+abbrev pub invariant-loop-alloc : goal.invariant-loop-alloc
+invariant-loop-alloc g l = record {
   seat : IsSeat 0 l.register l.seat;
   seen : StartsWith (seen_by l.seat) (seen_by l.initial.seat);
   number : l.number ≡ length (own_moves l.seat) + 1;
@@ -30,5 +30,5 @@ invariant-loop-feed g l = record {
   out : g.O.Sink.faults l.out ≡ g.O.Sink.faults l.initial.out;
 }
 
-abbrev pub decreases-loop-feed : goal.decreases-loop-feed
-decreases-loop-feed g l = 2 * most_packets + 3 - (2 * l.number - vec_len l.stock.cells)
+abbrev pub decreases-loop-alloc : goal.decreases-loop-alloc
+decreases-loop-alloc g l = 2 * most_packets + 3 - (2 * l.number - vec_len l.stock.cells)
