@@ -107,6 +107,7 @@ impl<K: Tables> Bench<K> {
 // How often a worker looks before it lets others run, and how long it spins between two looks: who puts a packet on the bench
 // waits for those that look there.
 const SPINS: u32 = 50;
+
 const SPIN: u32 = 8;
 
 // How often a worker looks before it takes it that the intake runs after it.

@@ -18,13 +18,7 @@ pub fn run_beside<
     R: Threads + Wait + Sync,
     A,
     F: FnMut() -> A,
->(
-    rt: &R,
-    plans: &P,
-    bench: &Bench<K>,
-    tools: &mut [Tool],
-    intake: &mut F,
-) -> A
+>(rt: &R, plans: &P, bench: &Bench<K>, tools: &mut [Tool], intake: &mut F) -> A
     requires plans { K.tables ≡ P.tables plans.now }
     requires tools { 0 < length tools.old }
     requires intake { F.pre intake.old }

@@ -12,6 +12,7 @@ const MOST_TOOLS: u8 = 3;
 
 // The packets that are read ahead for one worker, and for more.
 const FOR_ONE: u16 = 16;
+
 const FOR_MORE: u16 = 32;
 
 /// How many packets are read ahead where so many workers decode them: as few as keep all of them at work, since what one processor

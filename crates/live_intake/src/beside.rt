@@ -164,7 +164,11 @@ fn run_beside<K: Tables + Send + Sync, R: Threads + Wait + Sync, S: Source, O: S
             ensures names { stock.exit.now.board.names ≡ stock.entry.now.board.names }
             ensures missed { S.missed (source_of feed.exit.now) ≡ S.missed (source_of feed.entry.now) }
             ensures borrow { S.borrow (source_of feed.exit.now) ≡ S.borrow (source_of feed.entry.now) }
-        { take_open(rt, register, seat, edition, number, ahead, waiting, stock, feed, out) },
+        {
+            take_open(
+                rt, register, seat, edition, number, ahead, waiting, stock, feed, out,
+            )
+        },
     )
 }
 
@@ -213,16 +217,33 @@ pub(crate) fn take_beside<K: Tables + Send + Sync, R: Threads + Wait + Sync, S: 
     let room = stock.rooms.len() + stock.cells.len();
     let Crew { rooms, tools, own } = crew;
     let Ok(bench) = Bench::<K>::new(alloc, BENCH_ROOM) else {
-        return take_batch(rt, register, seat, edition, number, stock, feed, out, workers);
+        return take_batch(
+            rt, register, seat, edition, number, stock, feed, out, workers,
+        );
     };
     let Ok(mut waiting) = HeapCircularBuffer::with_capacity(alloc, room) else {
-        return take_batch(rt, register, seat, edition, number, stock, feed, out, workers);
+        return take_batch(
+            rt, register, seat, edition, number, stock, feed, out, workers,
+        );
     };
     let Ok(mut ahead) = Ahead::new(alloc, &bench, rooms, own, room) else {
-        return take_batch(rt, register, seat, edition, number, stock, feed, out, workers);
+        return take_batch(
+            rt, register, seat, edition, number, stock, feed, out, workers,
+        );
     };
     gather(&mut stock.cells, &mut waiting);
     run_beside(
-        rt, register, seat, edition, number, &bench, &mut ahead, &mut waiting, tools, stock, feed, out,
+        rt,
+        register,
+        seat,
+        edition,
+        number,
+        &bench,
+        &mut ahead,
+        &mut waiting,
+        tools,
+        stock,
+        feed,
+        out,
     )
 }

@@ -24,9 +24,7 @@ use crate::in_use::InUse;
 use crate::opening::begin;
 use crate::reading::{Opening, Reading};
 use decode_ahead::Crew;
-use decode_session::{
-    Cell, MOST_PACKETS, RunEnd, RunFault, Stock, Stop, hand_on_before_wait,
-};
+use decode_session::{Cell, MOST_PACKETS, RunEnd, RunFault, Stock, Stop, hand_on_before_wait};
 use edition::Edition;
 use edition_register::{Editions, Register};
 use fold_state::Board;
@@ -103,7 +101,9 @@ fn take_stretch<R: Threads + Wait + Sync, S: Source, O: Sink>(
             rt, alloc, register, seat, edition, number, stock, crew, feed, out, workers,
         )
     } else {
-        take_batch(rt, register, seat, edition, number, stock, feed, out, workers)
+        take_batch(
+            rt, register, seat, edition, number, stock, feed, out, workers,
+        )
     }
 }
 
@@ -189,7 +189,7 @@ fn take_batches<R: Threads + Wait + Sync, S: Source, O: Sink>(
 
 /// Takes in the packets of a source: each is stamped as soon as it is read, and its record is written by the tables of its
 /// edition, in the order of the stamps. It reads at most as many packets ahead of what it has written as there are rooms, hands
-/// on what it wrote before it may wait for the source, and at its end. It takes no memory.
+/// on what it wrote before it may wait for the source, and at its end. Where there is no memory for workers it goes without them.
 #[tactic(auto, using(crate::proofs::EndFacts::unflushed))]
 pub fn take_in<R: Threads + Wait + Sync, S: Source, O: Sink>(
     rt: &R,

@@ -86,7 +86,7 @@ fn run_opened<R: Threads + Wait + Sync, F: Source, D: Source + Send, O: Sink, P:
 
 /// A live run from this edition on. The lines of the desk up to the first `go` are handled before a packet is read; then the
 /// packets of the feed are printed, decoded by so many workers, while the other lines are handled in another thread. It reads at
-/// most 64 packets ahead of what it has printed, with one worker 4, and waits for its turn at the register. An error is want of
+/// most 32 packets ahead of what it has printed, with one worker 16, and waits for its turn at the register. An error is want of
 /// memory, before anything is read or written.
 pub fn live_run<R: Threads + Wait + Sync, F: Source, D: Source + Send, O: Sink, P: Sink + Send>(
     rt: &R,

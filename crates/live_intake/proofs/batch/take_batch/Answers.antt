@@ -30,7 +30,7 @@ returns-in_default-clause-stops g c = λ e last.
     let db = c.args.edition.now in let memory = memory_of c.args.stock.now.board in
     let left = g.S.Source.left (source_of c.args.feed.now) in let behind = g.S.Source.left (source_of c.fill-reading.new.feed) in
     let parts = fills-parts e db c.fill-reading.result (own_moves c.args.seat.now) (own_moves c.fill-reading.new.seat) c.args.stock.now.cells.items c.fill-reading.new.cells.items left behind
-        (subst (λ (p : ℕ × Database). Fills p c.fill-reading.result (own_moves c.args.seat.now) (own_moves c.fill-reading.new.seat) c.args.stock.now.cells.items c.fill-reading.new.cells.items left behind) last c.fill-reading.ensures.fills) in
+    (subst (λ (p : ℕ × Database). Fills p c.fill-reading.result (own_moves c.args.seat.now) (own_moves c.fill-reading.new.seat) c.args.stock.now.cells.items c.fill-reading.new.cells.items left behind) last c.fill-reading.ensures.fills) in
     record {
       reading = c.fill-reading.result;
       all = c.fill-reading.new.cells.items;

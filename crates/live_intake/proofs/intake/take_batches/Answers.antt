@@ -71,7 +71,7 @@ returns-in_default-take_stretch-clause-intakes g c =
     let before = g.S.Source.faults (source_of c.loop-alloc.feed) in let now = g.S.Source.faults (source_of c.take_stretch.new.feed) in
     let n = c.take_stretch.ensures.number in let m = c.take_stretch.ensures.limit in
     let s = subst (λ (x : Database). Stops e x before now own after cells left behind mid new memory) c.deref.ensures
-        (c.in_default-take_stretch.ensures.stops e (inv.last ∙ ap (λ (x : Database). (e, x)) (sym c.deref.ensures))) in
+    (c.in_default-take_stretch.ensures.stops e (inv.last ∙ ap (λ (x : Database). (e, x)) (sym c.deref.ensures))) in
     stops-stretch first s.reading own s.middle after e db memory cells s.all (g.S.Source.faults (source_of c.args.feed.now)) now origin left s.place behind old mid new (omega arith) s.reads s.closes
     (subst (λ (k : ℕ). HasReadingCause s.reading k now) inv.feed s.cause)
     (subst (λ w. Prints first own (standing e db memory) cells origin left old w) (sym c.hand_on_before_wait.ensures.written) inv.prints) s.part
@@ -83,7 +83,7 @@ loop-alloc-smaller-in-Paused g c =
     let left = g.S.Source.left (source_of c.loop-alloc.feed) in let behind = g.S.Source.left (source_of c.take_stretch.new.feed) in
     let own = own_moves c.loop-alloc.seat in let after = own_moves c.take_stretch.new.seat in let cells = c.loop-alloc.stock.cells.items in
     let T = taken-as e c.deref.result.now db c.in-Ok-take_stretch.reading Paused own after cells left behind (g.O.Sink.written c.hand_on_before_wait.new.out) (g.O.Sink.written c.take_stretch.new.out)
-        (memory_of c.loop-alloc.stock.board) (memory_of c.take_stretch.new.stock.board) c.deref.ensures c.in-Paused.is (last_stamped (1, first_of c.args.register.now) own) inv.last c.in-Ok-take_stretch.ensures.takes in
+    (memory_of c.loop-alloc.stock.board) (memory_of c.take_stretch.new.stock.board) c.deref.ensures c.in-Paused.is (last_stamped (1, first_of c.args.register.now) own) inv.last c.in-Ok-take_stretch.ensures.takes in
     let a = reads-count (e, db) own after cells T.all left behind T.fills.0 in
     let front = ap (λ (l : List Cell). length l) T.fills.0.behind ∙ length-append cells T.fills.0.more in
     let some = T.fills.1 in let n = inv.number in let m = c.take_stretch.ensures.number in let k = c.take_stretch.ensures.limit in
@@ -125,7 +125,7 @@ begin-requires-clause-start g c =
     let left = g.S.Source.left (source_of c.loop-alloc.feed) in let behind = g.S.Source.left (source_of c.take_stretch.new.feed) in
     let own = own_moves c.loop-alloc.seat in let after = own_moves c.take_stretch.new.seat in let cells = c.loop-alloc.stock.cells.items in
     let T = taken-as e c.deref.result.now db c.in-Ok-take_stretch.reading (Opens c.in-Opens.field-0) own after cells left behind (g.O.Sink.written c.hand_on_before_wait.new.out) (g.O.Sink.written c.take_stretch.new.out)
-        (memory_of c.loop-alloc.stock.board) (memory_of c.take_stretch.new.stock.board) c.deref.ensures c.in-Opens.is (last_stamped (1, first) own) inv.last c.in-Ok-take_stretch.ensures.takes in
+    (memory_of c.loop-alloc.stock.board) (memory_of c.take_stretch.new.stock.board) c.deref.ensures c.in-Opens.is (last_stamped (1, first) own) inv.last c.in-Ok-take_stretch.ensures.takes in
     ap (λ (t : Database). is_made_for t c.in-Opens.field-0.start.board) T.fills.3.is_start.0 ∙ T.fills.3.is_start.1
 
 pub loop-alloc-smaller : goal.loop-alloc-smaller
@@ -135,7 +135,7 @@ loop-alloc-smaller g c =
     let left = g.S.Source.left (source_of c.loop-alloc.feed) in let behind = g.S.Source.left (source_of c.take_stretch.new.feed) in
     let own = own_moves c.loop-alloc.seat in let after = own_moves c.take_stretch.new.seat in let cells = c.loop-alloc.stock.cells.items in
     let T = taken-as e c.deref.result.now db c.in-Ok-take_stretch.reading (Opens c.in-Opens.field-0) own after cells left behind (g.O.Sink.written c.hand_on_before_wait.new.out) (g.O.Sink.written c.take_stretch.new.out)
-        (memory_of c.loop-alloc.stock.board) (memory_of c.take_stretch.new.stock.board) c.deref.ensures c.in-Opens.is (last_stamped (1, first) own) inv.last c.in-Ok-take_stretch.ensures.takes in
+    (memory_of c.loop-alloc.stock.board) (memory_of c.take_stretch.new.stock.board) c.deref.ensures c.in-Opens.is (last_stamped (1, first) own) inv.last c.in-Ok-take_stretch.ensures.takes in
     let fills = T.fills in
     let a = reads-count (e, db) own fills.0 cells T.all left fills.1 fills.2 in
     let front = ap (λ (l : List Cell). length l) fills.2.behind ∙ length-append cells fills.2.more in
@@ -203,7 +203,7 @@ end_as-requires g c =
     let left = g.S.Source.left (source_of c.loop-alloc.feed) in let behind = g.S.Source.left (source_of c.take_stretch.new.feed) in
     let own = own_moves c.loop-alloc.seat in let after = own_moves c.take_stretch.new.seat in let cells = c.loop-alloc.stock.cells.items in
     let T = taken-as e c.deref.result.now db c.in-Ok-take_stretch.reading (Ended c.in-Ended.why) own after cells left behind (g.O.Sink.written c.hand_on_before_wait.new.out) (g.O.Sink.written c.take_stretch.new.out)
-        (memory_of c.loop-alloc.stock.board) (memory_of c.take_stretch.new.stock.board) c.deref.ensures c.in-Ended.is (last_stamped (1, first) own) inv.last c.in-Ok-take_stretch.ensures.takes in
+    (memory_of c.loop-alloc.stock.board) (memory_of c.take_stretch.new.stock.board) c.deref.ensures c.in-Ended.is (last_stamped (1, first) own) inv.last c.in-Ok-take_stretch.ensures.takes in
     λ paused. subst (λ (f : Filled). EndsFeed f T.fills.0 behind) paused T.fills.2
 
 pub returns-in-Ended-clause-intakes : goal.returns-in-Ended-clause-intakes
