@@ -8,12 +8,12 @@ use Rattle.std.proofs.lemmas.List.{map-append}
 use Rattle.tm_io.specs.Octets.{AppendsPrefix}
 use Rattle.decode_session.specs.declared.cell.Cell.{Cell}
 use Rattle.decode_session.specs.Cells.{stamped_in, all_stamped}
-use Rattle.decode_session.specs.Finishing.{batch_text, next_text, Leaves, LeavesAfter}
+use Rattle.decode_session.specs.Finishing.{batch_text, next_text, LeavesAfter}
 use Rattle.decode_session.specs.Moving.{Moves}
 use Rattle.decode_session.proofs.FinishFacts.{leaves-append, leaves-none, leaves-one, moves-more, moves-on, part-behind, part-longer, text-append, text-none, text-one}
 use Rattle.live_intake.specs.declared.reading.Reading.{Reading}
 use Rattle.live_intake.specs.declared.reading.Reading.TheVariants as reading
-use Rattle.live_intake.specs.Ahead.{BreaksIn, Finishes, FinishesAll, Goes, GoesOn}
+use Rattle.live_intake.specs.Ahead.{BreaksIn, Finishes, FinishesAll, GoesOn}
 use Rattle.live_intake.specs.Reading.{Closes, Fills, HasReadingCause, IsRead, ReadsOn}
 use Rattle.live_intake.specs.Stretches.{Stops, Takes}
 use Rattle.live_intake.proofs.EndFacts.{part-whole}

@@ -1,5 +1,5 @@
 -- Packets with the stamps that an intake's moves show. [This profile.]
-use Rattle.std.specs.Prelude.{ℕ, List, [], ◌∷◌, ◌++◌, map}
+use Rattle.std.specs.Prelude.{ℕ, List, [], ◌∷◌, map}
 use Rattle.std.specs.List.{flat_map, zip}
 use Rattle.decode_session.specs.declared.cell.Cell.{Cell}
 use Rattle.histories.specs.History.{move}

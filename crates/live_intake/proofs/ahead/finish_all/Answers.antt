@@ -1,4 +1,4 @@
-use Rattle.std.proofs.Common.{◌≡◌, ◌+◌, List, length, refl, ap, ◌∙◌, arith}
+use Rattle.std.proofs.Common.{List, length, refl, ap, ◌∙◌, arith}
 use Rattle.decode_session.specs.declared.cell.Cell.{Cell}
 use Rattle.fold_state.specs.Boards.{memory_of}
 use Rattle.live_intake.proofs.AheadFacts.{if-err, some-breaks, some-more, some-start}

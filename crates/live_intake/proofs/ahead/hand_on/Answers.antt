@@ -1,4 +1,4 @@
-use Rattle.std.proofs.Common.{Result, Ok, Err, OnErr, sym, subst}
+use Rattle.std.proofs.Common.{sym, subst}
 use Rattle.live_intake.proofs.AheadFacts.{moves-part, on-err}
 use Rattle.live_intake.proofs.ahead.hand_on.Goals as goal
 use Rattle.tm_io.specs.Octets.{AppendsPrefix}

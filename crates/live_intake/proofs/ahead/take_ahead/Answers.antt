@@ -1,4 +1,4 @@
-use Rattle.std.proofs.Common.{◌≡◌, ℕ, ◌+◌, ◌<◌, List, [], ◌∷◌, ◌++◌, length, length-append, refl, sym, ap, subst, ◌∙◌, append-nil, arith}
+use Rattle.std.proofs.Common.{◌≡◌, ℕ, List, [], ◌∷◌, length, length-append, refl, sym, ap, subst, ◌∙◌, append-nil, arith}
 use Rattle.decode_session.specs.declared.cell.Cell.{Cell}
 use Rattle.edition_register.specs.Seats.{first_of}
 use Rattle.edition_register.specs.Shown.{last_stamped}

@@ -1,9 +1,8 @@
-use Rattle.std.proofs.Common.{◌≡◌, ℕ, ◌+◌, ◌<◌, ◌≤◌, length, vec_len, vec_capacity}
+use Rattle.std.proofs.Common.{◌≡◌, ℕ, ◌+◌, ◌≤◌, length, vec_len, vec_capacity}
 use Rattle.decode_session.specs.Run.{most_packets}
-use Rattle.edition_plans.specs.Params.{param_slices}
 use Rattle.edition_register.specs.Seats.{IsSeat, first_of}
 use Rattle.edition_register.specs.Shown.{last_stamped}
-use Rattle.fold_state.specs.Boards.{memory_of, plan_names}
+use Rattle.fold_state.specs.Boards.{memory_of}
 use Rattle.histories.specs.History.{StartsWith}
 use Rattle.live_intake.specs.Ahead.{GoesOn}
 use Rattle.live_intake.proofs.ahead.take_ahead.Given as goal

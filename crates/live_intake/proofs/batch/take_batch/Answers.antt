@@ -1,12 +1,10 @@
 use denote.Param.Send.{sendable}
-use Rattle.std.proofs.Common.{◌≡◌, ℕ, List, refl, sym, subst}
+use Rattle.std.proofs.Common.{ℕ, List, refl, sym, subst}
 use Rattle.std.specs.List.{All}
 use Rattle.std.specs.Io.KnownBytes.{Appends}
 use Rattle.tm_io.specs.Octets.{AppendsPrefix}
 use Rattle.decode_session.specs.Cells.{IsReady}
 use Rattle.decode_session.proofs.RunSteps.{ready-all}
-use Rattle.edition_register.specs.Seats.{first_of}
-use Rattle.edition_register.specs.Shown.{last_stamped}
 use Rattle.fold_state.specs.Boards.{memory_of}
 use Rattle.live_intake.specs.Reading.{Fills}
 use Rattle.live_intake.proofs.AheadFacts.{fills-parts}

@@ -1,6 +1,5 @@
-use Rattle.std.proofs.Common.{◌≡◌, ℕ, ◌+◌, List, [], ◌∷◌, ◌++◌, length, length-append, refl, sym, ap, subst, ◌∙◌, append-nil, arith}
+use Rattle.std.proofs.Common.{◌≡◌, ℕ, List, [], ◌∷◌, ◌++◌, length, length-append, refl, sym, ap, subst, ◌∙◌, append-nil, arith}
 use Rattle.std.specs.Arc.{arc_value}
-use Rattle.tm_io.specs.Octets.{AppendsPrefix}
 use Rattle.decode_session.specs.declared.cell.Cell.{Cell}
 use Rattle.decode_session.specs.declared.batch.Filled.{Filled}
 use Rattle.decode_session.specs.Batches.{EndsFeed}
