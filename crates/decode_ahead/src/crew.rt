@@ -1,5 +1,5 @@
 // What workers need.
-ghost use Rattle.std.specs.Prelude.{◌≡◌, ◌<◌, ◌≤◌, vec_len, IfOk};
+ghost use Rattle.std.specs.Prelude.{◌≡◌, ◌<◌, ◌≤◌, ◌==◌, if◌then◌else◌, vec_len, IfOk};
 ghost use Rattle.decode_session.specs.Run.{most_in_flight};
 
 use crate::tool::Tool;
@@ -18,6 +18,7 @@ const FOR_MORE: u16 = 32;
 /// How many packets are read ahead where so many workers decode them: as few as keep all of them at work, since what one processor
 /// wrote is to lie in its cache still when another reads it.
 pub fn rooms_ahead(workers: u8) -> u16
+    ensures count { result ≡ (if workers == 1 then 16 else 32) }
     ensures some { 0 < result }
     ensures few { result ≤ most_in_flight }
 {

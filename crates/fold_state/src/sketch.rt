@@ -146,6 +146,33 @@ fn start_of(ends: &[LineEnd], k: usize) -> usize
     if k == 0 { 0 } else { ends[k - 1].end as usize }
 }
 
+// Octets of a text, one in each line of the processor's cache.
+fn touch_text(text: &[u8]) -> usize {
+    let mut seen = 0;
+    for at in (0..text.len()).step_by(64) {
+        seen ^= usize::from(text[at]);
+    }
+    seen
+}
+
+// Ends of lines, likewise.
+fn touch_ends(ends: &[LineEnd]) -> usize {
+    let mut seen = 0;
+    for at in (0..ends.len()).step_by(8) {
+        seen ^= ends[at].end as usize;
+    }
+    seen
+}
+
+// Numbers, likewise.
+fn touch_numbers(numbers: &[Eng]) -> usize {
+    let mut seen = 0;
+    for at in (0..numbers.len()).step_by(4) {
+        seen ^= usize::from(numbers[at].count < 0);
+    }
+    seen
+}
+
 impl Sketch {
     /// A sketch of nothing. An error is want of memory.
     pub fn new(alloc: Global) -> Result<Sketch, AllocError>
@@ -195,15 +222,15 @@ impl Sketch {
         true
     }
 
-    /// Where the plans of the first values were found, or something else.
+    /// Where the plans of the first values were found. They say nothing.
     #[inline(always)]
-    pub fn places(&self) -> &[u32] {
+    pub(crate) fn places(&self) -> &[u32] {
         &self.places
     }
 
     /// Whether nothing is known of a value. It says nothing.
     #[inline(always)]
-    pub fn is_open(&self, k: usize) -> bool {
+    pub(crate) fn is_open(&self, k: usize) -> bool {
         match self.ends.get(k) {
             Some(end) => matches!(end.noted, Noted::Open),
             None => true,
@@ -211,18 +238,8 @@ impl Sketch {
     }
 
     /// A number made of the lines and of their marks: who asks for it early has them at hand later.
-    pub fn touch(&self) -> usize {
-        let mut seen = 0;
-        for at in (0..self.text.len()).step_by(64) {
-            seen ^= usize::from(self.text[at]);
-        }
-        for at in (0..self.ends.len()).step_by(8) {
-            seen ^= self.ends[at].end as usize;
-        }
-        for at in (0..self.numbers.len()).step_by(4) {
-            seen ^= usize::from(self.numbers[at].count < 0);
-        }
-        seen
+    pub(crate) fn touch(&self) -> usize {
+        touch_text(&self.text) ^ touch_ends(&self.ends) ^ touch_numbers(&self.numbers)
     }
 
     /// A line and its mark.
