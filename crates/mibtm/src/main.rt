@@ -1,25 +1,10 @@
-//! The monitoring half of a spacecraft control system in the manner of SCOS-2000: `check DIR` reads the tables of a
-//! monitoring database from a folder, tests them and prints a summary; `decode DIR FEED` cuts a feed into space packets
-//! and prints the values of each by such tables; `live DIR FEED DESK` does so while the lines of a desk edit the tables and put
-//! new editions of them to use; `drill SEED` decodes a generated feed, and prints counts.
-//!
-//! The call `tool` promises what is printed for these tables and this feed, and with which status it ends; `main`
-//! hands it real files and streams. It stands on `tm_io` for these, on `session` and `mib_keys` for sound tables, on
-//! `book_summary` for the summary, on `decode_session` for runs, on `live_session` for live ones, on `tm_drill` for a
-//! generated one, and on `mib_model` for all definitions.
+//! The monitoring half of a spacecraft control system in the manner of SCOS-2000, as a program: `main` hands the words of its
+//! command line, real files and standard streams to the call `tool` of `mibtm_tool`, which promises what is printed and with
+//! which status it ends. The line of that status goes to standard error. It stands on `tm_io` for files and streams.
 #![tactic(auto)]
 
-mod check;
-mod codes;
-mod decode;
-mod drill;
-mod live;
-mod load;
-mod print;
-mod tool;
-
-use crate::tool::tool;
 use mib_model::{Code, Line, Misuse};
+use mibtm_tool::tool;
 use record_text::code_line;
 use std::alloc::AllocError;
 use std::env;
@@ -113,12 +98,3 @@ fn main(rt: HostRuntime) -> ExitCode {
     tell(rt, &code);
     ExitCode::from(code.number())
 }
-
-#[cfg(test)]
-mod check_tests;
-#[cfg(test)]
-mod decode_tests;
-#[cfg(test)]
-mod drill_tests;
-#[cfg(test)]
-mod tests;

@@ -6,7 +6,15 @@
 #![tactic(auto)]
 
 #[cfg(test)]
+mod checks;
+#[cfg(test)]
+mod decodes;
+#[cfg(test)]
+mod drill_calls;
+#[cfg(test)]
 mod drills;
+#[cfg(test)]
+mod folders;
 #[cfg(test)]
 mod pieces;
 #[cfg(test)]

@@ -1,5 +1,0 @@
-use Rattle.mibtm.proofs.Completeness.{completes_check}
-use Rattle.mibtm.proofs.tool.checking_is_complete.Goals as goal
-
-pub returns : goal.returns
-returns g c = completes_check

@@ -1,0 +1,5 @@
+use Rattle.mibtm_tool.proofs.Completeness.{completes}
+use Rattle.mibtm_tool.proofs.tool.decoding_is_complete.Goals as goal
+
+pub returns : goal.returns
+returns g c = completes

@@ -1,0 +1,39 @@
+-- The code that each answer inside a call is. [This profile.]
+use Rattle.std.specs.Prelude.{Result, Ok, Err}
+use Rattle.mib_model.specs.declared.code.Code.{Code}
+use Rattle.mib_model.specs.declared.code.Code.TheVariants as code
+use Rattle.mibtm_tool.specs.declared.load.Refusal.{Refusal}
+use Rattle.mibtm_tool.specs.declared.load.Refusal.TheVariants as refusal
+use Rattle.decode_session.specs.declared.ending.Stop.{Stop}
+use Rattle.decode_session.specs.declared.ending.Stop.TheVariants as stop
+use Rattle.decode_session.specs.declared.ending.RunEnd.{RunEnd}
+use Rattle.decode_session.specs.declared.ending.RunEnd.TheVariants as end
+use Rattle.decode_session.specs.declared.ending.RunFault.{RunFault}
+use Rattle.decode_session.specs.declared.ending.RunFault.TheVariants as fault
+
+-- the code of a refusal
+abbrev pub code_of_refusal : Refusal → Code
+code_of_refusal (refusal.Mib fault) = code.BadMib fault
+code_of_refusal refusal.Failed = code.TablesFault
+code_of_refusal refusal.Memory = code.Want
+
+-- the code of a stop
+abbrev pub code_of_stop : Stop → Code
+code_of_stop stop.Memory = code.Want
+code_of_stop stop.Out = code.OutFault
+
+-- the code of a run's end
+abbrev pub code_of_end : RunEnd → Code
+code_of_end end.Whole = code.Ok
+code_of_end (end.Cut count) = code.Cut count
+code_of_end end.Limit = code.Limit
+
+-- the code of a run's fault
+abbrev pub code_of_fault : RunFault → Code
+code_of_fault fault.Feed = code.FeedFault
+code_of_fault (fault.Print stop) = code_of_stop stop
+
+-- the code of a run
+abbrev pub code_of_run : Result RunEnd RunFault → Code
+code_of_run (Ok end) = code_of_end end
+code_of_run (Err fault) = code_of_fault fault

@@ -1,0 +1,40 @@
+-- Why the tables of a folder are not to be had. [This profile.]
+use Rattle.std.specs.Prelude.{◌≡◌, ℕ, Result, Err, ⊤}
+use Rattle.session.specs.Causes.{Failed}
+use Rattle.session.specs.declared.load_fault.LoadFault.{LoadFault}
+use Rattle.session.specs.declared.load_fault.LoadFault.TheVariants as loads
+use Rattle.edition.specs.declared.fault.SaveFault.{SaveFault}
+use Rattle.edition.specs.declared.fault.SaveFault.TheVariants as saves
+use Rattle.mib_keys.specs.declared.fault.SoundFault.{SoundFault}
+use Rattle.mib_keys.specs.declared.fault.SoundFault.TheVariants as sounds
+use Rattle.mib_model.specs.declared.fault.MibFault.{MibFault}
+use Rattle.mibtm_tool.specs.declared.load.Refusal.{Refusal}
+use Rattle.mibtm_tool.specs.declared.load.Refusal.TheVariants as refusal
+
+-- the refusal that a fault of a load is
+abbrev pub refusal_of : LoadFault → Refusal
+refusal_of (loads.Mib fault) = refusal.Mib fault
+refusal_of loads.Failed = refusal.Failed
+refusal_of loads.Memory = refusal.Memory
+
+-- the refusal that a flaw of the tables is
+abbrev pub refusal_of_flaw : SoundFault → Refusal
+refusal_of_flaw (sounds.Mib fault) = refusal.Mib fault
+refusal_of_flaw sounds.Memory = refusal.Memory
+
+-- the refusal that a fault of compiling is
+abbrev pub refusal_of_save : SaveFault → Refusal
+refusal_of_save (saves.Mib fault) = refusal.Mib fault
+refusal_of_save saves.Memory = refusal.Memory
+
+-- tables are refused with just the fault that reading them gives
+abbrev pub Refuses : {Made : Type 0} → Refusal → Result Made MibFault → Type 0
+Refuses (refusal.Mib fault) read = read ≡ Err fault
+Refuses refusal.Failed read = ⊤
+Refuses refusal.Memory read = ⊤
+
+-- the count of the tables rose where they couldn't be read, and else stands
+abbrev pub HasRefusalCause : Refusal → ℕ → ℕ → Type 0
+HasRefusalCause (refusal.Mib fault) before now = now ≡ before
+HasRefusalCause refusal.Failed before now = Failed before now
+HasRefusalCause refusal.Memory before now = now ≡ before

@@ -1,0 +1,179 @@
+-- The statement of `tool`: what a call shows of the objects that it is handed, by the status that it answers. [This profile.]
+use Rattle.std.specs.Prelude.{◌≡◌, ◌≢◌, ◌≤◌, ◌⊎◌, ℕ, List, Option, Some, None, Result, Err, IfSome, IsOkAnd, IsSomeAnd}
+use Rattle.std.specs.Io.KnownBytes.{Appends}
+use Rattle.tm_io.specs.Octets.{AppendsPrefix}
+use Rattle.mib_model.specs.declared.code.Code.{Code}
+use Rattle.mib_model.specs.declared.code.Code.TheVariants as code
+use Rattle.mib_model.specs.declared.code.Input.TheVariants as input
+use Rattle.mib_model.specs.declared.database.Database.{Database}
+use Rattle.mib_model.specs.declared.fault.MibFault.{MibFault}
+use Rattle.mib_model.specs.RegisterHistories.{RegisterHistory}
+use Rattle.mib_model.specs.Summaries.{summary}
+use Rattle.live_session.specs.Live.{Object, object, Lives}
+use Rattle.session.specs.Causes.{Failed}
+use Rattle.mibtm_tool.specs.Drill.{drill_summary}
+use Rattle.mibtm_tool.specs.Objects.{ShelfView, SinkView, HasStood, HasFailed, IsUncalled, IsUnwritten, HasBroken, Took, IsHandedOn, TookNothing}
+use Rattle.session.specs.Sources.{Files}
+use Rattle.mibtm_tool.specs.Sources.{sound_in}
+use Rattle.decode_session.specs.Run.{Ran, Says, EndsWhole, EndsCut, EndsAtLimit, EndsUnread, EndsUnwritten}
+
+-- The objects of a call are views of what they show before and now. A further command has its equations below, one for each status.
+
+-- ---- what is said where the tables and the feed are told
+
+-- the tables, read so, are a database of which this is said
+abbrev pub ByTables : {T : Type 0} → ShelfView T → (Files → Result Database MibFault) → (Database → Type 0) → Type 0
+ByTables t read says = IfSome (t.holds t.before) (λ files. IsOkAnd (read files) says)
+
+-- the tables, read so, are refused for this fault
+abbrev pub IsRefused : {T : Type 0} → ShelfView T → (Files → Result Database MibFault) → MibFault → Type 0
+IsRefused t read fault = IfSome (t.holds t.before) (λ files. read files ≡ Err fault)
+
+-- this is said of the file of that name, if there is one
+abbrev pub OfFile : {S : Type 0} → ShelfView S → List ℕ → (Option (List ℕ) → Type 0) → Type 0
+OfFile s name says = IfSome (s.holds s.before) (λ files. says (files name))
+
+-- a feed that has these octets was read and printed by a database, and this is said of the run
+abbrev pub RanBy : {F O : Type 0} → Says → ShelfView F → SinkView O → Database → List ℕ → Type 0
+RanBy says feed out db octets = Took out (Ran says db (Some octets) (feed.left feed.now))
+
+-- the tables are sound, and the feed is held and was read and printed, of which this is said
+abbrev pub Printed : {T F O : Type 0} → Says → List ℕ → List ℕ → ShelfView T → ShelfView F → SinkView O → Type 0
+Printed says folder name tables feed out =
+    ByTables tables (λ files. sound_in files folder) (λ db. OfFile feed name (λ found. IsSomeAnd found (RanBy says feed out db)))
+
+-- the turn to the feed failed, and nothing was written
+abbrev pub MissedFeed : {F O : Type 0} → ShelfView F → SinkView O → Type 0
+MissedFeed feed out = Failed (feed.missed feed.before) (feed.missed feed.now) × TookNothing out
+
+-- what each status of `check` says, in the order of the statuses; no other comes
+abbrev pub Checked : {T O : Type 0} → Code → List ℕ → ShelfView T → SinkView O → Type 0
+Checked code.Ok folder tables out =
+    HasStood tables × IsHandedOn out × ByTables tables (λ files. sound_in files folder) (λ db. Took out (λ old new. Appends old new (summary db)))
+Checked (code.BadMib fault) folder tables out = HasStood tables × IsUnwritten out × IsRefused tables (λ files. sound_in files folder) fault
+Checked code.TablesFault folder tables out = HasFailed tables × IsUnwritten out
+Checked code.OutFault folder tables out =
+    HasStood tables × HasBroken out
+    × ByTables tables (λ files. sound_in files folder) (λ db. Took out (λ old new. AppendsPrefix old new (summary db)))
+Checked code.Want folder tables out = HasStood tables × IsUnwritten out
+Checked other folder tables out = ⊥
+
+-- what each status of `decode` says, in the order of the statuses; no other comes
+abbrev pub Decoded : {T F O : Type 0} → Code → List ℕ → List ℕ → ShelfView T → ShelfView F → SinkView O → Type 0
+Decoded code.Ok folder name tables feed out =
+    HasStood tables × HasStood feed × IsHandedOn out × Printed EndsWhole folder name tables feed out
+Decoded (code.BadMib fault) folder name tables feed out =
+    HasStood tables × IsUncalled feed × IsUnwritten out × IsRefused tables (λ files. sound_in files folder) fault
+Decoded (code.NoFile input.Feed) folder name tables feed out =
+    HasStood tables × HasStood feed × IsUnwritten out
+    × ByTables tables (λ files. sound_in files folder) (λ db. OfFile feed name (λ found. found ≡ None))
+Decoded (code.Cut count) folder name tables feed out =
+    HasStood tables × HasStood feed × IsHandedOn out × Printed (EndsCut count) folder name tables feed out
+Decoded code.TablesFault folder name tables feed out = HasFailed tables × IsUncalled feed × IsUnwritten out
+Decoded code.FeedFault folder name tables feed out =
+    HasStood tables × HasFailed feed × IsHandedOn out
+    × ByTables tables (λ files. sound_in files folder)
+    (λ db. OfFile feed name (λ found. MissedFeed feed out ⊎ IsSomeAnd found (RanBy EndsUnread feed out db)))
+Decoded code.OutFault folder name tables feed out =
+    HasStood tables × (feed.faults feed.before ≤ feed.faults feed.now) × HasBroken out
+    × Printed (EndsUnwritten (feed.faults feed.before) (feed.faults feed.now)) folder name tables feed out
+Decoded code.Limit folder name tables feed out =
+    HasStood tables × HasStood feed × IsHandedOn out × Printed EndsAtLimit folder name tables feed out
+Decoded code.Want folder name tables feed out = HasStood tables × HasStood feed × IsUnwritten out
+Decoded other folder name tables feed out = ⊥
+
+-- what each status of `drill` says, in the order of the statuses; no other comes
+abbrev pub Drilled : {O : Type 0} → Code → ℕ → SinkView O → Type 0
+Drilled code.Ok seed out = IsHandedOn out × Took out (λ old new. Appends old new (drill_summary seed))
+Drilled code.OutFault seed out = HasBroken out × Took out (λ old new. AppendsPrefix old new (drill_summary seed))
+Drilled code.Want seed out = IsUnwritten out
+Drilled other seed out = ⊥
+
+-- ---- what is said of `live`
+
+-- the words of a `live` command: a folder of tables, a feed and a desk
+pub record Names : Type 0 where
+  pub folder : List ℕ
+  pub feed : List ℕ
+  pub desk : List ℕ
+
+-- the names of a folder, a feed and a desk
+abbrev pub names : List ℕ → List ℕ → List ℕ → Names
+names folder feed desk = record { folder = folder; feed = feed; desk = desk }
+
+-- the shelves of a live run
+pub record Shelves (T F D : Type 0) : Type 0 where
+  pub tables : ShelfView T
+  pub feed : ShelfView F
+  pub desk : ShelfView D
+
+-- the shelves of tables, a feed and a desk
+abbrev pub shelves : {T F D : Type 0} → ShelfView T → ShelfView F → ShelfView D → Shelves T F D
+shelves tables feed desk = record { tables = tables; feed = feed; desk = desk }
+
+-- a shelf that stands at the start of a file of these octets as a run opens
+abbrev pub opened : {S : Type 0} → ShelfView S → List ℕ → Object
+opened s octets = object (Some octets) (s.left s.now) (s.faults s.before) (s.faults s.now)
+
+-- a shelf that a run reads from where it stands
+abbrev pub read_of : {S : Type 0} → ShelfView S → Object
+read_of s = object (s.left s.before) (s.left s.now) (s.faults s.before) (s.faults s.now)
+
+-- a sink that a run writes to
+abbrev pub written_to : {O : Type 0} → SinkView O → Object
+written_to o = object (o.written o.before) (o.written o.now) (o.faults o.before) (o.faults o.now)
+
+-- no turn to a file failed
+abbrev pub HasTurned : {S : Type 0} → ShelfView S → Type 0
+HasTurned s = s.missed s.now ≡ s.missed s.before
+
+-- the tables are sound, feed and desk are held, and this is said of the database and of the octets of both
+abbrev pub Opens : {T F D : Type 0} → Names → Shelves T F D → (Database → List ℕ → List ℕ → Type 0) → Type 0
+Opens names s says =
+    ByTables s.tables (λ files. sound_in files names.folder)
+    (λ db. OfFile s.feed names.feed (λ feed. IsSomeAnd feed (λ octets. OfFile s.desk names.desk (λ desk. IsSomeAnd desk (says db octets)))))
+
+-- a live run with this history left its objects so; the code and what it printed and replied are those of the definitions
+pub record Lived {T F D O P : Type 0} (c : Code) (history : RegisterHistory) (names : Names) (s : Shelves T F D)
+    (out : SinkView O) (replies : SinkView P) : Type 0 where
+  pub tables_stood : HasStood s.tables
+  pub feed_turned : HasTurned s.feed
+  pub desk_turned : HasTurned s.desk
+  pub handed : c ≢ code.OutFault → out.handed out.before ≡ out.written out.before → out.handed out.now ≡ out.written out.now
+  pub lives : Opens names s (λ db octets script. Lives c db history (opened s.feed octets) (opened s.desk script) (written_to out) (written_to replies))
+
+-- a turn to a file failed
+abbrev pub HasMissed : {S : Type 0} → ShelfView S → Type 0
+HasMissed s = HasFailed s × Failed (s.missed s.before) (s.missed s.now)
+
+-- the tables are sound, and this is said of the feed's file
+abbrev pub FeedIs : {T F D : Type 0} → Names → Shelves T F D → (Option (List ℕ) → Type 0) → Type 0
+FeedIs names s says = ByTables s.tables (λ files. sound_in files names.folder) (λ db. OfFile s.feed names.feed says)
+
+-- the tables are sound, the feed is held, and this is said of the desk's file
+abbrev pub DeskIs : {T F D : Type 0} → Names → Shelves T F D → (Option (List ℕ) → Type 0) → Type 0
+DeskIs names s says = FeedIs names s (λ feed. IsSomeAnd feed (λ octets. OfFile s.desk names.desk says))
+
+-- what each status of a run that didn't open says of the shelves, in the order of the statuses; no other comes
+abbrev pub Unopened : {T F D : Type 0} → Code → Names → Shelves T F D → Type 0
+Unopened (code.BadMib fault) names s =
+    HasStood s.tables × IsUncalled s.feed × IsUncalled s.desk × IsRefused s.tables (λ files. sound_in files names.folder) fault
+Unopened (code.NoFile input.Feed) names s = HasStood s.tables × HasStood s.feed × IsUncalled s.desk × FeedIs names s (λ feed. feed ≡ None)
+Unopened (code.NoFile input.Desk) names s = HasStood s.tables × HasStood s.feed × HasStood s.desk × DeskIs names s (λ desk. desk ≡ None)
+Unopened code.TablesFault names s = HasFailed s.tables × IsUncalled s.feed × IsUncalled s.desk
+Unopened code.FeedFault names s = HasStood s.tables × HasMissed s.feed × IsUncalled s.desk
+Unopened code.DeskFault names s = HasStood s.tables × HasStood s.feed × HasMissed s.desk
+Unopened code.Want names s = HasStood s.tables × HasStood s.feed × HasStood s.desk
+Unopened other names s = ⊥
+
+-- what `live` says of its objects: where it closed a register, by the register's history; and else nothing was written
+abbrev pub LivedBy : {T F D O P : Type 0} → Code → Option RegisterHistory → Names → Shelves T F D → SinkView O → SinkView P → Type 0
+LivedBy c None names s out replies = Unopened c names s × IsUnwritten out × IsUnwritten replies
+LivedBy c (Some history) names s out replies = Lived c history names s out replies
+
+-- what each status says of the part behind the tables and the feed, where that didn't open; no other comes
+abbrev pub StoppedBeside : {F D : Type 0} → Code → List ℕ → ShelfView F → ShelfView D → Type 0
+StoppedBeside (code.NoFile input.Desk) name feed desk = IsUncalled feed × HasStood desk × OfFile desk name (λ found. found ≡ None)
+StoppedBeside code.DeskFault name feed desk = IsUncalled feed × HasMissed desk
+StoppedBeside code.Want name feed desk = IsUncalled feed × HasStood desk
+StoppedBeside other name feed desk = ⊥
