@@ -1,4 +1,4 @@
-ghost use Rattle.std.specs.Prelude.{◌≡◌, ◌≤◌, ℕ, IfOk, MatchOption, None, true};
+ghost use Rattle.std.specs.Prelude.{◌≡◌, ◌<◌, ◌≤◌, ◌^◌, ℕ, IfOk, MatchOption, None, true};
 ghost use Rattle.commit_order.specs.Places.{all_numbered};
 ghost use Rattle.std.specs.VecDeque.{deque_len, deque_capacity};
 
@@ -78,5 +78,18 @@ impl<R: Drop> Window<R> {
                 Some(taken)
             }
         }
+    }
+    /// Passes by the next number, whose result never comes here: the number after it is next. For numbers of 64 bits.
+    pub fn pass_by(&mut self)
+        requires absent { waiting self.old (next_of self.old) ≡ None }
+        requires number { next_of self.old < 2 ^ 64 }
+        ensures { Advances self.old self.new }
+    {
+        let Some(_absent) = self.places.pop_front() else {
+            self.next += 1;
+            return;
+        };
+        self.places.push_back_reserved(None);
+        self.next += 1;
     }
 }

@@ -8,11 +8,11 @@ use Rattle.decode_pool.specs.Served.{EachMade}
 use Rattle.decode_pool.specs.Flow.{jobs_got, results_put, AccountsOfAPool}
 
 module _ {J : Type 0} where
-  same_list : (xs ys : List J) → xs ≡ ys → IsPermutation xs ys
+  pub same_list : (xs ys : List J) → xs ≡ ys → IsPermutation xs ys
   same_list xs ys e = subst (λ (l : List J). IsPermutation xs l) e (IsPermutation-refl xs)
 
   -- two lists in two parts each, part by part
-  part_by_part : (a b c d : List J) → IsPermutation ((a ++ b) ++ (c ++ d)) ((a ++ c) ++ (b ++ d))
+  pub part_by_part : (a b c d : List J) → IsPermutation ((a ++ b) ++ (c ++ d)) ((a ++ c) ++ (b ++ d))
   part_by_part a b c d =
       IsPermutation-trans ((a ++ b) ++ (c ++ d)) (a ++ (c ++ (b ++ d))) ((a ++ c) ++ (b ++ d))
       (IsPermutation-trans ((a ++ b) ++ (c ++ d)) (a ++ (b ++ (c ++ d))) (a ++ (c ++ (b ++ d)))
@@ -26,7 +26,7 @@ module _ {J : Type 0} where
       (same_list (a ++ (c ++ (b ++ d))) ((a ++ c) ++ (b ++ d)) (sym (append_assoc a c (b ++ d))))
 
 module _ {J : Type 0} (made : J → J → Type 0) (number : J → ℕ) where
-  each_append : (worked given worked' given' : List J) → EachMade made number worked given → EachMade made number worked' given' → EachMade made number (worked ++ worked') (given ++ given')
+  pub each_append : (worked given worked' given' : List J) → EachMade made number worked given → EachMade made number worked' given' → EachMade made number (worked ++ worked') (given ++ given')
   each_append [] [] worked' given' each each' = each'
   each_append [] (y ∷ given) worked' given' each each' = absurd each
   each_append (x ∷ worked) [] worked' given' each each' = absurd each

@@ -8,7 +8,7 @@ use Rattle.work_queue.specs.Passes.{account_of, IsOf}
 use Rattle.decode_pool.specs.Served.{EachMade, Works, Serves, AllServe}
 
 module _ {J : Type 0} (made : J → J → Type 0) (number : J → ℕ) where
-  each_push : (worked given : List J) (job result : J) → EachMade made number worked given → made job result → number job ≢ 0 → EachMade made number (worked ++ job ∷ []) (given ++ result ∷ [])
+  pub each_push : (worked given : List J) (job result : J) → EachMade made number worked given → made job result → number job ≢ 0 → EachMade made number (worked ++ job ∷ []) (given ++ result ∷ [])
   each_push [] [] job result each is n = (is, n, tt)
   each_push [] (y ∷ given) job result each is n = absurd each
   each_push (x ∷ worked) [] job result each is n = absurd each

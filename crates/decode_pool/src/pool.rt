@@ -18,7 +18,8 @@ pub struct Pool;
 
 impl Pool {
     /// Runs one worker for each two members of `passes`, a pass of the jobs and a pass of the results. A worker gets a cell,
-    /// calls the gate with its number, works it and puts it among the results; where that queue is full it tries again.
+    /// calls the gate with its number, works it and puts it among the results; where that queue is full it tries again, and
+    /// while no cell is there it rests. It works by the place of its two passes: 0 for the first two, 1 for the next.
     /// A cell of number 0 ends the worker that gets it, and no result is put for it. May wait.
     pub fn serve<W: Work + Sync, G: Gate + Sync, R: Threads + Wait + Sync>(
         rt: &R,
@@ -29,6 +30,8 @@ impl Pool {
         passes: &mut [Pass<W::Cell>],
     )
         requires ready { Ready jobs.now results.now passes.old }
+        ensures length { length passes.new ≡ length passes.old }
+        ensures ready { Ready jobs.now results.now passes.new }
         ensures serves { AllServe jobs.now results.now (W.made work.now) W.Cell.number_of passes.old passes.new }
     {
         serve_pairs(rt, work, gate, jobs, results, passes);
@@ -49,17 +52,18 @@ fn serve_pairs<W: Work + Sync, G: Gate + Sync, R: Threads + Wait + Sync>(
     ensures serves { (n : ℕ) → n * 2 < length passes.old
         → AllServe jobs.now results.now (W.made work.now) W.Cell.number_of (slice_chunk passes.old 2 n) (slice_chunk passes.new 2 n) }
 {
-    let one = |_: usize, pair: &mut [Pass<W::Cell>]|
+    let one = |start: usize, pair: &mut [Pass<W::Cell>]|
         requires { IsSync R.row × (length pair.now ≡ 2) × Ready jobs.now results.now pair.now }
         ensures { AllServe jobs.entry.now results.entry.now (W.made work.entry.now) W.Cell.number_of pair.entry.now pair.exit.now }
-    { work_pair(rt, work, gate, jobs, results, pair) };
+    { work_pair(rt, work, start / 2, gate, jobs, results, pair) };
     thread::for_each_chunk_mut(rt, passes, 2, &one);
 }
 
-// One worker with its two passes.
+// One worker with its place and its two passes.
 fn work_pair<W: Work + Sync, G: Gate + Sync, R: Wait>(
     rt: &R,
     work: &W,
+    worker: usize,
     gate: &G,
     jobs: &Queue<W::Cell>,
     results: &Queue<W::Cell>,
@@ -70,13 +74,23 @@ fn work_pair<W: Work + Sync, G: Gate + Sync, R: Wait>(
     ensures serves { AllServe jobs.now results.now (W.made work.now) W.Cell.number_of pair.old pair.new }
 {
     let (taken, given) = pair.split_at_mut(1);
-    work_all(rt, work, gate, jobs, results, &mut taken[0], &mut given[0]);
+    work_all(
+        rt,
+        work,
+        worker,
+        gate,
+        jobs,
+        results,
+        &mut taken[0],
+        &mut given[0],
+    );
 }
 
 // Works one cell after another, until a cell of number 0 comes.
 fn work_all<W: Work + Sync, G: Gate + Sync, R: Wait>(
     rt: &R,
     work: &W,
+    worker: usize,
     gate: &G,
     jobs: &Queue<W::Cell>,
     results: &Queue<W::Cell>,
@@ -89,18 +103,14 @@ fn work_all<W: Work + Sync, G: Gate + Sync, R: Wait>(
     ensures serves { Serves (W.made work.now) W.Cell.number_of (account_of taken.old) (account_of given.old) (account_of taken.new) (account_of given.new) }
 {
     for _ in rt.forever() {
-        match jobs.get(rt, taken) {
-            None => thread::yield_now(),
-            Some(mut cell) => {
-                let number = cell.number();
-                if number == 0 {
-                    return;
-                }
-                gate.before(number);
-                work.work(&mut cell);
-                put_until(rt, results, given, cell);
-            }
+        let mut cell = jobs.wait_for_job(rt, taken);
+        let number = cell.number();
+        if number == 0 {
+            return;
         }
+        gate.before(number);
+        work.work_by(worker, &mut cell);
+        put_until(rt, results, given, cell);
     }
     unreachable!()
 }

@@ -1,8 +1,9 @@
 //! One piece of a region.
-ghost use Rattle.std.specs.Prelude.{◌≡◌};
+ghost use Rattle.std.specs.Prelude.{◌≡◌, []};
 ghost use Rattle.std.specs.Borrow.{Array, Lends, sem};
 ghost use Rattle.frame_region.specs.Filled.{with_values};
 
+use std::alloc::Global;
 use std::marker::Model;
 
 /// Values that one owner reads and writes. Contracts see them as a list.
@@ -21,6 +22,15 @@ impl<T: Copy> Model for Piece<T> {
 
 impl<T: Copy> Piece<T> {
     ghost use Rattle.frame_region.specs.contracts.piece.Piece.{the_row};
+
+    /// A piece of no region, without a value: what stands in the place of a piece that was given back. It takes no memory.
+    pub fn empty(alloc: Global) -> Piece<T>
+        ensures { result ≡ [] }
+    {
+        Piece {
+            values: Vec::new(alloc),
+        }
+    }
 
     /// Its values.
     pub fn slice(&self) -> &[T]

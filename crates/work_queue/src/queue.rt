@@ -5,8 +5,14 @@ ghost use Rattle.crossbeam_queue.specs.Passes.{view};
 use crate::account::Account;
 use crate::rule::{Cut, Even, Gets, Puts};
 use crossbeam_queue::RuledArrayQueue;
+use crossbeam_utils::Backoff;
+use crossbeam_utils::sync::EventCount;
 use std::alloc::{AllocError, Global};
 use std::sync::Wait;
+
+// How often a thread looks for a job before it sleeps: so often that few sleep while a run is busy, and `put` has few to
+// wake.
+const LOOKS: u32 = 1_000;
 
 /// A job with a number.
 pub trait Numbered {
@@ -30,6 +36,8 @@ pub struct Pass<J> {
 #[derive(Drop)]
 pub struct Queue<J: Numbered + Drop> {
     ring: RuledArrayQueue<J, Account<J>, Even>,
+    // Rung where a job was put, for those that sleep in `wait_for_job`.
+    bell: EventCount,
 }
 
 impl<J: Numbered + Drop> Queue<J> {
@@ -44,7 +52,11 @@ impl<J: Numbered + Drop> Queue<J> {
         ensures account { IfOk result (λ made. account_of made.1 ≡ whole) }
     {
         let (ring, ruled) = RuledArrayQueue::ruled(alloc, room)?;
-        Ok((Queue { ring }, Pass { ruled, octet: 0 }))
+        let queue = Queue {
+            ring,
+            bell: EventCount::new(),
+        };
+        Ok((queue, Pass { ruled, octet: 0 }))
     }
 
     /// A new pass, which gets one of the shares.
@@ -61,7 +73,8 @@ impl<J: Numbered + Drop> Queue<J> {
         }
     }
 
-    /// Puts a job at the end. It comes back only where the queue was full at some moment of the call. May wait.
+    /// Puts a job at the end, and wakes a thread that sleeps in `wait_for_job`. The job comes back only where the queue was
+    /// full at some moment of the call. May wait.
     pub fn put<R: Wait>(&self, rt: &R, pass: &mut Pass<J>, job: J) -> Result<(), J>
         requires pass { IsOf self.now pass.old }
         ensures pass { IsOf self.now pass.new }
@@ -71,7 +84,11 @@ impl<J: Numbered + Drop> Queue<J> {
         // Full is what the pass can know of it: where it is whole, what was put and not got fills the room.
         ensures full { IfErr result (λ _. MayHoldSome (account_of pass.old) (room_of self.now)) }
     {
-        self.ring.push_as::<Puts, R>(rt, &mut pass.ruled, job)
+        let put = self.ring.push_as::<Puts, R>(rt, &mut pass.ruled, job);
+        if put.is_ok() {
+            self.bell.notify_one();
+        }
+        put
     }
 
     /// Gets the first job. None comes only where the queue was empty at some moment of the call. May wait.
@@ -82,6 +99,43 @@ impl<J: Numbered + Drop> Queue<J> {
         ensures empty { IfNone result (MayHoldSome (account_of pass.old) 0) }
     {
         self.ring.pop_as::<Gets, R>(rt, &mut pass.ruled)
+    }
+
+    /// Gets the first job, and waits until there is one: it looks for a while, and then sleeps until a job is put.
+    pub fn wait_for_job<R: Wait>(&self, rt: &R, pass: &mut Pass<J>) -> J
+        requires pass { IsOf self.now pass.old }
+        ensures pass { IsOf self.now pass.new }
+        ensures got { account_of pass.new ≡ with_got (account_of pass.old) result }
+    {
+        for _ in rt.forever() {
+            if let Some(job) = self.look_for_job(rt, pass) {
+                return job;
+            }
+
+            // A job that is put from here on ends the sleep, or is there at the next look.
+            let announced = self.bell.prepare_wait();
+            if let Some(job) = self.get(rt, pass) {
+                return job;
+            }
+            announced.wait(rt);
+        }
+        unreachable!()
+    }
+
+    // Looks for a job so often, and lets other threads run in between.
+    fn look_for_job<R: Wait>(&self, rt: &R, pass: &mut Pass<J>) -> Option<J>
+        requires pass { IsOf self.now pass.old }
+        ensures pass { IsOf self.now pass.new }
+        ensures got { MatchOption result (account_of pass.new ≡ account_of pass.old) (λ job. account_of pass.new ≡ with_got (account_of pass.old) job) }
+    {
+        let backoff = Backoff::new();
+        for _ in 0..LOOKS {
+            if let Some(job) = self.get(rt, pass) {
+                return Some(job);
+            }
+            backoff.snooze();
+        }
+        None
     }
 
     /// Joins another pass into this one. Once all are joined, what was got and what is left are what was put.

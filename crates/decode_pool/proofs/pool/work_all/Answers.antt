@@ -13,5 +13,5 @@ pub loop-preserved : goal.loop-preserved
 loop-preserved g c = record {
   taken = search rules;
   given = search rules;
-  works = goes_on _ _ _ _ _ _ _ _ c.in-Some-get.cell c.work.new.cell c.loop.invariant.works c.work.ensures (λ e. c.if-number-eq0.false (c.number-number.ensures ∙ e)) (search rules) c.put_until.ensures.put;
+  works = goes_on _ _ _ _ _ _ _ _ c.wait_for_job-cell.result c.work_by.new.cell c.loop.invariant.works c.work_by.ensures (λ e. c.if-number-eq0.false (c.number-number.ensures ∙ e)) (search rules) c.put_until.ensures.put;
 }
