@@ -58,8 +58,7 @@ fn walked<P: Plans>(plans: &P, tpsd: i32, dfhsize: u8, packet: &[u8], values: &m
     ensures slots { length values.new.slots.now ≡ most_values }
     ensures borrow { values.new.slots.ghost_name ≡ values.old.slots.ghost_name }
 {
-    let start = 8 * (6 + u64::from(dfhsize));
-    walk(plans, tpsd as u32, start, packet, values)
+    walk(plans, tpsd as u32, dfhsize, packet, values)
 }
 
 // Takes the values of a packet that is found so, and tells how they end: by its structure where it names one, else by its

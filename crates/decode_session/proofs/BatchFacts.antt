@@ -12,7 +12,7 @@ use Rattle.decode_session.specs.declared.batch.Filled.{Filled}
 use Rattle.decode_session.specs.declared.batch.Filled.TheVariants as filled
 use Rattle.decode_session.specs.declared.cell.Cell.{Cell}
 use Rattle.decode_session.specs.Batches.{AreRead, IsRead, EndsFeed, EndsBatch}
-use Rattle.decode_session.specs.Cells.{packet_in, packets_in, stamped_in, all_stamped}
+use Rattle.decode_session.specs.Cells.{packet_in, packets_in, stamped_cell, all_stamped}
 use Rattle.mib_model.specs.declared.database.Database.{Database}
 use Rattle.mib_model.specs.Output.{stamped_first, stamped_from}
 use Rattle.mib_model.specs.Packets.{IsPacket}
@@ -47,7 +47,7 @@ module _ (number : ℕ) where
       → all_stamped 1 db (cells ++ cell ∷ []) ≡ stamped_from db number (packets_in (cells ++ cell ∷ []))
   numbered-more db cells cell place are =
       let count : number + length cells ≡ number + length (packets_in cells) = let same = packets-count cells in omega arith in
-      map-append (stamped_in 1 db) cells (cell ∷ []) ∙ ap (λ s. s ++ stamped_in 1 db cell ∷ []) are
+      map-append (stamped_cell 1 db) cells (cell ∷ []) ∙ ap (λ s. s ++ stamped_cell 1 db cell ∷ []) are
       ∙ ap (λ n. stamped_from db number (packets_in cells) ++ stamped_first db (n, packet_in cell) ∷ []) (place ∙ count)
       ∙ sym (ap (stamped_from db number) (map-append packet_in cells (cell ∷ [])) ∙ stamped-append db number (packets_in cells) (packet_in cell ∷ [])
       ∙ ap (λ s. stamped_from db number (packets_in cells) ++ s) (stamped-one db (number + length (packets_in cells)) (packet_in cell)))

@@ -7,7 +7,7 @@ use Rattle.std.specs.Io.KnownBytes.{Appends}
 use Rattle.tm_io.specs.Octets.{AppendsPrefix}
 use Rattle.decode_one.specs.Steps.{ComesTo, HasStepped}
 use Rattle.decode_session.specs.declared.cell.Cell.{Cell}
-use Rattle.decode_session.specs.Cells.{packet_in, stamped_in, all_stamped}
+use Rattle.decode_session.specs.Cells.{packet_in, stamped_cell, all_stamped}
 use Rattle.decode_session.specs.Finishing.{standing, next_text, batch_text, Leaves, LeavesAfter}
 use Rattle.decode_session.specs.Moving.{Moves}
 use Rattle.mib_laws.proofs.RunFacts.{interpret-append}
@@ -45,15 +45,15 @@ module _ (edition : ℕ) (db : Database) (memory : Memory) where
   step-leaves after number packet old new step = ap (standing edition db) (sym step.memory)
 
   -- the interpreter comes to the packet of a cell
-  pub comes : (cell : Cell) (packet : List ℕ) → packet ≡ packet_in cell → ComesTo (standing edition db memory) (stamped_in edition db cell) cell.number packet db memory
+  pub comes : (cell : Cell) (packet : List ℕ) → packet ≡ packet_in cell → ComesTo (standing edition db memory) (stamped_cell edition db cell) cell.number packet db memory
   comes cell packet is = comes-to cell.number (packet_in cell) packet is
 
   pub stepped-text : (after : Memory) (cell : Cell) (old new : List ℕ)
-      → HasStepped (standing edition db memory) (stamped_in edition db cell) after old new → new ≡ old ++ next_text edition db memory (stamped_in edition db cell)
+      → HasStepped (standing edition db memory) (stamped_cell edition db cell) after old new → new ≡ old ++ next_text edition db memory (stamped_cell edition db cell)
   stepped-text after cell old new step = step-text after cell.number (packet_in cell) old new step
 
   pub stepped-leaves : (after : Memory) (cell : Cell) (old new : List ℕ)
-      → HasStepped (standing edition db memory) (stamped_in edition db cell) after old new → Leaves edition db memory (stamped_in edition db cell) after
+      → HasStepped (standing edition db memory) (stamped_cell edition db cell) after old new → Leaves edition db memory (stamped_cell edition db cell) after
   stepped-leaves after cell old new step = step-leaves after cell.number (packet_in cell) old new step
 
 -- ---- packets
@@ -114,26 +114,26 @@ part-behind text tail old mid new wrote (count, printed) =
 -- ---- cells in their order
 
 stamped-more : (edition : ℕ) (db : Database) (cells : List Cell) (i : ℕ) (cell : Cell) → i < length cells → cell ≡ get_or cells i cell
-    → all_stamped edition db (take (i + 1) cells) ≡ all_stamped edition db (take i cells) ++ stamped_in edition db cell ∷ []
+    → all_stamped edition db (take (i + 1) cells) ≡ all_stamped edition db (take i cells) ++ stamped_cell edition db cell ∷ []
 stamped-more edition db cells i cell below is =
-    ap (all_stamped edition db) (take_more cells i cell below) ∙ map-append (stamped_in edition db) (take i cells) (get_or cells i cell ∷ [])
-    ∙ ap (λ x. all_stamped edition db (take i cells) ++ stamped_in edition db x ∷ []) (sym is)
+    ap (all_stamped edition db) (take_more cells i cell below) ∙ map-append (stamped_cell edition db) (take i cells) (get_or cells i cell ∷ [])
+    ∙ ap (λ x. all_stamped edition db (take i cells) ++ stamped_cell edition db x ∷ []) (sym is)
 
 module _ (edition : ℕ) (db : Database) (memory middle : Memory) (cells : List Cell) (i : ℕ) (cell : Cell) (below : i < length cells) (is : cell ≡ get_or cells i cell) (leaves : LeavesAfter edition db memory (all_stamped edition db (take i cells)) middle) where
-  text-push : batch_text edition db memory (all_stamped edition db (take i cells) ++ stamped_in edition db cell ∷ []) ≡ batch_text edition db memory (all_stamped edition db (take i cells)) ++ next_text edition db middle (stamped_in edition db cell)
+  text-push : batch_text edition db memory (all_stamped edition db (take i cells) ++ stamped_cell edition db cell ∷ []) ≡ batch_text edition db memory (all_stamped edition db (take i cells)) ++ next_text edition db middle (stamped_cell edition db cell)
   text-push =
-      text-append edition db memory middle (all_stamped edition db (take i cells)) (stamped_in edition db cell ∷ []) leaves
-      ∙ ap (λ t. batch_text edition db memory (all_stamped edition db (take i cells)) ++ t) (text-one edition db middle (stamped_in edition db cell))
+      text-append edition db memory middle (all_stamped edition db (take i cells)) (stamped_cell edition db cell ∷ []) leaves
+      ∙ ap (λ t. batch_text edition db memory (all_stamped edition db (take i cells)) ++ t) (text-one edition db middle (stamped_cell edition db cell))
 
   -- the text of one cell more
   pub text-more : batch_text edition db memory (all_stamped edition db (take (i + 1) cells))
-      ≡ batch_text edition db memory (all_stamped edition db (take i cells)) ++ next_text edition db middle (stamped_in edition db cell)
+      ≡ batch_text edition db memory (all_stamped edition db (take i cells)) ++ next_text edition db middle (stamped_cell edition db cell)
   text-more = ap (batch_text edition db memory) (stamped-more edition db cells i cell below is) ∙ text-push
 
-  pub leaves-more : (after : Memory) → Leaves edition db middle (stamped_in edition db cell) after → LeavesAfter edition db memory (all_stamped edition db (take (i + 1) cells)) after
+  pub leaves-more : (after : Memory) → Leaves edition db middle (stamped_cell edition db cell) after → LeavesAfter edition db memory (all_stamped edition db (take (i + 1) cells)) after
   leaves-more after next =
       subst (λ s. LeavesAfter edition db memory s after) (sym (stamped-more edition db cells i cell below is))
-      (leaves-append edition db memory middle after (all_stamped edition db (take i cells)) (stamped_in edition db cell ∷ []) leaves (leaves-one edition db middle after (stamped_in edition db cell) next))
+      (leaves-append edition db memory middle after (all_stamped edition db (take i cells)) (stamped_cell edition db cell ∷ []) leaves (leaves-one edition db middle after (stamped_cell edition db cell) next))
 
 -- ---- text that moves to an output
 
@@ -171,6 +171,6 @@ part-of-all edition db memory middle cells i old new leaves wrote =
     let others = all_stamped edition db (drop i cells) in
     let parts : batch_text edition db memory (all_stamped edition db cells) ≡ batch_text edition db memory (all_stamped edition db (take i cells)) ++ batch_text edition db middle others =
     ap (λ s. batch_text edition db memory (all_stamped edition db s)) (sym (take-append-drop i cells))
-    ∙ ap (batch_text edition db memory) (map-append (stamped_in edition db) (take i cells) (drop i cells))
+    ∙ ap (batch_text edition db memory) (map-append (stamped_cell edition db) (take i cells) (drop i cells))
     ∙ text-append edition db memory middle (all_stamped edition db (take i cells)) others leaves in
     subst (AppendsPrefix old new) (sym parts) (part-longer (batch_text edition db memory (all_stamped edition db (take i cells))) (batch_text edition db middle others) old new wrote)

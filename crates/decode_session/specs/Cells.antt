@@ -14,12 +14,12 @@ abbrev pub packets_in : List Cell → List (List ℕ)
 packets_in cells = map packet_in cells
 
 -- the packet of a cell with its number, of an edition with these tables
-abbrev pub stamped_in : ℕ → Database → Cell → StampedPacket
-stamped_in edition db cell = record { number = cell.number; packet = packet_in cell; edition = edition; tables = db }
+abbrev pub stamped_cell : ℕ → Database → Cell → StampedPacket
+stamped_cell edition db cell = record { number = cell.number; packet = packet_in cell; edition = edition; tables = db }
 
 -- the packets of cells with their numbers
 abbrev pub all_stamped : ℕ → Database → List Cell → List StampedPacket
-all_stamped edition db cells = map (stamped_in edition db) cells
+all_stamped edition db cells = map (stamped_cell edition db) cells
 
 -- a cell's packet was decoded by a database
 abbrev pub IsReady : Database → Cell → Type 0

@@ -1,5 +1,5 @@
 -- What a run reads and writes. [This profile.]
-use Rattle.std.specs.Prelude.{◌≡◌, ℕ, ◌<◌, ◌≤◌, List, [], ◌++◌, length, Option, Some, None, Result, Ok, Err, ⊤, ◌⊎◌, ◌==◌, if◌then◌else◌}
+use Rattle.std.specs.Prelude.{◌≡◌, ℕ, ◌<◌, ◌≤◌, List, [], ◌++◌, length, Option, Some, None, Result, Ok, Err, ⊤, ◌⊎◌}
 use Rattle.std.specs.Io.KnownBytes.{Appends}
 use Rattle.tm_io.specs.Causes.{Rose}
 use Rattle.tm_io.specs.Octets.{AppendsPrefix}
@@ -21,7 +21,7 @@ most_packets = 1000000000
 abbrev pub Writes : Database → List (List ℕ) → List ℕ → Option (List ℕ) → Option (List ℕ) → Type 0
 Writes db packets tail old new = Appends old new (output_of_one db packets tail)
 
--- a first part of that text was written
+-- a first part of the text of packets, with what ends it, was written
 abbrev pub WritesPart : Database → List (List ℕ) → List ℕ → Option (List ℕ) → Option (List ℕ) → Type 0
 WritesPart db packets tail old new = AppendsPrefix old new (output_of_one db packets tail)
 
@@ -32,10 +32,6 @@ WritesOver db packets old new = (more : List ℕ) × Appends old new (output_of_
 -- the most packets that are read and not printed yet
 abbrev pub most_in_flight : ℕ
 most_in_flight = 64
-
--- how many packets are read ahead for so many workers: few for one, which is done with each at once
-abbrev pub ahead_for : ℕ → ℕ
-ahead_for workers = if workers == 1 then 4 else most_in_flight
 
 -- of what was read only packets in flight are left to be printed, and behind them nothing was read, unless the feed failed there
 pub record ReadsNoFurther (packets printed : List (List ℕ)) (rest : List ℕ) (before now : ℕ) : Type 0 where

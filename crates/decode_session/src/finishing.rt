@@ -2,7 +2,7 @@
 ghost use Rattle.std.specs.Prelude.{◌≡◌, ℕ, ◌+◌, ◌++◌, ◌≤◌, [], length, vec_len, vec_capacity, OnOk, OnErr};
 ghost use Rattle.std.specs.List.{All};
 ghost use Rattle.std.specs.Io.KnownBytes.{Appends};
-ghost use Rattle.decode_session.specs.Cells.{IsReady, stamped_in, all_stamped};
+ghost use Rattle.decode_session.specs.Cells.{IsReady, stamped_cell, all_stamped};
 ghost use Rattle.decode_session.specs.Finishing.{next_text, batch_text, Leaves, LeavesAfter};
 ghost use Rattle.decode_session.specs.Moving.{Moves};
 ghost use Rattle.edition_plans.specs.Params.{param_slices};
@@ -25,9 +25,9 @@ fn add_record<P: Plans>(plans: &P, cell: &Cell, board: &mut Board, lines: &mut L
     requires board { board.old.names ≡ plan_names (param_slices (P.tables plans.now)) }
     requires room { length lines.old ≤ TEXT_BEFORE }
     ensures board { board.new.names ≡ board.old.names }
-    ensures kept { (edition : ℕ) → Leaves edition (P.tables plans.now) (memory_of board.old) (stamped_in edition (P.tables plans.now) cell.now)
+    ensures kept { (edition : ℕ) → Leaves edition (P.tables plans.now) (memory_of board.old) (stamped_cell edition (P.tables plans.now) cell.now)
         (memory_of board.new) }
-    ensures text { (edition : ℕ) → let text = next_text edition (P.tables plans.now) (memory_of board.old) (stamped_in edition (P.tables plans.now) cell.now) in
+    ensures text { (edition : ℕ) → let text = next_text edition (P.tables plans.now) (memory_of board.old) (stamped_cell edition (P.tables plans.now) cell.now) in
         lines.new ≡ lines.old ++ text }
 {
     finish(

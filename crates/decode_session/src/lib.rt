@@ -25,4 +25,4 @@ pub use ending::{RunEnd, RunFault, Stop};
 pub use finishing::{finish_batch, free_rooms};
 pub use room::{Buffers, Room};
 pub use run::{decode_run, hand_on_before_wait, write_cut};
-pub use stock::{Home, Stock, rooms_for};
+pub use stock::{Home, Stock};

@@ -1,5 +1,5 @@
 // A run: batches are filled, decoded and finished one after the other.
-ghost use Rattle.std.specs.Prelude.{◌≡◌, ◌≢◌, ◌+◌, ◌<◌, ◌≤◌, [], Err, OnOk, OnErr, vec_len, vec_capacity};
+ghost use Rattle.std.specs.Prelude.{◌≡◌, ◌≢◌, ◌+◌, ◌<◌, ◌≤◌, ◌⊎◌, [], Err, OnOk, OnErr, IfSome, vec_len, vec_capacity};
 ghost use Rattle.std.specs.Io.KnownBytes.{Appends};
 ghost use Rattle.decode_session.specs.Causes.{HasOutCause, HasFeedCause};
 ghost use Rattle.decode_session.specs.Run.{EndsBy, Ran, most_in_flight};
@@ -7,7 +7,7 @@ ghost use Rattle.edition_plans.specs.Params.{param_slices};
 ghost use Rattle.fold_state.specs.Boards.{memory_of, plan_names};
 ghost use Rattle.mib_model.specs.Kept.{empty_memory};
 ghost use Rattle.mib_model.specs.Texts.{cut_text};
-ghost use Rattle.packet_feed.specs.Feed.{source_of};
+ghost use Rattle.packet_feed.specs.Feed.{BeginsWithPacket, source_of};
 ghost use Rattle.tm_io.specs.Causes.{HasCause};
 ghost use Rattle.tm_io.specs.Octets.{AppendsPrefix};
 
@@ -35,9 +35,10 @@ pub fn write_cut<O: Sink>(octets: u32, lines: &mut Lines, out: &mut O) -> Result
     write_all(out, lines.bytes())
 }
 
-/// Hands on what was written, where reading the next packet may wait.
+/// Hands on what was written, where reading the next packet may wait: unless that is known to be there whole.
 pub fn hand_on_before_wait<S: Source, O: Sink>(feed: &Feed<S>, out: &mut O) -> Result<(), Failed>
     ensures written { O.written out.new ≡ O.written out.old }
+    ensures handed { OnOk result ((O.handed out.new ≡ O.written out.new) ⊎ IfSome (S.left (source_of feed.now)) BeginsWithPacket) }
     ensures cause { HasCause (O.faults out.old) (O.faults out.new) result }
 {
     if feed.is_next_at_hand() {

@@ -1,10 +1,10 @@
 // The buffers of a run.
-ghost use Rattle.std.specs.Prelude.{◌≡◌, ◌+◌, ◌<◌, ◌≤◌, [], vec_len, vec_capacity, IfOk, OnOk};
+ghost use Rattle.std.specs.Prelude.{◌≡◌, ◌+◌, ◌<◌, ◌≤◌, [], vec_len, vec_capacity, IfOk, OnOk, OnErr};
 ghost use Rattle.edition_plans.specs.Params.{param_slices};
 ghost use Rattle.fold_state.specs.Boards.{memory_of, plan_names};
 ghost use Rattle.mib_model.specs.Kept.{empty_memory};
 ghost use Rattle.decode_session.specs.Homes.{AreOutOf};
-ghost use Rattle.decode_session.specs.Run.{ahead_for, most_in_flight};
+ghost use Rattle.decode_session.specs.Run.{most_in_flight};
 
 use crate::cell::Cell;
 use crate::finishing::free_rooms;
@@ -19,27 +19,15 @@ use packet_feed::PACKET_SIZE;
 use record_text::Lines;
 use std::alloc::{AllocError, Global};
 
-// The packets of a batch for one worker.
-const ALONE: u16 = 4;
-
-// The packets of a batch for more workers.
+// The packets of a batch for several workers.
 const BATCH: u16 = 64;
-
-/// How many packets are read ahead for so many workers: few for one, which is done with each at once.
-pub fn rooms_for(workers: u8) -> u16
-    ensures count { result ≡ ahead_for workers }
-    ensures some { 0 < result }
-    ensures few { result ≤ most_in_flight }
-{
-    if workers == 1 { ALONE } else { BATCH }
-}
 
 /// How many packets a run by one edition has room for: one with one worker, which prints each before it reads the next.
 pub(crate) fn rooms_at_once(workers: u8) -> u16
     ensures some { 0 < result }
     ensures few { result ≤ most_in_flight }
 {
-    if workers == 1 { 1 } else { rooms_for(workers) }
+    if workers == 1 { 1 } else { BATCH }
 }
 
 /// Where the buffers of packets are at home.
@@ -117,32 +105,67 @@ impl Home {
         })
     }
 
-    /// Takes all rooms, which are so many. An error is want of memory.
+    // Takes a room, where so many of them all are out. An error is want of memory, and takes none.
+    fn take_room(&mut self, alloc: Global, all: u16, out: u16) -> Result<Room, AllocError>
+        requires some { out < all }
+        requires out { AreOutOf all out self.old }
+        ensures out { OnOk result (AreOutOf all (out + 1) self.new) }
+        ensures kept { OnErr result (AreOutOf all out self.new) }
+    {
+        let sketch = Sketch::new(alloc)?;
+        let Some(frame) = self.frames.take() else {
+            unreachable!()
+        };
+        let Some(slots) = self.slots.take() else {
+            unreachable!()
+        };
+        let buffers = Buffers {
+            frame,
+            slots,
+            half: unheard(),
+            sketch,
+        };
+        match Box::new(alloc, buffers) {
+            Ok(buffers) => Ok(Room { buffers }),
+            Err(failed) => {
+                self.give_buffers(failed.value, all, usize::from(out));
+                Err(AllocError)
+            }
+        }
+    }
+
+    /// Takes all rooms, which are so many. An error is want of memory, and leaves all at home.
     pub fn take_rooms(&mut self, alloc: Global, count: u16) -> Result<Vec<Room>, AllocError>
         requires { AreOutOf count 0 self.old }
         ensures out { OnOk result (AreOutOf count count self.new) }
+        ensures kept { OnErr result (AreOutOf count 0 self.new) }
         ensures free { IfOk result (λ rooms. vec_len rooms ≡ count) }
         ensures room { IfOk result (λ rooms. count ≤ vec_capacity rooms) }
     {
         let mut rooms = Vec::with_capacity(alloc, usize::from(count))?;
-        for _ in 0..count {
-            let Some(frame) = self.frames.take() else {
-                unreachable!()
+        for out in 0..count {
+            let Ok(room) = self.take_room(alloc, count, out) else {
+                self.give_rooms(rooms, count);
+                return Err(AllocError);
             };
-            let Some(slots) = self.slots.take() else {
-                unreachable!()
-            };
-            let buffers = Buffers {
-                frame,
-                slots,
-                half: unheard(),
-                sketch: Sketch::new(alloc)?,
-            };
-            rooms.push_reserved(Room {
-                buffers: Box::new(alloc, buffers)?,
-            });
+            rooms.push_reserved(room);
         }
         Ok(rooms)
+    }
+
+    // Takes the buffers of one packet back, and leaves so many of them all out.
+    fn give_buffers(&mut self, buffers: Buffers, all: u16, out: usize)
+        requires { AreOutOf all (out + 1) self.old }
+        ensures { AreOutOf all out self.new }
+    {
+        let Buffers {
+            frame,
+            slots,
+            half: _,
+            sketch: _,
+        } = buffers;
+        self.frames.give(frame);
+        self.slots.give(slots);
     }
 
     // Takes rooms back, of so many in all.
@@ -151,21 +174,14 @@ impl Home {
         ensures { AreOutOf all 0 self.new }
     {
         while let Some(Room { buffers }) = rooms.pop() {
-            let Buffers {
-                frame,
-                slots,
-                half: _,
-                sketch: _,
-            } = Box::into_inner(buffers);
-            self.frames.give(frame);
-            self.slots.give(slots);
+            self.give_buffers(Box::into_inner(buffers), all, rooms.len());
         }
     }
 }
 
 impl Stock {
     /// What a run needs that begins by these plans and reads so many packets ahead, which keeps nothing yet. An error is want
-    /// of memory.
+    /// of memory, and leaves all rooms at home.
     pub fn with_rooms<P: Plans>(
         alloc: Global,
         plans: &P,
@@ -174,6 +190,7 @@ impl Stock {
     ) -> Result<Stock, AllocError>
         requires { AreOutOf rooms 0 home.old }
         ensures out { OnOk result (AreOutOf rooms rooms home.new) }
+        ensures kept { OnErr result (AreOutOf rooms 0 home.new) }
         ensures free { IfOk result (λ stock. vec_len stock.rooms ≡ rooms) }
         ensures rooms { IfOk result (λ stock. rooms ≤ vec_capacity stock.rooms) }
         ensures empty { IfOk result (λ stock. stock.cells.items ≡ []) }
@@ -182,10 +199,10 @@ impl Stock {
         ensures memory { IfOk result (λ stock. memory_of stock.board ≡ empty_memory) }
     {
         Ok(Stock {
-            rooms: home.take_rooms(alloc, rooms)?,
             cells: Vec::with_capacity(alloc, usize::from(rooms))?,
             board: Board::new(alloc, plans.params())?,
             lines: Lines::new(alloc)?,
+            rooms: home.take_rooms(alloc, rooms)?,
         })
     }
 

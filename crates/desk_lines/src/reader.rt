@@ -53,12 +53,14 @@ impl<S: Source> DeskReader<S> {
     ghost use Rattle.desk_lines.specs.Reader.{reading_of, source_of};
     ghost use Rattle.desk_lines.specs.Gives.{Gives, HasNextCause};
     ghost use Rattle.desk_lines.specs.declared.reader.TheConstants.{LINE_ROOM};
+    ghost use Rattle.mib_model.specs.Script.{most_lines};
 
     /// What comes next. A line is put at the front of `into`, without its LF, and of one that is too long the first
-    /// 4,097 octets are.
+    /// 4,097 octets are. Behind as many lines as a script has at most nothing is read.
     pub fn next(&mut self, into: &mut [u8]) -> NextLine
         requires { length into.old ≡ LINE_ROOM }
         ensures gives { Gives result (reading_of self.old) (reading_of self.new) (S.left (source_of self.old)) (S.left (source_of self.new)) into.new }
+        ensures unread { (reading_of self.old).lines ≡ most_lines → self.new ≡ self.old }
         ensures cause { HasNextCause result (S.faults (source_of self.old)) (S.faults (source_of self.new)) }
         ensures holds { S.holds (source_of self.new) ≡ S.holds (source_of self.old) }
         ensures missed { S.missed (source_of self.new) ≡ S.missed (source_of self.old) }

@@ -1,5 +1,6 @@
 -- Rows whose columns are the same are equal, and so are tables of them.
 use Rattle.std.proofs.Common.{◌≡◌, Bool, true, false, ◌&&◌, List, [], ◌∷◌, refl, sym, ap, ◌∙◌}
+use Rattle.std.specs.Bool.{Decides}
 use Rattle.std.specs.Cmp.Lexicographic.{pointwise}
 use Rattle.mib_model.specs.declared.rows.OcpRow.{OcpRow}
 use Rattle.mib_model.specs.Columns.{Column, Cells}
@@ -29,6 +30,18 @@ module _ {R : Type 0} (same : R → R → Bool) (equal : (x y : R) → same x y 
   equal-tables {a} {b} {xs} {ys} {test} {r} old new is each holds =
       sym old ∙ equal-lists xs ys ((λ i. pointwise (λ x y. sym (each x y) i) xs ys) ∙ sym is ∙ holds) ∙ new
 
+module _ {R : Type 0} (same : R → R → Bool) (decides : (x y : R) → Decides (same x y) (x ≡ y)) where
+  same-lists : (xs : List R) → pointwise same xs xs ≡ true
+  same-lists [] = refl
+  same-lists (x ∷ xs) = rw ((decides x x).1 refl) (same-lists xs)
+
+  -- such a test tells of the tables whether they are equal
+  pub tables-decide : {a b xs ys : List R} {test : R → R → Bool} {r : Bool} → xs ≡ a → ys ≡ b → r ≡ pointwise test xs ys → ((x y : R) → test x y ≡ same x y) → Decides r (a ≡ b)
+  tables-decide {a} {b} {xs} {ys} {test} {r} old new is each = (
+    equal-tables same (λ x y. (decides x y).0) old new is each,
+    λ are. is ∙ (λ i. pointwise (λ x y. each x y i) xs ys) ∙ ap (pointwise same xs) (new ∙ sym are ∙ sym old) ∙ same-lists xs,
+  )
+
 module _ {R : Type 0} (columns : List Column) (cells : R → Cells columns) (row : Cells columns → R) where
   -- whether all columns of two rows are the same
   abbrev pub same_row : R → R → Bool
@@ -38,6 +51,13 @@ module _ {R : Type 0} (columns : List Column) (cells : R → Cells columns) (row
   pub equal-rows : ((x : R) → row (cells x) ≡ x) → (x y : R) → same_row x y ≡ true → x ≡ y
   equal-rows again x y h = sym (again x) ∙ (ap row ((same_values-Decides columns (cells x) (cells y)).0 h) ∙ again y)
 
+  -- two rows are equal exactly where all their columns are the same
+  pub rows-decide : ((x : R) → row (cells x) ≡ x) → (x y : R) → Decides (same_row x y) (x ≡ y)
+  rows-decide again x y = (equal-rows again x y, λ e. (same_values-Decides columns (cells x) (cells y)).1 (ap cells e))
+
 -- limits that are the same
 pub equal-limits : (x y : OcpRow) → same_ocp x y ≡ true → x ≡ y
 equal-limits x y h = let states = is_of_states x.sort in equal-rows (ocp states) (ocp_cells states) (ocp_row states) (λ x. refl) x y h
+
+pub limits-decide : (x y : OcpRow) → Decides (same_ocp x y) (x ≡ y)
+limits-decide x y = let states = is_of_states x.sort in rows-decide (ocp states) (ocp_cells states) (ocp_row states) (λ x. refl) x y

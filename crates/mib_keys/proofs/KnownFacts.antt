@@ -1,12 +1,12 @@
 -- What is known of the tables that two databases have in common.
-use Rattle.std.proofs.Common.{◌≡◌, Bool, true, false, ◌&&◌, not, cond, List, [], filter_map, refl}
+use Rattle.std.proofs.Common.{◌≡◌, Bool, true, false, ◌&&◌, not, cond, List, filter_map, refl, ap}
 use Rattle.mib_model.specs.declared.database.Database.{Database}
 use Rattle.mib_model.specs.declared.kind.Kind.{Kind}
 use Rattle.mib_model.specs.declared.kind.Kind.TheVariants as kind
 use Rattle.mib_model.specs.declared.rows.Row.{Row}
 use Rattle.mib_model.specs.Drafts.{same_kind, with_rows}
 use Rattle.mib_model.specs.TypedRows.{as_pcf, as_pid, as_pic, as_tpcf, as_plf, as_vpd, as_cur, as_caf, as_cap, as_txf, as_txp, as_mcf, as_lgf, as_ocf, as_ocp}
-use Rattle.mib_keys.specs.Kept.{AreSameIn, others, without}
+use Rattle.mib_keys.specs.Kept.{AreSameIn, HasAllSame, others, without}
 use Rattle.mib_tables.specs.declared.table_set.TableSet.{TableSet}
 use Rattle.mib_tables.specs.Parts.{if_kept, part_of}
 
@@ -58,6 +58,30 @@ same-known known set old new are compared = record {
   lgf = λ h. known-rows known.lgf old.lgf new.lgf are.lgf (compared.lgf h);
   ocf = λ h. known-rows known.ocf old.ocf new.ocf are.ocf (compared.ocf h);
   ocp = λ h. known-rows known.ocp old.ocp new.ocp are.ocp (compared.ocp h);
+}
+
+-- rows that were left out were known, and the others were compared
+compared-rows : {R : Type 0} (known same : Bool) (xs ys : List R) → (if_kept (not known) xs ≡ if_kept (not known) ys → same ≡ true) → xs ≡ ys → same ≡ true
+compared-rows known same xs ys compared are = compared (ap (if_kept (not known)) are)
+
+-- all tables that are the same, where some are known and the others were compared
+pub all-known : (known set : TableSet) (old new : Database) → HasAllSame set (part_of (others known) old) (part_of (others known) new) → HasAllSame set old new
+all-known known set old new compared = record {
+  pcf = compared-rows known.pcf set.pcf old.pcf new.pcf compared.pcf;
+  pid = compared-rows known.pid set.pid old.pid new.pid compared.pid;
+  pic = compared-rows known.pic set.pic old.pic new.pic compared.pic;
+  tpcf = compared-rows known.tpcf set.tpcf old.tpcf new.tpcf compared.tpcf;
+  plf = compared-rows known.plf set.plf old.plf new.plf compared.plf;
+  vpd = compared-rows known.vpd set.vpd old.vpd new.vpd compared.vpd;
+  cur = compared-rows known.cur set.cur old.cur new.cur compared.cur;
+  caf = compared-rows known.caf set.caf old.caf new.caf compared.caf;
+  cap = compared-rows known.cap set.cap old.cap new.cap compared.cap;
+  txf = compared-rows known.txf set.txf old.txf new.txf compared.txf;
+  txp = compared-rows known.txp set.txp old.txp new.txp compared.txp;
+  mcf = compared-rows known.mcf set.mcf old.mcf new.mcf compared.mcf;
+  lgf = compared-rows known.lgf set.lgf old.lgf new.lgf compared.lgf;
+  ocf = compared-rows known.ocf set.ocf old.ocf new.ocf compared.ocf;
+  ocp = compared-rows known.ocp set.ocp old.ocp new.ocp compared.ocp;
 }
 
 -- a database has all tables in common with itself

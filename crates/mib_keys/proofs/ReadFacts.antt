@@ -1,5 +1,5 @@
 -- The flaws of a database are those of what soundness reads of it.
-use Rattle.std.proofs.Common.{◌≡◌, ◌∙◌, ℕ, zero, suc, ◌+◌, ◌-◌, ℤ, pos, Bool, true, false, cond, not, ◌&&◌, ◌||◌, nat_eq, nat_lt, List, [], ◌∷◌, ◌++◌, length, map, take, filter, filter_map, Option, Some, None, option_map, is_some, is_none, refl, sym, ap}
+use Rattle.std.proofs.Common.{◌≡◌, ◌∙◌, ℕ, suc, ◌+◌, ◌-◌, ℤ, pos, Bool, true, false, cond, not, ◌&&◌, ◌||◌, nat_eq, nat_lt, List, [], ◌∷◌, ◌++◌, length, map, take, filter, filter_map, Option, Some, None, option_map, refl, sym, ap}
 use Rattle.std.proofs.lemmas.List.{take-map}
 use Rattle.std.specs.List.{cons_option, enumerate_from, find, flat_map, list_any, position}
 use Rattle.std.specs.Str.{bytes_eq}
@@ -10,21 +10,14 @@ use Rattle.mib_model.specs.Curves.{is_real_format}
 use Rattle.mib_model.specs.CurveFlaws.{cap_rules, has_curve_of, is_bad_point, is_bad_x, is_same_x, points_in}
 use Rattle.mib_model.specs.declared.database.Database.{Database}
 use Rattle.mib_model.specs.declared.fault.MibCode.TheVariants.{BadType, Group, Points}
-use Rattle.mib_model.specs.declared.fault.MibFault.{MibFault}
 use Rattle.mib_model.specs.declared.kind.Kind.{Kind}
 use Rattle.mib_model.specs.declared.kind.Kind.TheVariants as kind
 use Rattle.mib_model.specs.declared.rows.CafRow.{CafRow}
 use Rattle.mib_model.specs.declared.rows.CapRow.{CapRow}
-use Rattle.mib_model.specs.declared.rows.CurRow.{CurRow}
 use Rattle.mib_model.specs.declared.rows.McfRow.{McfRow}
 use Rattle.mib_model.specs.declared.rows.OcfRow.{OcfRow}
-use Rattle.mib_model.specs.declared.rows.OcpRow.{OcpRow}
 use Rattle.mib_model.specs.declared.rows.PcfRow.{PcfRow}
-use Rattle.mib_model.specs.declared.rows.PlfRow.{PlfRow}
-use Rattle.mib_model.specs.declared.rows.Row.{Row}
 use Rattle.mib_model.specs.declared.rows.Row.TheVariants as row
-use Rattle.mib_model.specs.declared.rows.VpdRow.{VpdRow}
-use Rattle.mib_model.specs.Fixed.{has_layout}
 use Rattle.mib_model.specs.Flaws.{Rule, fault_of, flaw_if, missing, row_flaws, table_flaws, twice, twice_by}
 use Rattle.mib_model.specs.GroupFlaws.{counts, does_too_much, is_unmeasured, needs_number, passes_end, place_of, repeats_nothing}
 use Rattle.mib_model.specs.Parameters.{is_measured, parameter}

@@ -24,6 +24,24 @@ pub record AreSameIn (set : TableSet) (old new : Database) : Type 0 where
   pub ocf : set.ocf ≡ true → old.ocf ≡ new.ocf
   pub ocp : set.ocp ≡ true → old.ocp ≡ new.ocp
 
+-- a set has all tables that have the same rows in both databases
+pub record HasAllSame (set : TableSet) (old new : Database) : Type 0 where
+  pub pcf : old.pcf ≡ new.pcf → set.pcf ≡ true
+  pub pid : old.pid ≡ new.pid → set.pid ≡ true
+  pub pic : old.pic ≡ new.pic → set.pic ≡ true
+  pub tpcf : old.tpcf ≡ new.tpcf → set.tpcf ≡ true
+  pub plf : old.plf ≡ new.plf → set.plf ≡ true
+  pub vpd : old.vpd ≡ new.vpd → set.vpd ≡ true
+  pub cur : old.cur ≡ new.cur → set.cur ≡ true
+  pub caf : old.caf ≡ new.caf → set.caf ≡ true
+  pub cap : old.cap ≡ new.cap → set.cap ≡ true
+  pub txf : old.txf ≡ new.txf → set.txf ≡ true
+  pub txp : old.txp ≡ new.txp → set.txp ≡ true
+  pub mcf : old.mcf ≡ new.mcf → set.mcf ≡ true
+  pub lgf : old.lgf ≡ new.lgf → set.lgf ≡ true
+  pub ocf : old.ocf ≡ new.ocf → set.ocf ≡ true
+  pub ocp : old.ocp ≡ new.ocp → set.ocp ≡ true
+
 -- whether a set has all tables that the flaws of a table depend on: its own, and those that its rows refer to
 abbrev pub covers : TableSet → Kind → Bool
 covers set kind.Pcf = set.pcf && set.cur && set.caf && set.txf && set.mcf && set.lgf

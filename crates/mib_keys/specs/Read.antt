@@ -9,7 +9,7 @@ use Rattle.mib_model.specs.declared.rows.OcfRow.{OcfRow}
 use Rattle.mib_model.specs.declared.rows.OcpRow.{OcpRow}
 use Rattle.mib_model.specs.declared.rows.PcfRow.{PcfRow}
 
--- no number
+-- the decimal 0, in place of a number that is not compared
 abbrev pub nought : Dec
 nought = record { m = pos 0; e = pos 0 }
 

@@ -1,13 +1,14 @@
 // Which tables were kept, and which tables the flaws of a table depend on.
 ghost use Rattle.std.specs.Prelude.{◌≡◌, true};
-ghost use Rattle.mib_keys.specs.Kept.{AreSameIn, covers};
+ghost use Rattle.mib_keys.specs.Kept.{AreSameIn, HasAllSame, covers};
 
 use mib_model::Kind;
 use mib_tables::{Book, TableSet};
 
-/// The tables that have the same rows in two books.
+/// The tables that have the same rows in two books, each of them.
 pub fn same_tables(old: &Book, new: &Book) -> TableSet
-    ensures { AreSameIn result old.now new.now }
+    ensures same { AreSameIn result old.now new.now }
+    ensures all { HasAllSame result old.now new.now }
 {
     TableSet {
         pcf: old.pcf() == new.pcf(),

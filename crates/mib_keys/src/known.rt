@@ -1,6 +1,6 @@
 // What is known of the tables that two books have in common.
 ghost use Rattle.std.specs.Prelude.{◌≡◌, List, IfOk};
-ghost use Rattle.mib_keys.specs.Kept.{AreSameIn, others, without};
+ghost use Rattle.mib_keys.specs.Kept.{AreSameIn, HasAllSame, others, without};
 ghost use Rattle.mib_model.specs.declared.database.Database.{Database};
 ghost use Rattle.mib_model.specs.declared.rows.Row.{Row};
 ghost use Rattle.mib_model.specs.Drafts.{with_rows};
@@ -12,25 +12,10 @@ use std::alloc::AllocError;
 
 /// All tables: those that a book has in common with its copy.
 pub fn all_tables() -> TableSet
-    ensures { (db : Database) → AreSameIn result db db }
+    ensures all { result ≡ others TableSet.NONE }
+    ensures same { (db : Database) → AreSameIn result db db }
 {
-    TableSet {
-        pcf: true,
-        pid: true,
-        pic: true,
-        tpcf: true,
-        plf: true,
-        vpd: true,
-        cur: true,
-        caf: true,
-        cap: true,
-        txf: true,
-        txp: true,
-        mcf: true,
-        lgf: true,
-        ocf: true,
-        ocp: true,
-    }
+    others(TableSet::NONE)
 }
 
 // The tables of a set but for one.
@@ -58,7 +43,8 @@ fn but(set: TableSet, kind: Kind) -> TableSet
 
 /// Tables that two books have in common, but for one that was given other rows.
 pub fn without(set: TableSet, kind: Kind) -> TableSet
-    ensures { (old new : Database) (rows : List Row) → AreSameIn set old new → AreSameIn result old (with_rows new kind rows) }
+    ensures set { result ≡ without set kind }
+    ensures same { (old new : Database) (rows : List Row) → AreSameIn set old new → AreSameIn result old (with_rows new kind rows) }
 {
     but(set, kind)
 }
@@ -86,11 +72,12 @@ fn others(set: TableSet) -> TableSet
     }
 }
 
-/// The tables that have the same rows in two books, of which some are known: only the others are compared. An error is want
-/// of memory.
+/// The tables that have the same rows in two books, each of them, of which some are known: only the others are compared. An
+/// error is want of memory.
 pub fn same_beside(known: TableSet, old: &Book, new: &Book) -> Result<TableSet, AllocError>
     requires { AreSameIn known old.now new.now }
-    ensures { IfOk result (λ same. AreSameIn same old.now new.now) }
+    ensures same { IfOk result (λ same. AreSameIn same old.now new.now) }
+    ensures all { IfOk result (λ same. HasAllSame same old.now new.now) }
 {
     let compared = others(known);
     let old = old.part(compared)?;

@@ -7,7 +7,8 @@ use Rattle.mib_model.specs.declared.database.Database.{Database}
 use Rattle.mib_model.specs.declared.rows.VpdRow.{VpdRow}
 use Rattle.mib_model.specs.Fixed.{most_values}
 use Rattle.mib_model.specs.Structures.{group_repeated}
-use Rattle.mib_model.specs.Walk.{Walking, walked}
+use Rattle.mib_model.specs.Walk.{Walking}
+use Rattle.struct_plan.specs.Sources.{Source, walked_by}
 use Rattle.mib_laws.proofs.Nesting.{Nested, nested-append, nested-drop, nested-take, nested-repeat}
 use Rattle.struct_plan.specs.declared.group.Group.{Group}
 use Rattle.struct_plan.specs.Groups.{size_at, end_of, body, to_end, still_to_walk, Ahead, Enclose}
@@ -102,11 +103,11 @@ module _ (rows : List VpdRow) where
         omega (arith, two, all, more)
 
     -- the innermost groups suffice, so many that no more values have room behind them
-    pub innermost-suffice : (db : Database) (packet : List ℕ) (n k at : ℕ) (gs : List Group) (w : Walking) → Enclose rows at at gs → length w.values ≤ most_values → most_values < length w.values + n
-        → walked db packet k (record w { todo = still_to_walk rows at gs }) ≡ walked db packet k (record w { todo = still_to_walk rows at (take n gs) })
-    innermost-suffice db packet n k at gs w around few many = sides (nat_le (length gs) n) refl where
-      sides : (b : Bool) → nat_le (length gs) n ≡ b → walked db packet k (record w { todo = still_to_walk rows at gs }) ≡ walked db packet k (record w { todo = still_to_walk rows at (take n gs) })
-      sides true is = ap (λ (hs : List Group). walked db packet k (record w { todo = still_to_walk rows at hs })) (sym (take_all n gs (leb-true (length gs) n is)))
+    pub innermost-suffice : (db : Database) (source : Source) (n k at : ℕ) (gs : List Group) (w : Walking) → Enclose rows at at gs → length w.values ≤ most_values → most_values < length w.values + n
+        → walked_by db source k (record w { todo = still_to_walk rows at gs }) ≡ walked_by db source k (record w { todo = still_to_walk rows at (take n gs) })
+    innermost-suffice db source n k at gs w around few many = sides (nat_le (length gs) n) refl where
+      sides : (b : Bool) → nat_le (length gs) n ≡ b → walked_by db source k (record w { todo = still_to_walk rows at gs }) ≡ walked_by db source k (record w { todo = still_to_walk rows at (take n gs) })
+      sides true is = ap (λ (hs : List Group). walked_by db source k (record w { todo = still_to_walk rows at hs })) (sym (take_all n gs (leb-true (length gs) n is)))
       sides false is =
           let long : n < length gs = leb-false (length gs) n is in
           let hs : List Group = take n gs in
@@ -117,9 +118,9 @@ module _ (rows : List VpdRow) where
           ap (still_to_walk rows at) (sym (take-append-drop n gs)) ∙ known-split at hs (drop n gs) in
           let part : still_to_walk rows at hs ≡ known at hs ++ still_to_walk rows (last_end at hs) [] =
           ap (still_to_walk rows at) (sym (append-nil hs)) ∙ known-split at hs [] in
-          ap (λ (todo : List VpdRow). walked db packet k (record w { todo = todo })) whole ∙
-          (rows-behind db packet (still_to_walk rows (last_end at hs) (drop n gs)) (still_to_walk rows (last_end at hs) []) k (known at hs) (known-nested at at hs (omega arith) within) w few (omega (arith, many, count, least)) ∙
-          ap (λ (todo : List VpdRow). walked db packet k (record w { todo = todo })) (sym part))
+          ap (λ (todo : List VpdRow). walked_by db source k (record w { todo = todo })) whole ∙
+          (rows-behind db source (still_to_walk rows (last_end at hs) (drop n gs)) (still_to_walk rows (last_end at hs) []) k (known at hs) (known-nested at at hs (omega arith) within) w few (omega (arith, many, count, least)) ∙
+          ap (λ (todo : List VpdRow). walked_by db source k (record w { todo = todo })) (sym part))
 
     pub ahead-take : (n at : ℕ) (gs : List Group) → 0 < n → Ahead rows at gs → Ahead rows at (take n gs)
     ahead-take zero at gs some before = absurd (omega (arith, some))
@@ -127,11 +128,11 @@ module _ (rows : List VpdRow) where
     ahead-take (suc n) at (g ∷ gs) some before = before
 
     -- and one less before a value
-    pub fewer-suffice : (db : Database) (packet : List ℕ) (n k at : ℕ) (gs : List Group) (w : Walking) → Ahead rows at gs → Enclose rows at at gs → length w.values ≤ most_values → 0 < n → most_values ≤ length w.values + n
-        → walked db packet k (record w { todo = still_to_walk rows at gs }) ≡ walked db packet k (record w { todo = still_to_walk rows at (take n gs) })
-    fewer-suffice db packet n k at gs w before around few some many = sides (nat_le (length gs) n) refl where
-      sides : (b : Bool) → nat_le (length gs) n ≡ b → walked db packet k (record w { todo = still_to_walk rows at gs }) ≡ walked db packet k (record w { todo = still_to_walk rows at (take n gs) })
-      sides true is = ap (λ (hs : List Group). walked db packet k (record w { todo = still_to_walk rows at hs })) (sym (take_all n gs (leb-true (length gs) n is)))
+    pub fewer-suffice : (db : Database) (source : Source) (n k at : ℕ) (gs : List Group) (w : Walking) → Ahead rows at gs → Enclose rows at at gs → length w.values ≤ most_values → 0 < n → most_values ≤ length w.values + n
+        → walked_by db source k (record w { todo = still_to_walk rows at gs }) ≡ walked_by db source k (record w { todo = still_to_walk rows at (take n gs) })
+    fewer-suffice db source n k at gs w before around few some many = sides (nat_le (length gs) n) refl where
+      sides : (b : Bool) → nat_le (length gs) n ≡ b → walked_by db source k (record w { todo = still_to_walk rows at gs }) ≡ walked_by db source k (record w { todo = still_to_walk rows at (take n gs) })
+      sides true is = ap (λ (hs : List Group). walked_by db source k (record w { todo = still_to_walk rows at hs })) (sym (take_all n gs (leb-true (length gs) n is)))
       sides false is =
           let long : n < length gs = leb-false (length gs) n is in
           let hs : List Group = take n gs in
@@ -142,19 +143,19 @@ module _ (rows : List VpdRow) where
           ap (still_to_walk rows at) (sym (take-append-drop n gs)) ∙ known-split at hs (drop n gs) in
           let part : still_to_walk rows at hs ≡ known at hs ++ still_to_walk rows (last_end at hs) [] =
           ap (still_to_walk rows at) (sym (append-nil hs)) ∙ known-split at hs [] in
-          ap (λ (todo : List VpdRow). walked db packet k (record w { todo = todo })) whole ∙
-          (rows-behind db packet (still_to_walk rows (last_end at hs) (drop n gs)) (still_to_walk rows (last_end at hs) []) k (known at hs) (known-nested at at hs (omega arith) within) w few (omega (arith, many, count, least)) ∙
-          ap (λ (todo : List VpdRow). walked db packet k (record w { todo = todo })) (sym part))
+          ap (λ (todo : List VpdRow). walked_by db source k (record w { todo = todo })) whole ∙
+          (rows-behind db source (still_to_walk rows (last_end at hs) (drop n gs)) (still_to_walk rows (last_end at hs) []) k (known at hs) (known-nested at at hs (omega arith) within) w few (omega (arith, many, count, least)) ∙
+          ap (λ (todo : List VpdRow). walked_by db source k (record w { todo = todo })) (sym part))
 
     -- a group that is walked so often that no more values have room behind it may be walked less often
-    pub rounds-suffice : (db : Database) (packet : List ℕ) (n m k at : ℕ) (gs : List Group) (w : Walking) → 0 < size_at rows at → Enclose rows at (at + 1 + size_at rows at) gs → length w.values ≤ most_values → most_values < length w.values + m
-        → walked db packet k (record w { todo = group_repeated (size_at rows at) n (still_to_walk rows (at + 1) gs) }) ≡ walked db packet k (record w { todo = group_repeated (size_at rows at) (min n m) (still_to_walk rows (at + 1) gs) })
-    rounds-suffice db packet n m k at gs w some around few many = sides (nat_le n m) refl where
-      sides : (b : Bool) → nat_le n m ≡ b → walked db packet k (record w { todo = group_repeated (size_at rows at) n (still_to_walk rows (at + 1) gs) }) ≡ walked db packet k (record w { todo = group_repeated (size_at rows at) (min n m) (still_to_walk rows (at + 1) gs) })
+    pub rounds-suffice : (db : Database) (source : Source) (n m k at : ℕ) (gs : List Group) (w : Walking) → 0 < size_at rows at → Enclose rows at (at + 1 + size_at rows at) gs → length w.values ≤ most_values → most_values < length w.values + m
+        → walked_by db source k (record w { todo = group_repeated (size_at rows at) n (still_to_walk rows (at + 1) gs) }) ≡ walked_by db source k (record w { todo = group_repeated (size_at rows at) (min n m) (still_to_walk rows (at + 1) gs) })
+    rounds-suffice db source n m k at gs w some around few many = sides (nat_le n m) refl where
+      sides : (b : Bool) → nat_le n m ≡ b → walked_by db source k (record w { todo = group_repeated (size_at rows at) n (still_to_walk rows (at + 1) gs) }) ≡ walked_by db source k (record w { todo = group_repeated (size_at rows at) (min n m) (still_to_walk rows (at + 1) gs) })
       sides true is =
           let le = leb-true n m is in
           let same : n ≡ min n m = omega (arith, le) in
-          ap (λ i. walked db packet k (record w { todo = group_repeated (size_at rows at) i (still_to_walk rows (at + 1) gs) })) same
+          ap (λ i. walked_by db source k (record w { todo = group_repeated (size_at rows at) i (still_to_walk rows (at + 1) gs) })) same
       sides false is =
           let s : ℕ = size_at rows at in
           let rest : List VpdRow = still_to_walk rows (at + 1) gs in
@@ -169,6 +170,6 @@ module _ (rows : List VpdRow) where
           let least = least-repeat m (take s rest) own-nested one in
           let whole : group_repeated (size_at rows at) n (still_to_walk rows (at + 1) gs) ≡ repeat m own ++ (repeat (n - m) own ++ drop s rest) =
           ap (λ (xs : List VpdRow). xs ++ drop s rest) (repeat-sum m (n - m) n own (omega (arith, gt))) ∙ append_assoc (repeat m own) (repeat (n - m) own) (drop s rest) in
-          ap (λ (todo : List VpdRow). walked db packet k (record w { todo = todo })) whole ∙
-          (rows-behind db packet (repeat (n - m) own ++ drop s rest) (drop s rest) k (repeat m own) (nested-repeat m own own-nested) w few (omega (arith, many, least)) ∙
-          ap (λ i. walked db packet k (record w { todo = group_repeated s i rest })) (sym less))
+          ap (λ (todo : List VpdRow). walked_by db source k (record w { todo = todo })) whole ∙
+          (rows-behind db source (repeat (n - m) own ++ drop s rest) (drop s rest) k (repeat m own) (nested-repeat m own own-nested) w few (omega (arith, many, least)) ∙
+          ap (λ i. walked_by db source k (record w { todo = group_repeated s i rest })) (sym less))

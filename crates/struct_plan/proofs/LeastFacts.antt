@@ -1,15 +1,18 @@
 -- Values that rows give at least, and what lies behind so many.
-use Rattle.std.proofs.Common.{◌≡◌, ◌≢◌, ℕ, zero, suc, ◌+◌, ◌<◌, ◌≤◌, ℤ, ◌+ℤ◌, Bool, true, false, not, cond, nat_eq, nat_abs, List, [], ◌∷◌, ◌++◌, length, take, drop, Option, Some, None, option_and_then, refl, sym, ap, subst, ◌∙◌, length-append, arith}
+use Rattle.std.proofs.Common.{◌≡◌, ◌≢◌, ℕ, zero, suc, ◌+◌, ◌<◌, ◌≤◌, ℤ, ◌+ℤ◌, Bool, true, false, not, cond, nat_eq, pos, List, [], ◌∷◌, ◌++◌, length, take, drop, Option, Some, None, Result, Ok, Err, option_and_then, refl, sym, ap, subst, ◌∙◌, length-append, arith}
 use Rattle.std.proofs.lemmas.Bool.{eqb-true, eqb-false}
 use Rattle.std.proofs.lemmas.List.{append_assoc, take-append-drop, take-append-le, drop-append-le}
 use Rattle.std.specs.List.{repeat}
 use Rattle.mib_model.specs.declared.database.Database.{Database}
 use Rattle.mib_model.specs.declared.packet.Ended.TheVariants as ended
 use Rattle.mib_model.specs.declared.rows.VpdRow.{VpdRow}
-use Rattle.mib_model.specs.Bits.{raw_number}
+use Rattle.mib_model.specs.declared.packet.Value.{Value}
 use Rattle.mib_model.specs.Fixed.{most_values}
-use Rattle.mib_model.specs.Structures.{Typed, typed, subject, structure, group_repeated, times, is_yes}
-use Rattle.mib_model.specs.Walk.{Extracted, Walking, Step, Goes, Ends, step, on_row, on_subject, try_value, after_value, with_value, chosen, lies_outside, walked, on_step}
+use Rattle.mib_model.specs.Structures.{Typed, typed, subject, structure, group_repeated, moved_by, times, is_yes}
+use Rattle.mib_model.specs.Walk.{Walking, Step, Goes, Ends, after_value, chosen}
+use Rattle.struct_plan.specs.declared.numbers.WalkEnd.{WalkEnd}
+use Rattle.struct_plan.specs.Entries.{field_of}
+use Rattle.struct_plan.specs.Sources.{Source, Walked, Move, Steps, move, on_given, on_move, on_row_by, on_step_by, on_subject_by, try_by, walked_by}
 use Rattle.mib_laws.proofs.Nesting.{Fits, Nested, nested-append, nested-drop, nested-take, nested-repeat}
 use Rattle.struct_plan.proofs.NestFacts.{fits-length}
 
@@ -96,23 +99,27 @@ module _ (s : ℕ) (rest : List VpdRow) (fits : Fits s rest) (nested : Nested re
       (ap (λ (ys : List VpdRow). repeat n (take s rest) ++ ys) (drop-append-le s rest xs le) ∙
       sym (append_assoc (repeat n (take s rest)) (drop s rest) xs))
 
-module _ (db : Database) (packet : List ℕ) (xs ys : List VpdRow) where
+module _ (db : Database) (source : Source) (xs ys : List VpdRow) where
   -- so many steps from either of two walks come to the same
   Alike : ℕ → Step → Step → Type 0
-  Alike k s t = on_step (λ on. walked db packet k on) s ≡ on_step (λ on. walked db packet k on) t
+  Alike k s t = on_step_by (λ on. walked_by db source k on) s ≡ on_step_by (λ on. walked_by db source k on) t
 
   -- two walks that differ in the rows behind so many values
   abbrev pub AllAlike : ℕ → Type 0
   AllAlike k = (c : List VpdRow) → Nested c → (w : Walking) → length w.values ≤ most_values → most_values < length w.values + least c
-      → walked db packet k (record w { todo = c ++ xs }) ≡ walked db packet k (record w { todo = c ++ ys })
+      → walked_by db source k (record w { todo = c ++ xs }) ≡ walked_by db source k (record w { todo = c ++ ys })
+
+  -- the same of rows
+  AlikeMoves : ℕ → Move → Move → Type 0
+  AlikeMoves k m n = on_move (λ on. walked_by db source k on) m ≡ on_move (λ on. walked_by db source k on) n
+
+  either-move : (k : ℕ) (b : Bool) (s t s' t' : Move) → (b ≡ true → AlikeMoves k s s') → (b ≡ false → AlikeMoves k t t') → AlikeMoves k (cond b s t) (cond b s' t')
+  either-move k true s t s' t' first second = first refl
+  either-move k false s t s' t' first second = second refl
 
   either-way : (k : ℕ) (b : Bool) (s t s' t' : Step) → (b ≡ true → Alike k s s') → (b ≡ false → Alike k t t') → Alike k (cond b s t) (cond b s' t')
   either-way k true s t s' t' first second = first refl
   either-way k false s t s' t' first second = second refl
-
-  same : (k : ℕ) (s : Step) → Alike k s s
-  unfolding Alike
-  same k s = refl
 
   not-true : (b : Bool) → not b ≡ false → b ≡ true
   not-true true h = refl
@@ -130,7 +137,7 @@ module _ (db : Database) (packet : List ℕ) (xs ys : List VpdRow) where
       → Alike k (Goes (record on { todo = group_repeated s n (c ++ xs) })) (Goes (record on { todo = group_repeated s n (c ++ ys) }))
   unfolding Alike
   goes-group k all s n c fits nested on few many =
-      let go : List VpdRow → Option Extracted = λ rows. walked db packet k (record on { todo = rows }) in
+      let go : List VpdRow → Option Walked = λ rows. walked_by db source k (record on { todo = rows }) in
       ap go (group-append s c fits nested n xs) ∙ (goes k all (group_repeated s n c) (group-nested s c fits nested n) on few many ∙ ap go (sym (group-append s c fits nested n ys)))
 
   chosen-alike : (k : ℕ) (c : List VpdRow) (raw : ℤ) (on : Walking) (rows : List VpdRow) → Alike k (chosen (record on { todo = c ++ xs }) raw rows) (chosen (record on { todo = c ++ ys }) raw rows)
@@ -152,28 +159,34 @@ module _ (db : Database) (packet : List ℕ) (xs ys : List VpdRow) where
       either-way k (is_yes r.pidref) (Goes (record on { last = raw; todo = c ++ xs })) (Goes (record on { todo = c ++ xs })) (Goes (record on { last = raw; todo = c ++ ys })) (Goes (record on { todo = c ++ ys }))
       (λ j. goes k all c nested.1 (record on { last = raw }) few enough) (λ j. goes k all c nested.1 on few enough)))
 
-  value : (k : ℕ) → AllAlike k → (r : VpdRow) (c : List VpdRow) → Nested (r ∷ c) → (w : Walking) → length w.values ≤ most_values → most_values < length w.values + (1 + least_behind r.grpsize c) → (t : Typed)
-      → Alike k (try_value db packet r (c ++ xs) w t) (try_value db packet r (c ++ ys) w t)
-  unfolding Alike
-  value k all r c nested w few many t =
-      either-way k (nat_eq (length w.values) most_values) (Ends ended.Many w.values) _ (Ends ended.Many w.values) _ (λ h. same k (Ends ended.Many w.values)) (λ h.
-      either-way k (lies_outside packet w.cursor t.1.width) (Ends (ended.Short t.0.name) w.values) _ (Ends (ended.Short t.0.name) w.values) _ (λ i. same k (Ends (ended.Short t.0.name) w.values)) (λ i.
-      let raw = raw_number t.1 packet (nat_abs w.cursor) in
-      let on = with_value [] w raw (nat_abs w.cursor) t in
+  given : (k : ℕ) → AllAlike k → (r : VpdRow) (c : List VpdRow) → Nested (r ∷ c) → (w : Walking) → length w.values < most_values → most_values < length w.values + (1 + least_behind r.grpsize c) → (t : Typed) (value : Result Value WalkEnd)
+      → AlikeMoves k (on_given db r (c ++ xs) w t value) (on_given db r (c ++ ys) w t value)
+  unfolding Alike AlikeMoves
+  given k all r c nested w few many t (Err why) = refl
+  given k all r c nested w few many t (Ok v) =
+      let on : Walking = record { todo = []; cursor = pos (v.at + moved_by t); last = w.last; values = w.values ++ v ∷ [] } in
       let more : length on.values ≡ length w.values + 1 = length-append w.values _ in
+      after k all r c nested v.raw on (omega (arith, few, more)) (omega (arith, many, more))
+
+  value : (k : ℕ) → AllAlike k → (r : VpdRow) (c : List VpdRow) → Nested (r ∷ c) → (w : Walking) → length w.values ≤ most_values → most_values < length w.values + (1 + least_behind r.grpsize c) → (t : Typed)
+      → AlikeMoves k (try_by db source r (c ++ xs) w t) (try_by db source r (c ++ ys) w t)
+  unfolding Alike AlikeMoves
+  value k all r c nested w few many t =
+      either-move k (nat_eq (length w.values) most_values) (Steps (Ends ended.Many w.values)) _ (Steps (Ends ended.Many w.values)) _ (λ h. refl) (λ h.
       let other = eqb-false (length w.values) most_values h in
-      after k all r c nested raw on (omega (arith, few, more, other)) (omega (arith, many, more))))
+      given k all r c nested w (omega (arith, few, other)) many t (source w.cursor (field_of t) (length w.values)))
 
   on-subject : (k : ℕ) → AllAlike k → (r : VpdRow) (c : List VpdRow) → Nested (r ∷ c) → (w : Walking) → length w.values ≤ most_values → most_values < length w.values + (1 + least_behind r.grpsize c) → (o : Option Typed)
-      → Alike k (on_subject db packet r (c ++ xs) w o) (on_subject db packet r (c ++ ys) w o)
-  unfolding Alike
+      → AlikeMoves k (on_subject_by db source r (c ++ xs) w o) (on_subject_by db source r (c ++ ys) w o)
+  unfolding Alike AlikeMoves
   on-subject k all r c nested w few many None = refl
   on-subject k all r c nested w few many (Some t) = value k all r c nested w few many t
 
   row : (k : ℕ) → AllAlike k → (r : VpdRow) (c : List VpdRow) → Nested (r ∷ c) → (w : Walking) → length w.values ≤ most_values → most_values < length w.values + least (r ∷ c)
-      → Alike k (on_row db packet r (c ++ xs) w) (on_row db packet r (c ++ ys) w)
+      → AlikeMoves k (on_row_by db source r (c ++ xs) w) (on_row_by db source r (c ++ ys) w)
+  unfolding Alike AlikeMoves
   row k all r c nested w few many =
-      either-way k (not (nat_eq r.fixrep 0)) (Goes (record w { todo = group_repeated r.grpsize r.fixrep (c ++ xs) })) _ (Goes (record w { todo = group_repeated r.grpsize r.fixrep (c ++ ys) })) _
+      either-move k (not (nat_eq r.fixrep 0)) (Steps (Goes (record w { todo = group_repeated r.grpsize r.fixrep (c ++ xs) }))) _ (Steps (Goes (record w { todo = group_repeated r.grpsize r.fixrep (c ++ ys) }))) _
       (λ h.
       let off : nat_eq r.fixrep 0 ≡ false = not-false (nat_eq r.fixrep 0) h in
       let fixed = least-fixed r.grpsize c nested.0.fits nested.1 r.fixrep (eqb-false r.fixrep 0 off) in
@@ -186,7 +199,7 @@ module _ (db : Database) (packet : List ℕ) (xs ys : List VpdRow) where
 
   -- rows behind so many values that no more have room don't matter
   pub rows-behind : (k : ℕ) → AllAlike k
-  unfolding walked step Alike
+  unfolding walked_by move Alike AlikeMoves
   rows-behind zero c nested w few many = refl
   rows-behind (suc k) [] nested w few many = absurd (omega (arith, few, many))
   rows-behind (suc k) (r ∷ c) nested w few many = row k (rows-behind k) r c nested (record w { cursor = w.cursor +ℤ r.offset }) few many

@@ -4,6 +4,8 @@ pub mod GroupFacts
 pub mod LeastFacts
 pub mod KnownFacts
 pub mod EntryFacts
+pub mod SourceFacts
+pub mod EndFacts
 pub mod CourseFacts
 pub mod PlaceFacts
 pub mod RowFacts

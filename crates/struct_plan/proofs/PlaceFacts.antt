@@ -11,7 +11,8 @@ use Rattle.mib_model.specs.declared.packet.Value.{Value}
 use Rattle.mib_model.specs.declared.rows.VpdRow.{VpdRow}
 use Rattle.mib_model.specs.Fixed.{most_values}
 use Rattle.mib_model.specs.Structures.{times, group_repeated}
-use Rattle.mib_model.specs.Walk.{Extracted, walked}
+use Rattle.struct_plan.specs.declared.numbers.WalkEnd.TheVariants.{Ended}
+use Rattle.struct_plan.specs.Sources.{Source, Walked, walked_by}
 use Rattle.mib_laws.proofs.LimitFacts.{structure-rows}
 use Rattle.mib_laws.proofs.Nesting.{Nested}
 use Rattle.mib_laws.proofs.SoundStructures.{structures-good}
@@ -36,22 +37,22 @@ enclose-rows rows low high [] around = tt
 enclose-rows rows low high (g ∷ gs) around = (enclose-length rows g.row (end_of rows g) gs around.4, around.3)
 
 -- as many of the groups as matter
-pub gives-innermost : (db : Database) (packet : List ℕ) (end : Extracted) (rows : List VpdRow) (course : Course) (values : List Value) (at : ℕ) (gs gs' : List Group) → Nested rows → Enclose rows at at gs → length values ≤ most_values → gs' ≡ take (most_values - length values + 1) gs
-    → Gives db packet end (walking (still_to_walk rows at gs) course values) → Gives db packet end (walking (still_to_walk rows at gs') course values)
-gives-innermost db packet end rows course values at gs gs' nested around few is (steps, gives) =
-    let same = innermost-suffice rows nested db packet (most_values - length values + 1) steps at gs (walking [] course values) around few (omega (arith, few)) in
-    (steps, ap (λ (hs : List Group). walked db packet steps (walking (still_to_walk rows at hs) course values)) is ∙ (sym same ∙ gives))
+pub gives-innermost : (db : Database) (source : Source) (end : Walked) (rows : List VpdRow) (course : Course) (values : List Value) (at : ℕ) (gs gs' : List Group) → Nested rows → Enclose rows at at gs → length values ≤ most_values → gs' ≡ take (most_values - length values + 1) gs
+    → Gives db source end (walking (still_to_walk rows at gs) course values) → Gives db source end (walking (still_to_walk rows at gs') course values)
+gives-innermost db source end rows course values at gs gs' nested around few is (steps, gives) =
+    let same = innermost-suffice rows nested db source (most_values - length values + 1) steps at gs (walking [] course values) around few (omega (arith, few)) in
+    (steps, ap (λ (hs : List Group). walked_by db source steps (walking (still_to_walk rows at hs) course values)) is ∙ (sym same ∙ gives))
 
 -- a group that is walked as often as matters
-pub gives-rounds : (db : Database) (packet : List ℕ) (end : Extracted) (rows : List VpdRow) (course : Course) (values : List Value) (at size : ℕ) (raw : ℤ) (gs : List Group) → Nested rows → size ≡ size_at rows at → 0 < size → Enclose rows at (at + 1 + size) gs → length values ≤ most_values
-    → Gives db packet end (walking (group_repeated size (times raw) (still_to_walk rows (at + 1) gs)) course values) → Gives db packet end (walking (group_repeated size (rounds raw) (still_to_walk rows (at + 1) gs)) course values)
-gives-rounds db packet end rows course values at size raw gs nested sized some around few (steps, gives) =
+pub gives-rounds : (db : Database) (source : Source) (end : Walked) (rows : List VpdRow) (course : Course) (values : List Value) (at size : ℕ) (raw : ℤ) (gs : List Group) → Nested rows → size ≡ size_at rows at → 0 < size → Enclose rows at (at + 1 + size) gs → length values ≤ most_values
+    → Gives db source end (walking (group_repeated size (times raw) (still_to_walk rows (at + 1) gs)) course values) → Gives db source end (walking (group_repeated size (rounds raw) (still_to_walk rows (at + 1) gs)) course values)
+gives-rounds db source end rows course values at size raw gs nested sized some around few (steps, gives) =
     let some_at : 0 < size_at rows at = omega (arith, sized, some) in
     let around_at : Enclose rows at (at + 1 + size_at rows at) gs = subst (λ s. Enclose rows at (at + 1 + s) gs) sized around in
-    let same = rounds-suffice rows nested db packet (times raw) (most_values + 1) steps at gs (walking [] course values) some_at around_at few (omega arith) in (
+    let same = rounds-suffice rows nested db source (times raw) (most_values + 1) steps at gs (walking [] course values) some_at around_at few (omega arith) in (
       steps,
-      ap (λ s. walked db packet steps (walking (group_repeated s (rounds raw) (still_to_walk rows (at + 1) gs)) course values)) sized ∙
-          (sym same ∙ (ap (λ s. walked db packet steps (walking (group_repeated s (times raw) (still_to_walk rows (at + 1) gs)) course values)) (sym sized) ∙ gives)),
+      ap (λ s. walked_by db source steps (walking (group_repeated s (rounds raw) (still_to_walk rows (at + 1) gs)) course values)) sized ∙
+          (sym same ∙ (ap (λ s. walked_by db source steps (walking (group_repeated s (times raw) (still_to_walk rows (at + 1) gs)) course values)) (sym sized) ∙ gives)),
     )
 
 not-none : (n : ℕ) (b : Bool) → nat_eq n 0 ≡ b → 0 < n → b ≡ false
@@ -66,12 +67,12 @@ module _ (rows : List VpdRow) (at n count : ℕ) (gs gs' : List Group) (some : 0
   pub entered-around : Enclose rows next next gs'
   entered-around = subst (Enclose rows next next) (sym is') (enclose-take rows n next next (entered at count gs) (entered-enclose rows at gs around some count))
 
-  pub entered-gives : (db : Database) (packet : List ℕ) (end : Extracted) (course : Course) (values : List Value) → Nested rows → length values ≤ most_values → n ≡ most_values - length values + 1
-      → Gives db packet end (walking (group_repeated (size_at rows at) count (still_to_walk rows (at + 1) gs)) course values) → Gives db packet end (walking (still_to_walk rows next gs') course values)
-  entered-gives db packet end course values nested few room gives =
-      gives-innermost db packet end rows course values next (entered at count gs) gs' nested (entered-enclose rows at gs around some count) few
+  pub entered-gives : (db : Database) (source : Source) (end : Walked) (course : Course) (values : List Value) → Nested rows → length values ≤ most_values → n ≡ most_values - length values + 1
+      → Gives db source end (walking (group_repeated (size_at rows at) count (still_to_walk rows (at + 1) gs)) course values) → Gives db source end (walking (still_to_walk rows next gs') course values)
+  entered-gives db source end course values nested few room gives =
+      gives-innermost db source end rows course values next (entered at count gs) gs' nested (entered-enclose rows at gs around some count) few
       (is' ∙ ap (λ k. take k (entered at count gs)) room)
-      (subst (λ todo. Gives db packet end (walking todo course values)) (sym (entered-still rows at gs around count)) gives)
+      (subst (λ todo. Gives db source end (walking todo course values)) (sym (entered-still rows at gs around count)) gives)
 
   ahead-next : (hs : List Group) → Enclose rows at (at + 1 + size_at rows at) hs → Ahead rows (at + 1) hs
   ahead-next [] within = omega (arith, within)
@@ -125,13 +126,13 @@ module _ (rows : List VpdRow) (at at' size used count : ℕ) (gs gs' : List Grou
   pub behind-around : Enclose rows at' at' gs'
   behind-around = subst (λ m. Enclose rows m m gs') (sym there_at) (entered-around rows at (most_values - used + 1) count gs gs' some_at around_at is)
 
-  pub behind-gives : (db : Database) (packet : List ℕ) (end : Extracted) (course : Course) (values : List Value) → Nested rows → used ≤ most_values → length values ≡ used
-      → Gives db packet end (walking (group_repeated size count (still_to_walk rows (at + 1) gs)) course values) → Gives db packet end (walking (still_to_walk rows at' gs') course values)
-  behind-gives db packet end course values nested few same gives =
+  pub behind-gives : (db : Database) (source : Source) (end : Walked) (course : Course) (values : List Value) → Nested rows → used ≤ most_values → length values ≡ used
+      → Gives db source end (walking (group_repeated size count (still_to_walk rows (at + 1) gs)) course values) → Gives db source end (walking (still_to_walk rows at' gs') course values)
+  behind-gives db source end course values nested few same gives =
       let room : most_values - used + 1 ≡ most_values - length values + 1 = omega (arith, same) in
-      subst (λ m. Gives db packet end (walking (still_to_walk rows m gs') course values)) (sym there_at)
-      (entered-gives rows at (most_values - used + 1) count gs gs' some_at around_at is db packet end course values nested (omega (arith, same, few)) room
-      (subst (λ s. Gives db packet end (walking (group_repeated s count (still_to_walk rows (at + 1) gs)) course values)) sized gives))
+      subst (λ m. Gives db source end (walking (still_to_walk rows m gs') course values)) (sym there_at)
+      (entered-gives rows at (most_values - used + 1) count gs gs' some_at around_at is db source end course values nested (omega (arith, same, few)) room
+      (subst (λ s. Gives db source end (walking (group_repeated s count (still_to_walk rows (at + 1) gs)) course values)) sized gives))
 
   pub behind-ahead : (k : ℕ) → count ≡ suc k → Ahead rows at' gs'
   behind-ahead k one = subst (λ m. Ahead rows m gs') (sym there_at) (entered-ahead rows at (most_values - used + 1) count gs gs' some_at around_at is k one (omega arith))
@@ -154,13 +155,13 @@ groups-given (Some g) kept kept' room alone is =
     ap (λ (gs : List Group). g ∷ gs) is ∙ ap (λ n. take n (g ∷ kept)) (sym more)
 
 -- where no row is left
-pub gives-whole : (db : Database) (packet : List ℕ) (end : Extracted) (rows : List VpdRow) (course : Course) (values : List Value) (at : ℕ) (gs : List Group) → Enclose rows at at gs → Ahead rows at gs → length rows ≤ at
-    → Gives db packet end (walking (still_to_walk rows at gs) course values) → (values, ended.Whole) ≡ end
-gives-whole db packet end rows course values at gs around before past gives =
+pub gives-whole : (db : Database) (source : Source) (end : Walked) (rows : List VpdRow) (course : Course) (values : List Value) (at : ℕ) (gs : List Group) → Enclose rows at at gs → Ahead rows at gs → length rows ≤ at
+    → Gives db source end (walking (still_to_walk rows at gs) course values) → (values, Ended ended.Whole) ≡ end
+gives-whole db source end rows course values at gs around before past gives =
     let within = enclose-length rows at at gs around in
     let none : gs ≡ [] = ahead-length rows at gs before around (omega (arith, within, past)) in
     let todo : still_to_walk rows at gs ≡ [] = ap (still_to_walk rows at) none ∙ drop_all at rows past in
-    gives-none db packet end course values (gives-todo db packet end (still_to_walk rows at gs) [] course values todo gives)
+    gives-none db source end course values (gives-todo db source end (still_to_walk rows at gs) [] course values todo gives)
 
 -- fewer steps are left behind a row: it gave a value, or the next row is further on
 pub fewer-left : (most used used' at at' rows : ℕ) → IsFurther used at used' at' → used' ≤ most → at < rows → (most - used') * rows + (rows - at') < (most - used) * rows + (rows - at)

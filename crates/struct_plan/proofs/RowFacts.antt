@@ -17,7 +17,8 @@ use Rattle.mib_model.specs.Layouts.{item_named}
 use Rattle.mib_model.specs.Parameters.{parameter, endian_of}
 use Rattle.mib_model.specs.Plans.{type_item, type_items}
 use Rattle.mib_model.specs.Structures.{Typed, typed, subject, deduced, own_or_deduced, group_repeated, is_yes}
-use Rattle.mib_model.specs.Walk.{Extracted, Goes, on_row, on_subject}
+use Rattle.mib_model.specs.Walk.{Goes}
+use Rattle.struct_plan.specs.Sources.{Source, Walked, Steps, on_row_by, on_subject_by}
 use Rattle.mib_laws.proofs.Nesting.{Nested, nested-drop}
 use Rattle.mib_laws.proofs.SliceFacts.{item_from, named}
 use Rattle.struct_plan.specs.declared.course.Course.{Course}
@@ -28,7 +29,7 @@ use Rattle.struct_plan.specs.declared.entry.Subject.{Subject}
 use Rattle.struct_plan.specs.declared.entry.Then.{Then}
 use Rattle.struct_plan.specs.declared.entry.Then.TheVariants as then
 use Rattle.struct_plan.specs.declared.group.Group.{Group}
-use Rattle.struct_plan.specs.Courses.{Gives, Leads, IsStructure, walking}
+use Rattle.struct_plan.specs.Courses.{Gives, Moves, IsStructure, walking}
 use Rattle.struct_plan.specs.Entries.{entry_of, act_of, field_of, field_at, item_field, subject_by, own, then_of}
 use Rattle.struct_plan.specs.Groups.{size_at, still_to_walk, Enclose, Ahead}
 use Rattle.struct_plan.specs.Slices.{StructureRows}
@@ -116,13 +117,13 @@ module _ (db : Database) (rows : StructureRows) (is : IsStructure db rows) (at :
   moved course = record course { cursor = course.cursor +ℤ entry.offset }
 
   -- the step of the row
-  row-step : (packet : List ℕ) (end : Extracted) (course : Course) (values : List Value) (row : VpdRow) (rest : List VpdRow) → drop at rows.vpds ≡ row ∷ rest
-      → Gives db packet end (walking (still_to_walk rows.vpds at gs) course values) → Leads db packet end (on_row db packet row behind (walking (row ∷ behind) (moved course) values))
+  row-step : (source : Source) (end : Walked) (course : Course) (values : List Value) (row : VpdRow) (rest : List VpdRow) → drop at rows.vpds ≡ row ∷ rest
+      → Gives db source end (walking (still_to_walk rows.vpds at gs) course values) → Moves db source end (on_row_by db source row behind (walking (row ∷ behind) (moved course) values))
   unfolding behind moved
-  row-step packet end course values row rest here gives =
+  row-step source end course values row rest here gives =
       let same : row.offset ≡ entry.offset = ap (λ (e : Entry). e.offset) (sym (compiled row rest here)) in
-      subst (λ (z : ℤ). Leads db packet end (on_row db packet row behind (walking (row ∷ behind) (record course { cursor = course.cursor +ℤ z }) values))) same
-      (gives-row db packet end row behind course values (gives-todo db packet end (still_to_walk rows.vpds at gs) (row ∷ behind) course values (still-next row rest here) gives))
+      subst (λ (z : ℤ). Moves db source end (on_row_by db source row behind (walking (row ∷ behind) (record course { cursor = course.cursor +ℤ z }) values))) same
+      (gives-row db source end row behind course values (gives-todo db source end (still_to_walk rows.vpds at gs) (row ∷ behind) course values (still-next row rest here) gives))
 
   above : (n : ℕ) → n ≢ 0 → 0 < n
   above zero other = absurd (other refl)
@@ -140,41 +141,41 @@ module _ (db : Database) (rows : StructureRows) (is : IsStructure db rows) (at :
       let size : entry.size ≡ row.grpsize = ap (λ (e : Entry). e.size) (compiled row rest here) in
       (above entry.size (λ e. grouped (sym size ∙ e)), above times (λ e. fixed (same ∙ e)))
 
-  if-not : (packet : List ℕ) (end : Extracted) (b : Bool) (s t : _) → b ≡ false → Leads db packet end (cond (not b) s t) → Leads db packet end s
-  if-not packet end true s t is leads = absurd (cc is)
-  if-not packet end false s t is leads = leads
+  if-not : (source : Source) (end : Walked) (b : Bool) (s t : _) → b ≡ false → Moves db source end (cond (not b) s t) → Moves db source end s
+  if-not source end true s t is leads = absurd (cc is)
+  if-not source end false s t is leads = leads
 
-  if-so : (packet : List ℕ) (end : Extracted) (b : Bool) (s t : _) → b ≡ true → Leads db packet end (cond (not b) s t) → Leads db packet end t
-  if-so packet end true s t is leads = leads
-  if-so packet end false s t is leads = absurd (cc is)
+  if-so : (source : Source) (end : Walked) (b : Bool) (s t : _) → b ≡ true → Moves db source end (cond (not b) s t) → Moves db source end t
+  if-so source end true s t is leads = leads
+  if-so source end false s t is leads = absurd (cc is)
 
-  pub repeat-gives : (packet : List ℕ) (end : Extracted) (course : Course) (values : List Value) (times : ℕ) → entry.act ≡ act.Repeat times
-      → Gives db packet end (walking (still_to_walk rows.vpds at gs) course values)
-      → Gives db packet end (walking (group_repeated entry.size times (still_to_walk rows.vpds (at + 1) gs)) (record course { cursor = course.cursor +ℤ entry.offset }) values)
+  pub repeat-gives : (source : Source) (end : Walked) (course : Course) (values : List Value) (times : ℕ) → entry.act ≡ act.Repeat times
+      → Gives db source end (walking (still_to_walk rows.vpds at gs) course values)
+      → Gives db source end (walking (group_repeated entry.size times (still_to_walk rows.vpds (at + 1) gs)) (record course { cursor = course.cursor +ℤ entry.offset }) values)
   unfolding behind moved
-  repeat-gives packet end course values times acts gives =
+  repeat-gives source end course values times acts gives =
       let (row, rest, here) = first-at rows.vpds at inside in
       let compiled-act : act_of rows.types row ≡ act.Repeat times = ap (λ (e : Entry). e.act) (sym (compiled row rest here)) ∙ acts in
       let (some, same) = repeat-act rows.types row times (nat_eq row.fixrep 0) refl compiled-act in
       let size : row.grpsize ≡ entry.size = ap (λ (e : Entry). e.size) (sym (compiled row rest here)) in
-      let leads : Gives db packet end (walking (group_repeated row.grpsize row.fixrep behind) (moved course) values) =
-      if-not packet end (nat_eq row.fixrep 0) (Goes (walking (group_repeated row.grpsize row.fixrep behind) (moved course) values)) _ some (row-step packet end course values row rest here gives) in
-      subst (λ s. Gives db packet end (walking (group_repeated s times behind) (moved course) values)) size
-      (subst (λ n. Gives db packet end (walking (group_repeated row.grpsize n behind) (moved course) values)) same leads)
+      let leads : Gives db source end (walking (group_repeated row.grpsize row.fixrep behind) (moved course) values) =
+      if-not source end (nat_eq row.fixrep 0) (Steps (Goes (walking (group_repeated row.grpsize row.fixrep behind) (moved course) values))) _ some (row-step source end course values row rest here gives) in
+      subst (λ s. Gives db source end (walking (group_repeated s times behind) (moved course) values)) size
+      (subst (λ n. Gives db source end (walking (group_repeated row.grpsize n behind) (moved course) values)) same leads)
 
   -- what a row that gives a value leads to
-  pub record Gave (packet : List ℕ) (end : Extracted) (course : Course) (values : List Value) (s : Subject) (what : Then) : Type 0 where
+  pub record Gave (source : Source) (end : Walked) (course : Course) (values : List Value) (s : Subject) (what : Then) : Type 0 where
     pub row : VpdRow
     pub parameter : Option Typed
     pub found : field_at db course.last s ≡ option_map field_of parameter
     pub after : what ≡ then_of row
     pub size : entry.size ≡ row.grpsize
-    pub leads : Leads db packet end (on_subject db packet row (still_to_walk rows.vpds (at + 1) gs) (walking (row ∷ still_to_walk rows.vpds (at + 1) gs) (record course { cursor = course.cursor +ℤ entry.offset }) values) parameter)
+    pub leads : Moves db source end (on_subject_by db source row (still_to_walk rows.vpds (at + 1) gs) (walking (row ∷ still_to_walk rows.vpds (at + 1) gs) (record course { cursor = course.cursor +ℤ entry.offset }) values) parameter)
 
-  pub give-leads : (packet : List ℕ) (end : Extracted) (course : Course) (values : List Value) (s : Subject) (after : Then) → entry.act ≡ act.Give s after
-      → Gives db packet end (walking (still_to_walk rows.vpds at gs) course values) → Gave packet end course values s after
+  pub give-leads : (source : Source) (end : Walked) (course : Course) (values : List Value) (s : Subject) (after : Then) → entry.act ≡ act.Give s after
+      → Gives db source end (walking (still_to_walk rows.vpds at gs) course values) → Gave source end course values s after
   unfolding behind moved
-  give-leads packet end course values s after acts gives =
+  give-leads source end course values s after acts gives =
       let (row, rest, here) = first-at rows.vpds at inside in
       let compiled-act : act_of rows.types row ≡ act.Give s after = ap (λ (e : Entry). e.act) (sym (compiled row rest here)) ∙ acts in
       let (some, subjects, thens) = give-act rows.types row s after (nat_eq row.fixrep 0) refl compiled-act in
@@ -189,14 +190,14 @@ module _ (db : Database) (rows : StructureRows) (is : IsStructure db rows) (at :
         found = ap (field_at db course.last) (sym subjects ∙ ap subject_by item) ∙ found-field db course.last (parameter db.pcf row.name);
         after = sym thens;
         size = ap (λ (e : Entry). e.size) (compiled row rest here);
-        leads = if-so packet end (nat_eq row.fixrep 0) _ _ some (row-step packet end course values row rest here gives);
+        leads = if-so source end (nat_eq row.fixrep 0) _ _ some (row-step source end course values row rest here gives);
       }
 
   -- as many groups as matter behind a value
-  pub gives-fewer : (packet : List ℕ) (end : Extracted) (course : Course) (values : List Value) (n : ℕ) → length values ≤ most_values → 0 < n → most_values ≤ length values + n
-      → Gives db packet end (walking (still_to_walk rows.vpds at gs) course values) → Gives db packet end (walking (still_to_walk rows.vpds at (take n gs)) course values)
-  gives-fewer packet end course values n few some many (steps, gives) =
-      (steps, sym (fewer-suffice rows.vpds nested db packet n steps at gs (walking [] course values) before around few some many) ∙ gives)
+  pub gives-fewer : (source : Source) (end : Walked) (course : Course) (values : List Value) (n : ℕ) → length values ≤ most_values → 0 < n → most_values ≤ length values + n
+      → Gives db source end (walking (still_to_walk rows.vpds at gs) course values) → Gives db source end (walking (still_to_walk rows.vpds at (take n gs)) course values)
+  gives-fewer source end course values n few some many (steps, gives) =
+      (steps, sym (fewer-suffice rows.vpds nested db source n steps at gs (walking [] course values) before around few some many) ∙ gives)
 
   -- a row whose group is counted has one
   pub counts-some : (s : Subject) (after : Then) → entry.act ≡ act.Give s after → after ≡ then.Repeat → 0 < entry.size

@@ -1,54 +1,58 @@
 -- What a walk gives, whatever number of steps it takes. [This profile.]
-use Rattle.std.specs.Prelude.{◌≡◌, ℕ, ◌+◌, ◌*◌, ◌^◌, ◌<◌, ◌⊎◌, ℤ, pos, ◌+ℤ◌, ◌≤ℤ◌, nat_abs, List, [], Option, Some, None, Result, Ok, Err, ◌==◌, if◌then◌else◌}
+use Rattle.std.specs.Prelude.{◌≡◌, ℕ, ◌+◌, ◌*◌, ◌^◌, ◌<◌, ◌⊎◌, ℤ, pos, ◌+ℤ◌, ◌≤ℤ◌, List, [], Option, Some, None, Result, Ok, Err, ◌==◌, if◌then◌else◌}
 use Rattle.mib_model.specs.declared.database.Database.{Database}
-use Rattle.mib_model.specs.declared.packet.Ended.{Ended}
-use Rattle.mib_model.specs.declared.packet.Ended.TheVariants.{Short, Many}
+use Rattle.mib_model.specs.declared.packet.Ended.TheVariants.{Many}
 use Rattle.mib_model.specs.declared.packet.Value.{Value}
 use Rattle.mib_model.specs.declared.rows.VpdRow.{VpdRow}
-use Rattle.mib_model.specs.Fixed.{most_values, value_at}
+use Rattle.mib_model.specs.Fixed.{most_values}
 use Rattle.mib_model.specs.Soundness.{IsSound}
 use Rattle.mib_model.specs.Structures.{structure}
-use Rattle.mib_model.specs.Walk.{Walking, Step, Goes, Ends, Extracted, walked, after_value, chosen, lies_outside}
+use Rattle.mib_model.specs.Walk.{Walking, Step, Goes, Ends, after_value, chosen}
 use Rattle.struct_plan.specs.declared.course.Course.{Course}
 use Rattle.struct_plan.specs.declared.entry.Field.{Field}
 use Rattle.struct_plan.specs.declared.walks.Way.{Way}
 use Rattle.struct_plan.specs.declared.walks.Way.TheVariants as way
+use Rattle.struct_plan.specs.declared.numbers.WalkEnd.{WalkEnd}
+use Rattle.struct_plan.specs.declared.numbers.WalkEnd.TheVariants.{Ended}
 use Rattle.struct_plan.specs.Slices.{StructureRows, with_types}
+use Rattle.struct_plan.specs.Sources.{Source, Move, Steps, Halts, Walked, walked_by}
 
 -- a walk gives these values and this end
-abbrev pub Gives : Database → List ℕ → Extracted → Walking → Type 0
-Gives db packet end w = (steps : ℕ) × (walked db packet steps w ≡ Some end)
+abbrev pub Gives : Database → Source → Walked → Walking → Type 0
+Gives db source end w = (steps : ℕ) × (walked_by db source steps w ≡ Some end)
 
 -- a step leads to these values and this end
-abbrev pub Leads : Database → List ℕ → Extracted → Step → Type 0
-Leads db packet end (Goes on) = Gives db packet end on
-Leads db packet end (Ends ended values) = (values, ended) ≡ end
+abbrev pub Leads : Database → Source → Walked → Step → Type 0
+Leads db source end (Goes on) = Gives db source end on
+Leads db source end (Ends ended values) = (values, Ended ended) ≡ end
+
+-- a row leads to these values and this end
+abbrev pub Moves : Database → Source → Walked → Move → Type 0
+Moves db source end (Steps step) = Leads db source end step
+Moves db source end (Halts why values) = (values, why) ≡ end
 
 -- the walk that has come so far, with these rows still to walk
 abbrev pub walking : List VpdRow → Course → List Value → Walking
 walking todo course values = record { todo = todo; cursor = course.cursor; last = course.last; values = values }
 
 -- the value of a field at a bit, behind so many others, or the end before it
-abbrev pub value_or_end : List ℕ → ℤ → Field → ℕ → Result Value Ended
-value_or_end packet cursor field given =
-    if given == most_values then Err Many
-    else if lies_outside packet cursor field.shape.width then Err (Short field.name)
-    else Ok (value_at packet (record { name = field.name; at = nat_abs cursor; shape = field.shape }))
+abbrev pub value_or_end : Source → ℤ → Field → ℕ → Result Value WalkEnd
+value_or_end source cursor field given = if given == most_values then Err (Ended Many) else source cursor field given
 
 -- what giving the value of a row comes to: an end, or its raw number, behind which the walk goes on
-abbrev pub Given : Database → List ℕ → Extracted → VpdRow → List VpdRow → Course → List Value → Result ℤ Ended → Type 0
-Given db packet end row rest course values (Err ended) = (values, ended) ≡ end
-Given db packet end row rest course values (Ok raw) = Leads db packet end (after_value db row rest raw (walking rest course values))
+abbrev pub Given : Database → Source → Walked → VpdRow → List VpdRow → Course → List Value → Result ℤ WalkEnd → Type 0
+Given db source end row rest course values (Err why) = (values, why) ≡ end
+Given db source end row rest course values (Ok raw) = Leads db source end (after_value db row rest raw (walking rest course values))
 
 -- what a walk over the rows of a structure comes to: an end, or another structure
-abbrev pub Comes : Database → List ℕ → Extracted → Course → List Value → Way → Type 0
-Comes db packet end course values (way.Ended ended) = (values, ended) ≡ end
-Comes db packet end course values (way.Chosen tpsd) = Leads db packet end (chosen (walking [] course values) tpsd (structure db tpsd))
+abbrev pub Comes : Database → Source → Walked → Course → List Value → Way → Type 0
+Comes db source end course values (way.Ended why) = (values, why) ≡ end
+Comes db source end course values (way.Chosen tpsd) = Leads db source end (chosen (walking [] course values) tpsd (structure db tpsd))
 
 -- a walk that goes on with these rows, or comes to something
-abbrev pub GoesOn : Database → List ℕ → Extracted → List VpdRow → Course → List Value → Option Way → Type 0
-GoesOn db packet end todo course values None = Gives db packet end (walking todo course values)
-GoesOn db packet end todo course values (Some way) = Comes db packet end course values way
+abbrev pub GoesOn : Database → Source → Walked → List VpdRow → Course → List Value → Option Way → Type 0
+GoesOn db source end todo course values None = Gives db source end (walking todo course values)
+GoesOn db source end todo course values (Some way) = Comes db source end course values way
 
 -- rows of a structure of a sound database, beside the type items of their names
 pub record IsStructure (db : Database) (rows : StructureRows) : Type 0 where

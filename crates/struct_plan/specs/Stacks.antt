@@ -28,7 +28,7 @@ paired (slot ∷ slots) = inner_in slot ∷ outer_in slot ∷ paired slots
 abbrev pub standing : Values → Stack → List Group
 standing values stack = cons_option stack.single (paired (drop stack.top values.slots.now))
 
--- those of them that are kept
+-- the groups of a stack that are kept in slots
 abbrev pub kept : Values → Stack → List Group
 kept values stack = take stack.count (standing values stack)
 

@@ -3,7 +3,7 @@ ghost use Rattle.std.specs.Prelude.{◌≡◌, ℕ, ◌+◌, ◌-◌, ◌<◌, �
 ghost use Rattle.mib_model.specs.declared.database.Database.{Database};
 ghost use Rattle.mib_model.specs.Fixed.{most_values};
 ghost use Rattle.mib_model.specs.Structures.{group_repeated, times};
-ghost use Rattle.mib_model.specs.Walk.{Extracted};
+ghost use Rattle.struct_plan.specs.Sources.{Source, Walked};
 ghost use Rattle.bit_field.specs.Taken.{taken};
 ghost use Rattle.struct_plan.specs.declared.course.Course.{Course};
 ghost use Rattle.struct_plan.specs.Courses.{Gives, IsStructure, walking};
@@ -141,10 +141,10 @@ impl Place {
         requires some { 0 < size }
         requires around { Enclose structure.now.vpds self.old.at (self.old.at + 1 + size) (groups values.old self.old) }
         requires room { length structure.now.vpds < 2 ^ 32 }
-        ensures gives { (db : Database) (packet : List ℕ) (end : Extracted) (course : Course) → IsStructure db structure.now →
-            Gives db packet end (walking (group_repeated size (times raw) (still_to_walk structure.now.vpds (self.old.at + 1) (groups values.old self.old)))
+        ensures gives { (db : Database) (source : Source) (end : Walked) (course : Course) → IsStructure db structure.now →
+            Gives db source end (walking (group_repeated size (times raw) (still_to_walk structure.now.vpds (self.old.at + 1) (groups values.old self.old)))
             course (taken values.old)) →
-            Gives db packet end (walking (still_to_walk structure.now.vpds self.new.at (groups values.new self.new)) course (taken values.new)) }
+            Gives db source end (walking (still_to_walk structure.now.vpds self.new.at (groups values.new self.new)) course (taken values.new)) }
         ensures among { IsAmong structure.now.vpds values.new self.new }
         ensures taken { taken values.new ≡ taken values.old }
         ensures used { values.new.used ≡ values.old.used }
@@ -171,10 +171,10 @@ impl Place {
         requires times { 0 < count }
         requires around { Enclose structure.now.vpds self.old.at (self.old.at + 1 + size) (groups values.old self.old) }
         requires room { length structure.now.vpds < 2 ^ 32 }
-        ensures gives { (db : Database) (packet : List ℕ) (end : Extracted) (course : Course) → IsStructure db structure.now →
-            Gives db packet end (walking (group_repeated size count (still_to_walk structure.now.vpds (self.old.at + 1) (groups values.old self.old)))
+        ensures gives { (db : Database) (source : Source) (end : Walked) (course : Course) → IsStructure db structure.now →
+            Gives db source end (walking (group_repeated size count (still_to_walk structure.now.vpds (self.old.at + 1) (groups values.old self.old)))
             course (taken values.old)) →
-            Gives db packet end (walking (still_to_walk structure.now.vpds self.new.at (groups values.new self.new)) course (taken values.new)) }
+            Gives db source end (walking (still_to_walk structure.now.vpds self.new.at (groups values.new self.new)) course (taken values.new)) }
         ensures among { IsAmong structure.now.vpds values.new self.new }
         ensures further { self.new.at ≡ self.old.at + 1 }
         ensures taken { taken values.new ≡ taken values.old }

@@ -3,10 +3,12 @@ ghost use Rattle.std.specs.Prelude.{◌≡◌, ◌≢◌, ◌+◌, ◌-◌, ◌*
 ghost use Rattle.mib_model.specs.declared.database.Database.{Database};
 ghost use Rattle.mib_model.specs.declared.rows.VpdRow.{VpdRow};
 ghost use Rattle.mib_model.specs.Fixed.{most_values};
+ghost use Rattle.mib_model.specs.Soundness.{IsSound};
 ghost use Rattle.mib_model.specs.Structures.{structure, Typed};
-ghost use Rattle.mib_model.specs.Walk.{Extracted, after_value, on_subject, structure_values};
+ghost use Rattle.mib_model.specs.Walk.{after_value, structure_values, walk_start};
 ghost use Rattle.bit_field.specs.Taken.{taken};
-ghost use Rattle.struct_plan.specs.Courses.{Comes, Given, Gives, GoesOn, HasChosen, IsFurther, IsNear, IsStructure, Leads, value_or_end, walking};
+ghost use Rattle.struct_plan.specs.Courses.{Comes, Given, Gives, GoesOn, HasChosen, IsFurther, IsNear, IsStructure, Leads, Moves, value_or_end, walking};
+ghost use Rattle.struct_plan.specs.Sources.{Source, Walked, on_subject_by};
 ghost use Rattle.struct_plan.specs.Entries as Spec;
 ghost use Rattle.struct_plan.specs.Entries.{field_of, then_of};
 ghost use Rattle.struct_plan.specs.Groups.{size_at, still_to_walk, Enclose};
@@ -15,16 +17,17 @@ ghost use Rattle.struct_plan.specs.Stacks.{kept, IsWithin};
 
 use crate::course::Course;
 use crate::entry::{Act, Field, Subject, Then, field_of};
+use crate::numbers::{Numbers, PacketNumbers, WalkEnd};
 use crate::place::Place;
 use crate::stack::Stack;
 use crate::structure::{Structure, Structures};
-use bit_field::{MOST_VALUES, Values, take};
+use bit_field::{MOST_VALUES, Values};
 use mib_model::{Ended, Value};
 
 /// What a walk over the rows of a structure comes to: its end, or another structure.
 #[derive(Clone, Copy)]
 pub enum Way {
-    Ended(Ended),
+    Ended(WalkEnd),
     Chosen(i128),
 }
 
@@ -39,21 +42,21 @@ fn field_at<S: Structures>(all: &S, subject: Subject, last: i128) -> Option<Fiel
     }
 }
 
-// The value of a parameter at the cursor, or the end before it: there is no room, or its bits aren't in the packet.
+// The value of a parameter at the cursor, or the end before it: there is no room, or the source has none.
 #[inline(always)]
-fn value_here(packet: &[u8], cursor: i128, field: &Field, used: u32) -> Result<Value, Ended>
-    requires packet { length packet.now < 2 ^ 61 }
-    ensures value { result ≡ value_or_end packet.now cursor field.now used }
+fn value_here<N: Numbers>(
+    numbers: &N,
+    cursor: i128,
+    field: &Field,
+    used: u32,
+) -> Result<Value, WalkEnd>
+    ensures value { result ≡ value_or_end (N.source numbers.now) cursor field.now used }
     ensures room { OnOk result (used ≢ most_values) }
 {
     if used == MOST_VALUES {
-        return Err(Ended::Many);
+        return Err(WalkEnd::Ended(Ended::Many));
     }
-    let short = Ended::Short { name: field.name };
-    if cursor < 0 || cursor > i128::from(u64::MAX) {
-        return Err(short);
-    }
-    take(packet, cursor as u64, field.name, field.shape).ok_or(short)
+    numbers.value(cursor, field, used)
 }
 
 // The bit behind a value.
@@ -64,22 +67,21 @@ fn behind(value: &Value, field: &Field) -> i128
 }
 
 // Gives the value of a row, or tells the end before it.
-fn give<S: Structures>(
+fn give<S: Structures, N: Numbers>(
     all: &S,
     subject: Subject,
-    packet: &[u8],
+    numbers: &N,
     stack: &mut Stack,
     course: &mut Course,
     values: &mut Values,
-) -> Result<i128, Ended>
-    requires packet { length packet.now < 2 ^ 61 }
+) -> Result<i128, WalkEnd>
     requires slots { length values.old.slots.now ≡ most_values }
     requires used { values.old.used ≤ most_values }
     requires within { IsWithin values.old stack.old }
-    ensures given { (end : Extracted) (row : VpdRow) (rest : List VpdRow) (t : Option Typed) →
+    ensures given { (end : Walked) (row : VpdRow) (rest : List VpdRow) (t : Option Typed) →
         Spec.field_at (S.tables all.now) course.old.last subject ≡ option_map field_of t →
-        Leads (S.tables all.now) packet.now end (on_subject (S.tables all.now) packet.now row rest (walking (row ∷ rest) course.old (taken values.old)) t) →
-        Given (S.tables all.now) packet.now end row rest course.new (taken values.new) result }
+        Moves (S.tables all.now) (N.source numbers.now) end (on_subject_by (S.tables all.now) (N.source numbers.now) row rest (walking (row ∷ rest) course.old (taken values.old)) t) →
+        Given (S.tables all.now) (N.source numbers.now) end row rest course.new (taken values.new) result }
     ensures groups { OnOk result (kept values.new stack.new ≡ take (most_values - values.new.used) (kept values.old stack.old)) }
     ensures within { OnOk result (IsWithin values.new stack.new) }
     ensures more { OnOk result (values.new.used ≡ values.old.used + 1) }
@@ -90,9 +92,9 @@ fn give<S: Structures>(
 {
     let last = course.last;
     let Some(field) = field_at(all, subject, last) else {
-        return Err(Ended::NoParameter { pid: last });
+        return Err(WalkEnd::Ended(Ended::NoParameter { pid: last }));
     };
-    let value = value_here(packet, course.cursor, &field, values.used)?;
+    let value = value_here(numbers, course.cursor, &field, values.used)?;
     course.cursor = behind(&value, &field);
     stack.give(value, values);
     Ok(value.raw)
@@ -116,11 +118,11 @@ fn go_on(
     requires some { after ≡ Then.Repeat → 0 < size }
     requires around { Enclose structure.now.vpds place.old.at (place.old.at + 1 + size) (groups values.old place.old) }
     requires room { length structure.now.vpds < 2 ^ 32 }
-    ensures goes { (db : Database) (octets : List ℕ) (end : Extracted) (row : VpdRow) →
+    ensures goes { (db : Database) (source : Source) (end : Walked) (row : VpdRow) →
         IsStructure db structure.now → after ≡ then_of row → size ≡ row.grpsize →
-        Leads db octets end (after_value db row (still_to_walk structure.now.vpds (place.old.at + 1) (groups values.old place.old)) raw
+        Leads db source end (after_value db row (still_to_walk structure.now.vpds (place.old.at + 1) (groups values.old place.old)) raw
         (walking (still_to_walk structure.now.vpds (place.old.at + 1) (groups values.old place.old)) course.old (taken values.old))) →
-        GoesOn db octets end (still_to_walk structure.now.vpds place.new.at (groups values.new place.new)) course.new (taken values.new) result }
+        GoesOn db source end (still_to_walk structure.now.vpds place.new.at (groups values.new place.new)) course.new (taken values.new) result }
     ensures among { result ≡ None → IsAmong structure.now.vpds values.new place.new }
     ensures cursor { course.new.cursor ≡ course.old.cursor }
     ensures used { values.new.used ≡ values.old.used }
@@ -146,25 +148,24 @@ fn go_on(
 }
 
 // Walks one row.
-fn walk_row<S: Structures>(
+fn walk_row<S: Structures, N: Numbers>(
     all: &S,
     structure: &Structure,
-    packet: &[u8],
+    numbers: &N,
     place: &mut Place,
     course: &mut Course,
     values: &mut Values,
 ) -> Option<Way>
-    requires packet { length packet.now < 2 ^ 61 }
     requires slots { length values.old.slots.now ≡ most_values }
     requires used { values.old.used ≤ most_values }
     requires structure { IsStructure (S.tables all.now) structure.now }
     requires among { IsAmong structure.now.vpds values.old place.old }
     requires inside { place.old.at < length structure.now.vpds }
     requires near { IsNear course.old.cursor place.old.at }
-    ensures goes { (end : Extracted) →
-        Gives (S.tables all.now) packet.now end
+    ensures goes { (end : Walked) →
+        Gives (S.tables all.now) (N.source numbers.now) end
         (walking (still_to_walk structure.now.vpds place.old.at (groups values.old place.old)) course.old (taken values.old)) →
-        GoesOn (S.tables all.now) packet.now end (still_to_walk structure.now.vpds place.new.at (groups values.new place.new))
+        GoesOn (S.tables all.now) (N.source numbers.now) end (still_to_walk structure.now.vpds place.new.at (groups values.new place.new))
         course.new (taken values.new) result }
     ensures among { result ≡ None → IsAmong structure.now.vpds values.new place.new }
     ensures near { result ≡ None → IsNear course.new.cursor place.new.at }
@@ -183,8 +184,8 @@ fn walk_row<S: Structures>(
             None
         }
         Act::Give(subject, after) => {
-            match give(all, subject, packet, &mut place.stack, course, values) {
-                Err(ended) => Some(Way::Ended(ended)),
+            match give(all, subject, numbers, &mut place.stack, course, values) {
+                Err(why) => Some(Way::Ended(why)),
                 Ok(raw) => go_on(after, raw, size, structure, place, course, values),
             }
         }
@@ -192,20 +193,19 @@ fn walk_row<S: Structures>(
 }
 
 // Walks the rows of a structure, until an end or the choice of another.
-fn walk_structure<S: Structures>(
+fn walk_structure<S: Structures, N: Numbers>(
     all: &S,
     structure: &Structure,
-    packet: &[u8],
+    numbers: &N,
     course: &mut Course,
     values: &mut Values,
 ) -> Way
-    requires packet { length packet.now < 2 ^ 61 }
     requires slots { length values.old.slots.now ≡ most_values }
     requires used { values.old.used ≤ most_values }
     requires structure { IsStructure (S.tables all.now) structure.now }
     requires near { IsNear course.old.cursor 0 }
-    ensures comes { (end : Extracted) → Gives (S.tables all.now) packet.now end (walking structure.now.vpds course.old (taken values.old)) →
-        Comes (S.tables all.now) packet.now end course.new (taken values.new) result }
+    ensures comes { (end : Walked) → Gives (S.tables all.now) (N.source numbers.now) end (walking structure.now.vpds course.old (taken values.old)) →
+        Comes (S.tables all.now) (N.source numbers.now) end course.new (taken values.new) result }
     ensures chosen { (tpsd : ℤ) → result ≡ Way.Chosen tpsd → HasChosen values.old.used values.new.used course.new }
     ensures used { values.new.used ≤ most_values }
     ensures slots { length values.new.slots.now ≡ most_values }
@@ -213,28 +213,28 @@ fn walk_structure<S: Structures>(
 {
     let mut place = Place::new();
     while place.at < structure.len() {
-        if let Some(way) = walk_row(all, structure, packet, &mut place, course, values) {
+        if let Some(way) = walk_row(all, structure, numbers, &mut place, course, values) {
             return way;
         }
     }
-    Way::Ended(Ended::Whole)
+    Way::Ended(WalkEnd::Ended(Ended::Whole))
 }
 
-/// The values of a packet of variable structure, by the rows of a structure that there is, and how they end. The walk
-/// starts behind the primary header and some octets. It takes no memory.
-pub fn walk<S: Structures>(
+/// The values that a source has for the rows of a structure that there is, and why they end. The walk starts behind the
+/// primary header and some octets. It takes no memory.
+pub fn walk_by<S: Structures, N: Numbers>(
     all: &S,
     tpsd: u32,
     start: u64,
-    packet: &[u8],
+    numbers: &N,
     values: &mut Values,
-) -> Ended
+) -> WalkEnd
     requires there { structure (S.tables all.now) (pos tpsd) ≢ [] }
-    requires packet { length packet.now < 2 ^ 61 }
     requires slots { length values.old.slots.now ≡ most_values }
     requires used { values.old.used ≡ 0 }
-    ensures values { (dfhsize : ℕ) → start ≡ 8 * (6 + dfhsize) →
-        (taken values.new, result) ≡ structure_values (S.tables all.now) (pos tpsd) dfhsize packet.now }
+    ensures values { (dfhsize : ℕ) (end : Walked) → start ≡ 8 * (6 + dfhsize) →
+        Gives (S.tables all.now) (N.source numbers.now) end (walk_start (S.tables all.now) (pos tpsd) dfhsize) → (taken values.new, result) ≡ end }
+    ensures sound { IsSound (S.tables all.now) }
     ensures used { values.new.used ≤ most_values }
     ensures slots { length values.new.slots.now ≡ most_values }
     ensures borrow { values.new.slots.ghost_name ≡ values.old.slots.ghost_name }
@@ -245,10 +245,35 @@ pub fn walk<S: Structures>(
     };
     let mut next = i128::from(tpsd);
     while let Some(structure) = all.structure(next) {
-        match walk_structure(all, structure, packet, &mut course, values) {
-            Way::Ended(ended) => return ended,
+        match walk_structure(all, structure, numbers, &mut course, values) {
+            Way::Ended(why) => return why,
             Way::Chosen(chosen) => next = chosen,
         }
     }
-    Ended::NoStructure { tpsd: next }
+    WalkEnd::Ended(Ended::NoStructure { tpsd: next })
+}
+
+/// The values of a packet of variable structure, by the rows of a structure that there is, and how they end. The walk
+/// starts so many octets behind the 6 of the primary header. It takes no memory.
+pub fn walk<S: Structures>(
+    all: &S,
+    tpsd: u32,
+    dfhsize: u8,
+    packet: &[u8],
+    values: &mut Values,
+) -> Ended
+    requires there { structure (S.tables all.now) (pos tpsd) ≢ [] }
+    requires packet { length packet.now < 2 ^ 61 }
+    requires slots { length values.old.slots.now ≡ most_values }
+    requires used { values.old.used ≡ 0 }
+    ensures values { (taken values.new, result) ≡ structure_values (S.tables all.now) (pos tpsd) dfhsize packet.now }
+    ensures used { values.new.used ≤ most_values }
+    ensures slots { length values.new.slots.now ≡ most_values }
+    ensures borrow { values.new.slots.ghost_name ≡ values.old.slots.ghost_name }
+{
+    let start = 8 * (6 + u64::from(dfhsize));
+    match walk_by(all, tpsd, start, &PacketNumbers::new(packet), values) {
+        WalkEnd::Ended(ended) => ended,
+        WalkEnd::Missing | WalkEnd::Unfit => Ended::Whole,
+    }
 }

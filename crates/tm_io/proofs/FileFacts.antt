@@ -1,5 +1,5 @@
 -- Files in memory: what is found by name, and what a change of one file leaves.
-use Rattle.std.proofs.Common.{◌≡◌, ◌<◌, ◌≤◌, ◌+◌, ℕ, zero, suc, true, List, [], ◌∷◌, ◌++◌, Option, Some, ap, sym, refl, ◌∙◌, get_or, set, drop, take, length, arith, if◌then◌else◌, string_bytes, drop-cons}
+use Rattle.std.proofs.Common.{◌≡◌, ◌≢◌, ◌<◌, ◌≤◌, ◌+◌, ℕ, zero, suc, true, List, [], ◌∷◌, ◌++◌, Option, Some, ap, sym, refl, ◌∙◌, get_or, set, drop, take, length, arith, if◌then◌else◌, string_bytes, drop-cons}
 use Rattle.std.proofs.lemmas.List.{take-append-drop, drop-drop, at_drop_all}
 use Rattle.std.specs.Str.{bytes_eq}
 use Rattle.tm_io.specs.Files.{file_of, fails_of, fails_at, octets_at}
@@ -28,6 +28,13 @@ pub fails_at-set : (files : List MemFile) (i : ℕ) (new : MemFile) → i < leng
 fails_at-set [] i new lt = absurd (omega arith)
 fails_at-set (f ∷ files) zero new lt = refl
 fails_at-set (f ∷ files) (suc i) new lt = fails_at-set files i new (omega arith)
+
+pub fails_at-set_other : (files : List MemFile) (i j : ℕ) (new : MemFile) → j ≢ i → fails_at (set files i new) j ≡ fails_at files j
+fails_at-set_other [] i j new other = refl
+fails_at-set_other (f ∷ files) zero zero new other = absurd (other refl)
+fails_at-set_other (f ∷ files) zero (suc j) new other = refl
+fails_at-set_other (f ∷ files) (suc i) zero new other = refl
+fails_at-set_other (f ∷ files) (suc i) (suc j) new other = fails_at-set_other files i j new (λ e. other (ap suc e))
 
 -- another file of the same name and octets
 pub file_of-set : (files : List MemFile) (i : ℕ) (old new : MemFile) (name : List ℕ) → old ≡ get_or files i old → string_bytes new.name ≡ string_bytes old.name → new.bytes.items ≡ old.bytes.items

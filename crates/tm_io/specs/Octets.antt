@@ -1,5 +1,5 @@
 -- What a sink takes of a piece.
-use Rattle.std.specs.Prelude.{ℕ, ◌<◌, List, length, take, Option, Result, IfOk}
+use Rattle.std.specs.Prelude.{ℕ, ◌<◌, Bool, true, false, List, length, take, Option, Result, IfOk}
 use Rattle.std.specs.Io.KnownBytes.{Appends}
 
 -- of a piece that isn't empty at least one octet is taken
@@ -9,3 +9,8 @@ TakesSome result piece = 0 < length piece → IfOk result (λ count. 0 < count)
 -- some first octets were appended, and nothing else
 abbrev pub AppendsPrefix : Option (List ℕ) → Option (List ℕ) → List ℕ → Type 0
 AppendsPrefix old new octets = (count : ℕ) × Appends old new (take count octets)
+
+-- all of a text was written, or where writing failed a first part of it
+abbrev pub WritesUnless : Bool → Option (List ℕ) → Option (List ℕ) → List ℕ → Type 0
+WritesUnless false old new text = Appends old new text
+WritesUnless true old new text = AppendsPrefix old new text

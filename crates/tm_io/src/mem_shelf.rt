@@ -1,5 +1,5 @@
 // Files in memory, with faults where a test wants them.
-ghost use Rattle.std.specs.Prelude.{◌≡◌, ◌≤◌, ◌<◌, ◌+◌, ◌==◌, ◌↔◌, ℕ, List, IsErr, is_none, Some, None, [], take, drop, length, is_err, is_some, Ok, false, IfSome, IfOk, OnOk, OnErr, MatchOption};
+ghost use Rattle.std.specs.Prelude.{◌≡◌, ◌≢◌, ◌≤◌, ◌<◌, ◌+◌, ◌==◌, ◌↔◌, ℕ, List, IsErr, is_none, Some, None, [], take, drop, length, is_err, is_some, Ok, false, IfSome, IfOk, OnOk, OnErr, MatchOption};
 ghost use Rattle.std.specs.Option.{ForSome};
 ghost use Rattle.std.specs.Io.{ReadsAtMost};
 ghost use Rattle.std.specs.Io.KnownBytes.{ReadConsumes, IsAtEnd};
@@ -66,6 +66,7 @@ fn spend_stop_of(files: &mut [MemFile], place: usize, at: u64)
     ensures octets { (i : ℕ) → octets_at files.new i ≡ octets_at files.old i }
     ensures names { (name : List ℕ) → file_of files.new name ≡ file_of files.old name }
     ensures spent { fails_at files.new place ≡ without (fails_at files.old place) at }
+    ensures others { (i : ℕ) → i ≢ place → fails_at files.new i ≡ fails_at files.old i }
 {
     spend_stop(&mut files[place].fails, at);
 }

@@ -1,73 +1,37 @@
-use Rattle.std.proofs.Common.{◌≡◌, ◌∙◌, ℤ, pos, [], take, refl, sym, ap, subst, arith}
-use Rattle.std.proofs.lemmas.Int.{ints, to_z-of_z}
-use Rattle.mib_model.specs.Structures.{structure}
-use Rattle.mib_model.specs.Walk.{chosen, structure_values}
+use Rattle.std.proofs.Common.{◌≡◌, ◌+◌, ◌*◌, ℕ, List, pos, sym, ap, subst}
+use Rattle.mib_model.specs.Walk.{structure_values, walk_start}
 use Rattle.bit_field.specs.Taken.{taken}
-use Rattle.struct_plan.specs.declared.course.Course.{Course}
-use Rattle.struct_plan.specs.Courses.{IsNear, Leads, walking}
-use Rattle.struct_plan.proofs.ChoiceFacts.{starts, found-gives, missing-gives, found-structure}
+use Rattle.struct_plan.specs.Courses.{Gives}
+use Rattle.struct_plan.specs.Sources.{Walked, of_packet}
+use Rattle.struct_plan.proofs.SourceFacts.{as-extracted, as_walked, packet-ends, packet-gives}
 use Rattle.struct_plan.proofs.walks.walk.Goals as goal
-use mir.Val.{to_z, of_z}
-use mir.Syntax.{w128}
+use Rattle.struct_plan.proofs.walks.walk.Given as given
 
-pub loop-structure-init : goal.loop-structure-init
-loop-structure-init g c =
-    let db = g.S.Structures.tables c.args.all.now in
-    let values = c.args.values.now in
-    let cursor : to_z w128 (of_z w128 c.from.result) ≡ pos c.args.start = (let e : to_z w128 (of_z w128 c.from.result) ≡ c.from.result = grind (arith, to_z-of_z) in e ∙ c.from.ensures) in
-    let next : to_z w128 (of_z w128 c.from-next.result) ≡ pos c.args.tpsd = (let e : to_z w128 (of_z w128 c.from-next.result) ≡ c.from-next.result = grind (arith, to_z-of_z) in e ∙ c.from-next.ensures) in
-    let course : Course = record { cursor = to_z w128 (of_z w128 c.from.result); last = pos 0 } in
-    let none : taken values ≡ [] = ap (λ n. take n values.slots.now) c.requires.used in
-    record {
-      leads = λ dfhsize sound at.
-          subst (λ (v : ℤ). Leads db c.args.packet.now (structure_values db (pos c.args.tpsd) dfhsize c.args.packet.now) (chosen (walking [] course (taken values)) v (structure db v))) (sym next)
-          (starts db c.args.packet.now c.args.tpsd c.args.start dfhsize course (taken values) sound c.requires.there at (ap (λ (x : ℤ). record { cursor = x; last = pos 0 }) cursor) none);
-      near = subst (λ (x : ℤ). IsNear x 0) (sym cursor) (record { low = omega (arith, ints); high = omega (arith, ints) });
-      used = omega arith;
-      slots = c.requires.slots;
-      borrow = refl;
-    }
-
-pub walk_structure-requires-clause-structure : goal.walk_structure-requires-clause-structure
-walk_structure-requires-clause-structure g c =
-    found-structure (g.S.Structures.tables c.args.all.now) c.in-Some.structure.now _ c.in-Some.ensures.sound c.in-Some.ensures.found
+-- what the walk came to is what the packet gives
+module _ (g : given.Over) (c : goal.In-Ended g) where
+  came : (taken c.walk_by.new.values, c.walk_by.result) ≡ as_walked (structure_values (g.S.Structures.tables c.args.all.now) (pos c.args.tpsd) c.args.dfhsize c.args.packet.now)
+  came =
+      let db = g.S.Structures.tables c.args.all.now in
+      let end : Walked = as_walked (structure_values db (pos c.args.tpsd) c.args.dfhsize c.args.packet.now) in
+      c.walk_by.ensures.values c.args.dfhsize end (ap (λ (n : ℕ). 8 * (6 + n)) c.from.ensures)
+      (subst (λ (octets : List ℕ). Gives db (of_packet octets) end (walk_start db (pos c.args.tpsd) c.args.dfhsize)) (sym c.new.ensures)
+      (packet-gives db c.args.packet.now c.walk_by.ensures.sound (pos c.args.tpsd) c.args.dfhsize))
 
 pub returns-in-Ended-clause-values : goal.returns-in-Ended-clause-values
-returns-in-Ended-clause-values g c = λ dfhsize at.
-    let db = g.S.Structures.tables c.args.all.now in
-    let packet = c.args.packet.now in
-    let end = structure_values db (pos c.args.tpsd) dfhsize packet in
-    c.in-Ended.ensures.comes end
-    (found-gives db packet end c.in-Some.structure.now c.loop-structure.course (taken c.loop-structure.values) (to_z w128 c.loop-structure.next-bits) c.in-Some.ensures.found
-    (c.loop-structure.invariant.leads dfhsize c.in-Some.ensures.sound at))
+returns-in-Ended-clause-values g c =
+    as-extracted (taken c.walk_by.new.values) c.walk_by.result c.in-Ended.ended (structure_values (g.S.Structures.tables c.args.all.now) (pos c.args.tpsd) c.args.dfhsize c.args.packet.now) (came g c) c.in-Ended.is
 
-pub loop-structure-smaller : goal.loop-structure-smaller
-loop-structure-smaller g c =
-    let chosen = c.walk_structure.ensures.chosen c.in-Chosen.chosen c.in-Chosen.is in
-    let more = chosen.more in
-    omega (arith, more, c.walk_structure.ensures.used)
-
-pub loop-structure-preserved : goal.loop-structure-preserved
-loop-structure-preserved g c =
-    let goes = c.walk_structure.ensures.chosen c.in-Chosen.chosen c.in-Chosen.is in
+pub returns-in-Missing : goal.returns-in-Missing
+returns-in-Missing g c =
     let db = g.S.Structures.tables c.args.all.now in
-    let packet = c.args.packet.now in
-    let same : to_z w128 (of_z w128 c.in-Chosen.chosen) ≡ c.in-Chosen.chosen = grind (arith, to_z-of_z) in
+    let end : Walked = as_walked (structure_values db (pos c.args.tpsd) c.args.dfhsize c.args.packet.now) in
     record {
-      leads = λ dfhsize sound at.
-          let end = structure_values db (pos c.args.tpsd) dfhsize packet in
-          subst (λ (v : ℤ). Leads db packet end (chosen (walking [] c.walk_structure.new.course (taken c.walk_structure.new.values)) v (structure db v))) (sym same)
-          (c.in-Chosen.ensures.comes end
-          (found-gives db packet end c.in-Some.structure.now c.loop-structure.course (taken c.loop-structure.values) (to_z w128 c.loop-structure.next-bits) c.in-Some.ensures.found
-          (c.loop-structure.invariant.leads dfhsize sound at)));
-      near = goes.near;
-      used = c.walk_structure.ensures.used;
-      slots = c.walk_structure.ensures.slots;
-      borrow = c.walk_structure.ensures.borrow ∙ c.loop-structure.invariant.borrow;
+      values = absurd (packet-ends (taken c.walk_by.new.values) c.walk_by.result (structure_values db (pos c.args.tpsd) c.args.dfhsize c.args.packet.now)
+          (c.walk_by.ensures.values c.args.dfhsize end (ap (λ (n : ℕ). 8 * (6 + n)) c.from.ensures)
+          (subst (λ (octets : List ℕ). Gives db (of_packet octets) end (walk_start db (pos c.args.tpsd) c.args.dfhsize)) (sym c.new.ensures)
+          (packet-gives db c.args.packet.now c.walk_by.ensures.sound (pos c.args.tpsd) c.args.dfhsize)))
+          c.in-Missing.is);
+      used = c.walk_by.ensures.used;
+      slots = c.walk_by.ensures.slots;
+      borrow = c.walk_by.ensures.borrow;
     }
-
-pub returns-clause-values : goal.returns-clause-values
-returns-clause-values g c = λ dfhsize at.
-    missing-gives (g.S.Structures.tables c.args.all.now) c.args.packet.now (structure_values (g.S.Structures.tables c.args.all.now) (pos c.args.tpsd) dfhsize c.args.packet.now)
-    c.loop-structure.course (taken c.loop-structure.values) (to_z w128 c.loop-structure.next-bits) c.in_default.ensures.found
-    (c.loop-structure.invariant.leads dfhsize c.in_default.ensures.sound at)

@@ -5,14 +5,15 @@ use Rattle.mib_model.specs.Fixed.{most_values}
 use Rattle.bit_field.specs.Taken.{taken}
 use Rattle.struct_plan.specs.declared.course.Course.{Course}
 use Rattle.struct_plan.specs.declared.group.Group.{Group}
-use Rattle.struct_plan.specs.Courses.{Gives, Leads, walking}
+use Rattle.struct_plan.specs.Courses.{Gives, Leads, Moves, walking}
+use Rattle.struct_plan.specs.Sources.{on_subject_by}
 use Rattle.struct_plan.specs.Groups.{still_to_walk, Enclose, Ahead}
 use Rattle.struct_plan.specs.Places.{groups}
 use Rattle.struct_plan.proofs.GroupFacts.{enclose-take}
 use Rattle.struct_plan.proofs.PlaceFacts.{groups-given, none-given, structure-nested}
 use Rattle.struct_plan.proofs.KnownFacts.{ahead-take}
 use Rattle.struct_plan.specs.Entries.{field_at}
-use Rattle.mib_model.specs.Walk.{after_value, on_subject}
+use Rattle.mib_model.specs.Walk.{after_value}
 use Rattle.struct_plan.specs.Stacks.{kept}
 use Rattle.mib_model.specs.Structures.{group_repeated}
 use Rattle.struct_plan.proofs.RowFacts.{around-row, repeats, repeat-gives, give-leads, gives-fewer, counts-some}
@@ -62,7 +63,7 @@ pub returns-in-Repeat-clause-goes : goal.returns-in-Repeat-clause-goes
 returns-in-Repeat-clause-goes g c = λ end gives.
     let db = g.S.Structures.tables c.args.all.now in
     let rows = c.args.structure.now in
-    let packet = c.args.packet.now in
+    let source = g.N.Numbers.source c.args.numbers.now in
     let at = c.args.place.now.at in
     let old = c.args.values.now in
     let gs : List Group = groups old c.args.place.now in
@@ -70,15 +71,15 @@ returns-in-Repeat-clause-goes g c = λ end gives.
     let entry = c.entry-entry.result in
     let cursor : to_z w128 (of_z w128 (to_z w128 (of_z w128 course.cursor) +ℤ to_z w128 (of_z w128 c.from.result))) ≡ course.cursor +ℤ entry.offset = grind (arith, to_z-of_z) in
     let here = repeat-gives db rows c.requires.structure at gs entry c.requires.inside c.requires.among.around c.requires.among.ahead c.entry-entry.ensures.size c.entry-entry.ensures.entry
-    packet end course (taken old) c.in-Repeat.times c.in-Repeat.is gives in
-    c.repeat_fixed.ensures.gives db packet end (record { cursor = to_z w128 (of_z w128 (to_z w128 (of_z w128 course.cursor) +ℤ to_z w128 (of_z w128 c.from.result))); last = course.last }) c.requires.structure
-    (subst (λ (x : ℤ). Gives db packet end (walking (group_repeated entry.size c.in-Repeat.times (still_to_walk rows.vpds (at + 1) gs)) (record { cursor = x; last = course.last }) (taken old))) (sym cursor) here)
+    source end course (taken old) c.in-Repeat.times c.in-Repeat.is gives in
+    c.repeat_fixed.ensures.gives db source end (record { cursor = to_z w128 (of_z w128 (to_z w128 (of_z w128 course.cursor) +ℤ to_z w128 (of_z w128 c.from.result))); last = course.last }) c.requires.structure
+    (subst (λ (x : ℤ). Gives db source end (walking (group_repeated entry.size c.in-Repeat.times (still_to_walk rows.vpds (at + 1) gs)) (record { cursor = x; last = course.last }) (taken old))) (sym cursor) here)
 
 pub returns-in-Err-clause-goes : goal.returns-in-Err-clause-goes
 returns-in-Err-clause-goes g c = λ end gives.
     let db = g.S.Structures.tables c.args.all.now in
     let rows = c.args.structure.now in
-    let packet = c.args.packet.now in
+    let source = g.N.Numbers.source c.args.numbers.now in
     let at = c.args.place.now.at in
     let old = c.args.values.now in
     let gs : List Group = groups old c.args.place.now in
@@ -86,15 +87,15 @@ returns-in-Err-clause-goes g c = λ end gives.
     let entry = c.entry-entry.result in
     let cursor : to_z w128 (of_z w128 (to_z w128 (of_z w128 course.cursor) +ℤ to_z w128 (of_z w128 c.from.result))) ≡ course.cursor +ℤ entry.offset = grind (arith, to_z-of_z) in
     let gave = give-leads db rows c.requires.structure at gs entry c.requires.inside c.requires.among.around c.requires.among.ahead c.entry-entry.ensures.size c.entry-entry.ensures.entry
-    packet end course (taken old) c.in-Give.subject c.in-Give.after c.in-Give.is gives in
+    source end course (taken old) c.in-Give.subject c.in-Give.after c.in-Give.is gives in
     c.in-Err.ensures.given end gave.row (still_to_walk rows.vpds (at + 1) gs) gave.parameter (ap (field_at db course.last) c.in-Give.subject-is ∙ gave.found)
-    (subst (λ (x : ℤ). Leads db packet end (on_subject db packet gave.row (still_to_walk rows.vpds (at + 1) gs) (walking (gave.row ∷ still_to_walk rows.vpds (at + 1) gs) (record { cursor = x; last = course.last }) (taken old)) gave.parameter)) (sym cursor) gave.leads)
+    (subst (λ (x : ℤ). Moves db source end (on_subject_by db source gave.row (still_to_walk rows.vpds (at + 1) gs) (walking (gave.row ∷ still_to_walk rows.vpds (at + 1) gs) (record { cursor = x; last = course.last }) (taken old)) gave.parameter)) (sym cursor) gave.leads)
 
 pub returns-in-Ok-clause-goes : goal.returns-in-Ok-clause-goes
 returns-in-Ok-clause-goes g c = λ end gives.
     let db = g.S.Structures.tables c.args.all.now in
     let rows = c.args.structure.now in
-    let packet = c.args.packet.now in
+    let source = g.N.Numbers.source c.args.numbers.now in
     let at = c.args.place.now.at in
     let old = c.args.values.now in
     let old-groups : List Group = groups old c.args.place.now in
@@ -109,15 +110,15 @@ returns-in-Ok-clause-goes g c = λ end gives.
     let used : length (taken old) ≡ old.used = length-take-le old.used old.slots.now (omega arith) in
     let more : c.give.new.values.used ≡ old.used + 1 = c.in-Ok.ensures.more in
     let most : c.give.new.values.used ≤ most_values = c.give.ensures.used in
-    let gives' : Gives db packet end (walking (still_to_walk rows.vpds at gs) course (taken old)) =
-    subst (λ (hs : List Group). Gives db packet end (walking (still_to_walk rows.vpds at hs) course (taken old))) (sym fewer)
+    let gives' : Gives db source end (walking (still_to_walk rows.vpds at gs) course (taken old)) =
+    subst (λ (hs : List Group). Gives db source end (walking (still_to_walk rows.vpds at hs) course (taken old))) (sym fewer)
     (gives-fewer db rows c.requires.structure at old-groups entry c.requires.inside c.requires.among.around c.requires.among.ahead c.entry-entry.ensures.size c.entry-entry.ensures.entry
-    packet end course (taken old) room (omega (arith, used)) (omega arith) (omega (arith, used, more, most)) gives) in
+    source end course (taken old) room (omega (arith, used)) (omega arith) (omega (arith, used, more, most)) gives) in
     let around : Enclose rows.vpds at at gs = subst (Enclose rows.vpds at at) (sym fewer) (enclose-take rows.vpds room at at old-groups c.requires.among.around) in
     let before : Ahead rows.vpds at gs = subst (Ahead rows.vpds at) (sym fewer) (ahead-take rows.vpds (structure-nested db rows c.requires.structure) room at old-groups (omega arith) c.requires.among.ahead) in
     let gave = give-leads db rows c.requires.structure at gs entry c.requires.inside around before c.entry-entry.ensures.size c.entry-entry.ensures.entry
-    packet end course (taken old) c.in-Give.subject c.in-Give.after c.in-Give.is gives' in
+    source end course (taken old) c.in-Give.subject c.in-Give.after c.in-Give.is gives' in
     let behind = c.in-Ok.ensures.given end gave.row (still_to_walk rows.vpds (at + 1) gs) gave.parameter (ap (field_at db course.last) c.in-Give.subject-is ∙ gave.found)
-    (subst (λ (x : ℤ). Leads db packet end (on_subject db packet gave.row (still_to_walk rows.vpds (at + 1) gs) (walking (gave.row ∷ still_to_walk rows.vpds (at + 1) gs) (record { cursor = x; last = course.last }) (taken old)) gave.parameter)) (sym cursor) gave.leads) in
-    c.go_on.ensures.goes db packet end gave.row c.requires.structure (c.in-Give.after-is ∙ gave.after) gave.size
-    (subst (λ (r : ℤ). Leads db packet end (after_value db gave.row (still_to_walk rows.vpds (at + 1) gs) r (walking (still_to_walk rows.vpds (at + 1) gs) c.give.new.course (taken c.give.new.values)))) (sym raw) behind)
+    (subst (λ (x : ℤ). Moves db source end (on_subject_by db source gave.row (still_to_walk rows.vpds (at + 1) gs) (walking (gave.row ∷ still_to_walk rows.vpds (at + 1) gs) (record { cursor = x; last = course.last }) (taken old)) gave.parameter)) (sym cursor) gave.leads) in
+    c.go_on.ensures.goes db source end gave.row c.requires.structure (c.in-Give.after-is ∙ gave.after) gave.size
+    (subst (λ (r : ℤ). Leads db source end (after_value db gave.row (still_to_walk rows.vpds (at + 1) gs) r (walking (still_to_walk rows.vpds (at + 1) gs) c.give.new.course (taken c.give.new.values)))) (sym raw) behind)

@@ -20,7 +20,7 @@ loop-place-init g c =
     let within : IsWithin values first.stack = record { low = c.requires.used; high = omega arith; count = omega arith; whole = omega arith } in
     let among : IsAmong rows values first = record { kept = record { within = within; alone = λ none. refl }; around = omega arith; ahead = omega arith } in
     record {
-      gives = λ end gives. subst (λ (p : Place). Gives db c.args.packet.now end (walking (still_to_walk rows p.at (groups values p)) course (taken values))) there gives;
+      gives = λ end gives. subst (λ (p : Place). Gives db (g.N.Numbers.source c.args.numbers.now) end (walking (still_to_walk rows p.at (groups values p)) course (taken values))) there gives;
       among = subst (IsAmong rows values) there among;
       near = subst (λ (p : Place). IsNear course.cursor p.at) there c.requires.near;
       more = omega arith;
@@ -52,5 +52,5 @@ loop-place-preserved g c =
 pub returns-clause-comes : goal.returns-clause-comes
 returns-clause-comes g c = λ end gives.
     let inv = c.loop-place.invariant in
-    gives-whole (g.S.Structures.tables c.args.all.now) c.args.packet.now end c.args.structure.now.vpds c.loop-place.course (taken c.loop-place.values) c.loop-place.place.at (groups c.loop-place.values c.loop-place.place)
+    gives-whole (g.S.Structures.tables c.args.all.now) (g.N.Numbers.source c.args.numbers.now) end c.args.structure.now.vpds c.loop-place.course (taken c.loop-place.values) c.loop-place.place.at (groups c.loop-place.values c.loop-place.place)
     inv.among.around inv.among.ahead (omega arith) (inv.gives end gives)

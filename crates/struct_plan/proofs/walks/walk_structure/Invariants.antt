@@ -1,6 +1,6 @@
 use Rattle.std.proofs.Common.{◌≡◌, ◌+◌, ◌-◌, ◌*◌, ◌≤◌, length}
 use Rattle.mib_model.specs.Fixed.{most_values}
-use Rattle.mib_model.specs.Walk.{Extracted}
+use Rattle.struct_plan.specs.Sources.{Walked}
 use Rattle.bit_field.specs.Taken.{taken}
 use Rattle.struct_plan.specs.Courses.{Gives, IsNear, walking}
 use Rattle.struct_plan.specs.Groups.{still_to_walk}
@@ -9,8 +9,8 @@ use Rattle.struct_plan.proofs.walks.walk_structure.Given as goal
 
 abbrev pub invariant-loop-place : goal.invariant-loop-place
 invariant-loop-place g l = record {
-  gives : (end : Extracted) → Gives (g.S.Structures.tables l.all) l.packet end (walking l.structure.vpds l.initial.course (taken l.initial.values)) →
-      Gives (g.S.Structures.tables l.all) l.packet end (walking (still_to_walk l.structure.vpds l.place.at (groups l.values l.place)) l.course (taken l.values));
+  gives : (end : Walked) → Gives (g.S.Structures.tables l.all) (g.N.Numbers.source l.numbers) end (walking l.structure.vpds l.initial.course (taken l.initial.values)) →
+      Gives (g.S.Structures.tables l.all) (g.N.Numbers.source l.numbers) end (walking (still_to_walk l.structure.vpds l.place.at (groups l.values l.place)) l.course (taken l.values));
   among : IsAmong l.structure.vpds l.values l.place;
   near : IsNear l.course.cursor l.place.at;
   more : l.initial.values.used ≤ l.values.used;

@@ -1,5 +1,5 @@
 use Rattle.std.proofs.Common.{◌≡◌, ◌∙◌, refl, sym, ap, get_or, List, ℕ}
-use Rattle.tm_io.proofs.FileFacts.{octets_at-set, file_of-set, fails_at-set, fails_at-get}
+use Rattle.tm_io.proofs.FileFacts.{octets_at-set, file_of-set, fails_at-set, fails_at-set_other, fails_at-get}
 use Rattle.tm_io.specs.Stops.{without}
 use Rattle.tm_io.specs.declared.mem_shelf.MemFile.{MemFile}
 use Rattle.tm_io.proofs.mem_shelf.spend_stop_of.Goals as goal
@@ -23,3 +23,8 @@ returns-clause-spent c =
     ∙ c.spend_stop.ensures
     ∙ ap (λ (stops : List ℕ). without stops c.args.at)
     (ap (λ (file : MemFile). file.fails.items) (sym c.index-files-place.is) ∙ sym (fails_at-get c.args.files.now c.args.place c.index-files-place.result c.requires c.index-files-place.is))
+
+pub returns-clause-others : goal.returns-clause-others
+returns-clause-others c =
+    let old : MemFile = get_or c.args.files.now c.args.place c.index-files-place.result in
+    λ i. fails_at-set_other c.args.files.now c.args.place i (record old { fails = c.spend_stop.new.stops })

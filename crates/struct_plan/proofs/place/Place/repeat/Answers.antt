@@ -30,7 +30,7 @@ settle-requires-clause-rows c =
     (behind-around rows at c.enter.new.self.at c.args.size old.used c.rounds_of.result (groups old c.args.self.now) gs' c.requires.size c.requires.some c.requires.around c.enter.ensures.at c.enter.ensures.groups)
 
 pub returns-clause-gives : goal.returns-clause-gives
-returns-clause-gives c = λ db packet end course is gives.
+returns-clause-gives c = λ db source end course is gives.
     let rows : List VpdRow = c.args.structure.now.vpds in
     let old = c.args.values.now in
     let at = c.args.self.now.at in
@@ -41,15 +41,15 @@ returns-clause-gives c = λ db packet end course is gives.
     let nested = structure-nested db c.args.structure.now is in
     let raw : to_z w128 (of_z w128 c.args.raw) ≡ c.args.raw = grind (arith, to_z-of_z) in
     let count : rounds c.args.raw ≡ c.rounds_of.result = ap rounds (sym raw) ∙ sym c.rounds_of.ensures in
-    let fewer : Gives db packet end (walking (group_repeated c.args.size c.rounds_of.result (still_to_walk rows (at + 1) gs)) course (taken old)) =
-    subst (λ k. Gives db packet end (walking (group_repeated c.args.size k (still_to_walk rows (at + 1) gs)) course (taken old))) count
-    (gives-rounds db packet end rows course (taken old) at c.args.size c.args.raw gs nested c.requires.size c.requires.some c.requires.around (omega (arith, few)) gives) in
-    let same : Gives db packet end (walking (group_repeated c.args.size c.rounds_of.result (still_to_walk rows (at + 1) gs)) course (taken c.enter.new.values)) =
-    subst (λ vs. Gives db packet end (walking (group_repeated c.args.size c.rounds_of.result (still_to_walk rows (at + 1) gs)) course vs)) (sym c.enter.ensures.taken) fewer in
+    let fewer : Gives db source end (walking (group_repeated c.args.size c.rounds_of.result (still_to_walk rows (at + 1) gs)) course (taken old)) =
+    subst (λ k. Gives db source end (walking (group_repeated c.args.size k (still_to_walk rows (at + 1) gs)) course (taken old))) count
+    (gives-rounds db source end rows course (taken old) at c.args.size c.args.raw gs nested c.requires.size c.requires.some c.requires.around (omega (arith, few)) gives) in
+    let same : Gives db source end (walking (group_repeated c.args.size c.rounds_of.result (still_to_walk rows (at + 1) gs)) course (taken c.enter.new.values)) =
+    subst (λ vs. Gives db source end (walking (group_repeated c.args.size c.rounds_of.result (still_to_walk rows (at + 1) gs)) course vs)) (sym c.enter.ensures.taken) fewer in
     let around = behind-around rows at c.enter.new.self.at c.args.size old.used c.rounds_of.result gs gs' c.requires.size c.requires.some c.requires.around c.enter.ensures.at c.enter.ensures.groups in
     let behind = behind-gives rows at c.enter.new.self.at c.args.size old.used c.rounds_of.result gs gs' c.requires.size c.requires.some c.requires.around c.enter.ensures.at c.enter.ensures.groups
-    db packet end course (taken c.enter.new.values) nested c.requires.used used same in
-    subst (λ todo. Gives db packet end (walking todo course (taken c.enter.new.values)))
+    db source end course (taken c.enter.new.values) nested c.requires.used used same in
+    subst (λ todo. Gives db source end (walking todo course (taken c.enter.new.values)))
     (sym (settled-todo rows c.enter.new.self.at c.settle.new.self.at gs' (groups c.enter.new.values c.settle.new.self) around c.settle.ensures.at c.settle.ensures.groups)) behind
 
 pub returns-clause-among : goal.returns-clause-among
