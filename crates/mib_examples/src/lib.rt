@@ -1,7 +1,7 @@
 //! Worked examples of the definitions, computed by the checker.
 //!
 //! Each function has an empty body, and its contract is a record of examples: what a definition of `mib_model` says
-//! of tables, packets and texts that are written out. It rests on `mib_model` alone, and nothing rests on it.
+//! of tables, packets and texts that are written out. It rests on `mib_model` alone; `build_examples` takes tables from it.
 #![tactic(auto)]
 
 mod desks;

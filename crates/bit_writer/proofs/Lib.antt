@@ -1,0 +1,4 @@
+pub mod SetFacts
+pub mod FindFacts
+pub mod OctetFacts
+pub mod ReadFacts

@@ -1,0 +1,24 @@
+-- The packet of a SPID, by its row.
+use Rattle.std.proofs.Common.{◌≡◌, ◌∙◌, ℕ, Bool, cond, nat_le, List, Option, Some, None, Result, Err, ap}
+use Rattle.std.specs.Prelude.{◌==◌}
+use Rattle.std.specs.List.{find}
+use Rattle.mib_model.specs.declared.database.Database.{Database}
+use Rattle.mib_model.specs.declared.packet.TheConstants.{IDLE_APID}
+use Rattle.mib_model.specs.declared.rows.PidRow.{PidRow}
+use Rattle.build_rules.specs.declared.fault.BuildFault.{BuildFault}
+use Rattle.build_rules.specs.declared.fault.BuildFault.TheVariants.{Apid, NoSpid}
+use Rattle.build_rules.specs.declared.item.Item.{Item}
+use Rattle.build_rules.specs.Building.{built, built_of, criterion_of, lacking, unless_lacking}
+
+module _ (db : Database) (spid count : ℕ) (items : List Item) where
+  pub built-none : find (λ row. row.spid == spid) db.pid ≡ None → built db spid count items ≡ Err NoSpid
+  unfolding built
+  built-none found = ap (built_of db count items) found
+
+  pub built-by : (row : PidRow) (b : Bool) (l : Option ℕ) → find (λ row. row.spid == spid) db.pid ≡ Some row → nat_le IDLE_APID row.apid ≡ b → lacking row (criterion_of db.pic row) ≡ l
+      → built db spid count items ≡ cond b (Err (Apid row.apid)) (unless_lacking db row count items l)
+  unfolding built
+  built-by row b l found idle lacks =
+      ap (built_of db count items) found
+      ∙ (ap (λ (c : Bool). cond c (Err (Apid row.apid)) (unless_lacking db row count items (lacking row (criterion_of db.pic row)))) idle
+      ∙ ap (λ (o : Option ℕ). cond b (Err (Apid row.apid)) (unless_lacking db row count items o)) lacks)

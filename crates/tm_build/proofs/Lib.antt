@@ -1,0 +1,6 @@
+pub mod LayFacts
+pub mod StructureFacts
+pub mod FitFacts
+pub mod LaidFacts
+pub mod OctetFacts
+pub mod BuiltFacts

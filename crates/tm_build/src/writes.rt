@@ -1,0 +1,136 @@
+// What is written into a packet.
+ghost use Rattle.std.specs.Prelude.{◌≡◌, ◌≤◌, ◌^◌, ◌≤ℤ◌, ◌<ℤ◌, ◌++◌, neg_ℤ, pos, true, IfOk, OnOk, map};
+ghost use Rattle.std.specs.Option.{option_copied};
+ghost use Rattle.std.specs.List.{AllByRecursion};
+ghost use Rattle.build_rules.specs.Building as Spec;
+ghost use Rattle.build_rules.specs.Laying.{fits};
+
+use bit_writer::Write;
+use mib_model::{DiscriminantWidth, Order, PicRow, PidRow, Shape, Value};
+use std::alloc::{AllocError, Global};
+
+/// A number in so many bits from a place on, the most significant octet first.
+pub fn big(at: u64, width: u16, number: u64) -> Write
+    ensures { result ≡ Spec.big at width number }
+{
+    Write {
+        order: Order::Big,
+        at,
+        width,
+        number,
+    }
+}
+
+// A raw number below zero in so many bits: its two's complement.
+fn complement(width: u16, raw: i128) -> u64
+    requires few { width ≤ 64 }
+    requires least { neg_ℤ (pos (2 ^ width)) ≤ℤ raw }
+    requires below { raw <ℤ pos 0 }
+    ensures { result ≡ Spec.pattern width raw }
+{
+    ((1 << width) + raw) as u64
+}
+
+// A raw number of a shape in its bits.
+fn pattern(shape: Shape, raw: i128) -> u64
+    requires { fits shape raw ≡ true }
+    ensures { result ≡ Spec.pattern shape.width raw }
+{
+    let width = shape.width();
+    if raw < 0 {
+        complement(width, raw)
+    } else {
+        raw as u64
+    }
+}
+
+// A value at its place.
+fn value_write(value: &Value) -> Write
+    requires { fits value.now.shape value.now.raw ≡ true }
+    ensures { result ≡ Spec.value_write value.now }
+{
+    let width = value.shape.width();
+    Write {
+        order: value.shape.order(),
+        at: value.at,
+        width,
+        number: pattern(value.shape, value.raw),
+    }
+}
+
+// Adds a discriminant at an octet offset: nothing where there is no offset or no width.
+fn add_discriminant(
+    writes: &mut Vec<Write>,
+    offset: i32,
+    width: DiscriminantWidth,
+    value: u64,
+) -> Result<(), AllocError>
+    ensures { OnOk result (writes.new.items ≡ writes.old.items ++ Spec.discriminant_writes offset width value) }
+{
+    if offset >= 0 && width.bits() != 0 {
+        writes.push(big(8 * offset as u64, u16::from(width.bits()), value))?;
+    }
+    Ok(())
+}
+
+// Adds the two discriminants of a row.
+fn add_discriminants(
+    writes: &mut Vec<Write>,
+    row: &PidRow,
+    criterion: Option<&PicRow>,
+) -> Result<(), AllocError>
+    ensures { OnOk result (writes.new.items ≡ writes.old.items ++ Spec.both_discriminants row.now (option_copied criterion.entry)) }
+{
+    if let Some(pic) = criterion {
+        add_discriminant(writes, pic.pi1_off, pic.pi1_wid, row.pi1_val)?;
+        add_discriminant(writes, pic.pi2_off, pic.pi2_wid, row.pi2_val)?;
+    }
+    Ok(())
+}
+
+// Adds values at their places.
+fn add_values(writes: &mut Vec<Write>, values: &[Value]) -> Result<(), AllocError>
+    requires { AllByRecursion (λ v. fits v.shape v.raw ≡ true) values.now }
+    ensures { OnOk result (writes.new.items ≡ writes.old.items ++ map Spec.value_write values.now) }
+{
+    for value in values {
+        writes.push(value_write(value))?;
+    }
+    Ok(())
+}
+
+// The headers but for the length: version 0, telemetry, a secondary header, the APID, unsegmented, the count; then 10 in
+// hexadecimal, the service type and the subtype (CCSDS 133.0-B, packet primary header; ECSS-E-70-41A, data field header).
+fn header_writes(alloc: Global, row: &PidRow, count: u16) -> Result<Vec<Write>, AllocError>
+    ensures { IfOk result (λ writes. writes.items ≡ Spec.header_writes row.now count) }
+{
+    Ok(vec![in alloc;
+        big(0, 3, 0),
+        big(3, 1, 0),
+        big(4, 1, 1),
+        big(5, 11, u64::from(row.apid)),
+        big(16, 2, 3),
+        big(18, 14, u64::from(count)),
+        big(48, 8, 0x10),
+        big(56, 8, u64::from(row.service)),
+        big(64, 8, u64::from(row.subtype)),
+    ]?)
+}
+
+/// All that is written into a packet of a row with these values, but for its length. An error is want of memory.
+pub fn packet_writes(
+    alloc: Global,
+    row: &PidRow,
+    criterion: Option<&PicRow>,
+    count: u16,
+    values: &[Value],
+) -> Result<Vec<Write>, AllocError>
+    requires { AllByRecursion (λ v. fits v.shape v.raw ≡ true) values.now }
+    ensures { IfOk result (λ writes. writes.items ≡ Spec.header_writes row.now count
+        ++ Spec.both_discriminants row.now (option_copied criterion.entry) ++ map Spec.value_write values.now) }
+{
+    let mut writes = header_writes(alloc, row, count)?;
+    add_discriminants(&mut writes, row, criterion)?;
+    add_values(&mut writes, values)?;
+    Ok(writes)
+}
