@@ -1,0 +1,5 @@
+pub mod Keys
+pub mod Tables
+pub mod Readings
+pub mod Memories
+pub mod Samples

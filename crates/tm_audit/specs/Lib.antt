@@ -1,0 +1,10 @@
+pub mod TextLines
+pub mod Shown
+pub mod Saved
+pub mod Audit
+pub mod Codes
+pub mod Comparing
+pub mod Laws
+pub mod Given
+pub mod Examples
+pub mod CodeExamples
