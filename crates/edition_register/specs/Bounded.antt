@@ -47,7 +47,7 @@ abbrev pub edition_of : ℕ → Scheduled → List Scheduled → ℕ
 edition_of next used [] = used.edition
 edition_of next used (first ∷ more) = if first.from == next then first.edition else used.edition
 
--- the bounded state has that form, and the next packet the edition that the form tells
+-- the bounded state begins with the activation in use, and gives the next packet the edition that its activations tell
 abbrev pub KeepsOneInUse : Type 0
 KeepsOneInUse =
     (first : Database) (history : RegisterHistory) →

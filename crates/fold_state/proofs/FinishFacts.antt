@@ -16,7 +16,7 @@ use Rattle.mib_model.specs.Calibrated.{Calibrated}
 use Rattle.mib_model.specs.Carry.{check_of}
 use Rattle.mib_model.specs.Checks.{checks_of}
 use Rattle.mib_model.specs.Curves.{calibration}
-use Rattle.mib_model.specs.Finish.{Checked, Finished, is_valid, given_for, tail_for, checked_by, told, finished_by, finished, all_finished, in_front}
+use Rattle.mib_model.specs.Finish.{CheckedValue, Finished, is_valid, given_for, tail_for, checked_by, told, finished_by, finished, all_finished, in_front}
 use Rattle.mib_model.specs.Kept.{Memory, has_number}
 use Rattle.mib_model.specs.Parameters.{parameter}
 use Rattle.mib_model.specs.Plans.{has_plan}
@@ -44,7 +44,7 @@ pub given-same : (db : Database) (memory : Memory) (v : Value) (s : ParamSlice) 
 given-same db memory v s is = ap (λ curve. cond (has_number v.shape.sort) (option_map (λ rows. calibration rows v.raw) curve) None) (is.curve memory)
 
 -- a value that is valid
-pub finish-valid : (db : Database) (memory : Memory) (v : Value) (s : ParamSlice) (given : Option Calibrated) (tail : Tail) (checked : Checked) → IsSliceOf db v.name s → is_valid memory s.pcf ≡ true
+pub finish-valid : (db : Database) (memory : Memory) (v : Value) (s : ParamSlice) (given : Option Calibrated) (tail : Tail) (checked : CheckedValue) → IsSliceOf db v.name s → is_valid memory s.pcf ≡ true
     → given ≡ given_for db s.pcf memory v → tail ≡ tail_for s.pcf.decim given → checked ≡ checked_by db memory v given (check_of db v.name)
     → ◌≡◌ {A = Finished} (checked.0, record { value = v; tail = tail; change = checked.1 }) (finished db memory v)
 unfolding finished
@@ -60,7 +60,7 @@ given-number db memory v s given is number made =
     made ∙ (ap (λ (b : Bool). cond b (option_map (λ rows. calibration rows v.raw) (curve_in s memory)) None) (sym number) ∙ given-same db memory v s is)
 
 -- a value that has no number isn't checked
-unchecked : (db : Database) (memory : Memory) (v : Value) (check : Option OcfRow) → has_number v.shape.sort ≡ false → ◌≡◌ {A = Checked} (memory, None) (checked_by db memory v None check)
+unchecked : (db : Database) (memory : Memory) (v : Value) (check : Option OcfRow) → has_number v.shape.sort ≡ false → ◌≡◌ {A = CheckedValue} (memory, None) (checked_by db memory v None check)
 unchecked db memory v None number = refl
 unchecked db memory v (Some row) number = rw number refl
 

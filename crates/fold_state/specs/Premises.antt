@@ -13,7 +13,7 @@ use Rattle.mib_model.specs.Carry.{check_of, same_check}
 use Rattle.mib_model.specs.Checks.{Sample, checks_of, class_of}
 use Rattle.mib_model.specs.Curves.{curve_of}
 use Rattle.mib_model.specs.declared.database.Database.{Database}
-use Rattle.mib_model.specs.Finish.{Checked, with_alarm, checked_by, finished, all_finished}
+use Rattle.mib_model.specs.Finish.{CheckedValue, with_alarm, checked_by, finished, all_finished}
 use Rattle.mib_model.specs.Kept.{Memory, all_entered}
 use Rattle.mib_model.specs.Parameters.{parameter}
 use Rattle.mib_model.specs.Plans.{has_plan}
@@ -75,13 +75,13 @@ pub record AreFinished (db : Database) (packet : List ℕ) (vs : List Value) (be
   pub text : new ≡ old ++ flat_map (told_text packet) (all_finished db before vs).1
 
 -- what is kept and told after a sample by the rows of a plan
-abbrev pub checked_in : Memory → List ℕ → CheckRows → Sample → Checked
+abbrev pub checked_in : Memory → List ℕ → CheckRows → Sample → CheckedValue
 checked_in memory name rows sample =
     with_alarm memory name sample
     (alarm ((memory name).spoken, (memory name).run) (class_of rows.ocps sample (memory name).previous memory) rows.ocf.nbchck)
 
 -- what is kept and told after a value, by what a curve makes of it and by the check of its name
-abbrev pub checked_given : Database → Memory → Value → Option Calibrated → Checked
+abbrev pub checked_given : Database → Memory → Value → Option Calibrated → CheckedValue
 checked_given db memory v given = checked_by db memory v given (check_of db v.name)
 
 -- whether what is kept of a parameter stays, by the rows of its plans

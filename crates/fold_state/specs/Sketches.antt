@@ -15,7 +15,7 @@ use Rattle.mib_model.specs.Alarms.{alarm}
 use Rattle.mib_model.specs.AlarmTexts.{change_text_of}
 use Rattle.mib_model.specs.Calibrated.{Calibrated}
 use Rattle.mib_model.specs.Checks.{Numbered, Sample, class_of}
-use Rattle.mib_model.specs.Finish.{Checked, with_alarm, finished, is_valid}
+use Rattle.mib_model.specs.Finish.{CheckedValue, with_alarm, finished, is_valid}
 use Rattle.mib_model.specs.Kept.{Memory, empty_memory}
 use Rattle.mib_model.specs.Texts.{told_text}
 use Rattle.param_plan.specs.Slices.{ParamSlice, curve_in}
@@ -31,7 +31,7 @@ abbrev pub finished_lines : Database → List ℕ → Memory → Value → Shown
 finished_lines db packet memory v = ((finished db memory v).0, told_text packet (finished db memory v).1)
 
 -- what is kept and told of a name after a nominal number
-abbrev pub after_nominal : Memory → List ℕ → ℤ → Checked
+abbrev pub after_nominal : Memory → List ℕ → ℤ → CheckedValue
 after_nominal memory name count = with_alarm memory name (Numbered count) (alarm ((memory name).spoken, (memory name).run) Nominal 0)
 
 -- what is kept after a nominal number of a name, and the line of what it ends
@@ -79,7 +79,7 @@ IsMarkOf rows sample mark.Open = Unit {0}
 
 -- what a mark says of a value whose number was calibrated so, whatever is kept: nothing is told or kept; what a nominal number leaves; or nothing
 abbrev pub IsMarked : Database → Value → Option Calibrated → Mark → Type 0
-IsMarked db v given mark.Told = (memory : Memory) → ◌≡◌ {A = Checked} (memory, None) (checked_given db memory v given)
+IsMarked db v given mark.Told = (memory : Memory) → ◌≡◌ {A = CheckedValue} (memory, None) (checked_given db memory v given)
 IsMarked db v given (mark.Nominal number) = (memory : Memory) → after_nominal memory v.name number.count ≡ checked_given db memory v given
 IsMarked db v given mark.Open = Unit {0}
 

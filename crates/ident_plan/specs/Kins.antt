@@ -16,6 +16,6 @@ IsKin rows Empty = rows ≡ []
 IsKin rows (One row) = rows ≡ row ∷ []
 IsKin rows More = ⊤
 
--- what is said of the rows of each APID
+-- of each APID it is said that it has no row, or which one it has alone, or nothing
 abbrev pub AreKins : List PidRow → List Kin → Type 0
 AreKins pids kins = (apid : ℕ) → IsKin (filter (is_of apid) pids) (get_or kins apid More)

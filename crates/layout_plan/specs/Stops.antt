@@ -10,7 +10,7 @@ abbrev pub ended_at : List ℕ → Stop → Ended
 ended_at name Short = ends.Short name
 ended_at name Many = ends.Many
 
--- the same, where they stop
+-- how values end that stop so, and nothing where they go on
 abbrev pub ended_by : List ℕ → Option Stop → Option Ended
 ended_by name None = None
 ended_by name (Some stop) = Some (ended_at name stop)

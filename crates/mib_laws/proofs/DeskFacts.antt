@@ -14,13 +14,13 @@ use Rattle.mib_model.specs.DeskRuns.{Calls, Follows, LineRun, IsLine, IsChain, I
 use Rattle.mib_laws.specs.Desks.{InParts, LinesDecide}
 
 -- the first items and the other items of lists that are equal
-cons-head : {A : Type 0} (x y : A) (xs ys : List A) → x ∷ xs ≡ y ∷ ys → x ≡ y
+pub cons-head : {A : Type 0} (x y : A) (xs ys : List A) → x ∷ xs ≡ y ∷ ys → x ≡ y
 cons-head x y xs ys same = ap (λ l. slice_index_or l 0 x) same
 
-cons-tail : {A : Type 0} (x y : A) (xs ys : List A) → x ∷ xs ≡ y ∷ ys → xs ≡ ys
+pub cons-tail : {A : Type 0} (x y : A) (xs ys : List A) → x ∷ xs ≡ y ∷ ys → xs ≡ ys
 cons-tail x y xs ys same = ap (λ l. drop 1 l) same
 
-nil-cons : {A : Type 0} (x : A) (xs : List A) → [] ≡ x ∷ xs → ⊥
+pub nil-cons : {A : Type 0} (x : A) (xs : List A) → [] ≡ x ∷ xs → ⊥
 nil-cons x xs same = omega (arith, ap length same)
 
 module _ (several : Bool) where
@@ -117,7 +117,7 @@ or_right : (a b : Bool) → (a || b) ≡ false → b ≡ false
 or_right true b h = absurd (true-false h)
 or_right false b h = h
 
-rest_wants : (given : Option DeskReply) (rest : List DeskReply) → list_any is_want (cons_option given rest) ≡ false → list_any is_want rest ≡ false
+pub rest_wants : (given : Option DeskReply) (rest : List DeskReply) → list_any is_want (cons_option given rest) ≡ false → list_any is_want rest ≡ false
 rest_wants None rest h = h
 rest_wants (Some r) rest h = or_right (is_want r) (list_any is_want rest) h
 
@@ -125,18 +125,18 @@ wants_not : (given : Option DeskReply) (rest : List DeskReply) → given ≡ Som
 wants_not given rest is h = true-false (subst (λ g. list_any is_want (cons_option g rest) ≡ false) is h)
 
 -- what lines came to
-abbrev calls_in : List LineRun → Calls
+abbrev pub calls_in : List LineRun → Calls
 calls_in runs = flat_map (λ run. run.calls) runs
 
-abbrev replies_in : List LineRun → List DeskReply
+abbrev pub replies_in : List LineRun → List DeskReply
 replies_in runs = filter_map (λ run. run.reply) runs
 
-abbrev lines_in : List LineRun → List (List ℕ)
+abbrev pub lines_in : List LineRun → List (List ℕ)
 lines_in runs = map (λ run. run.line) runs
 
 module _ (several : Bool) where
   -- a line that want of memory didn't refuse
-  line-follows : (run : LineRun) (rest : List DeskReply) → list_any is_want (cons_option run.reply rest) ≡ false → IsLine several run
+  pub line-follows : (run : LineRun) (rest : List DeskReply) → list_any is_want (cons_option run.reply rest) ≡ false → IsLine several run
       → Follows (way_of several run.old (request_of several run.line)) run.calls run.reply run.new
   line-follows run rest none (inl goes) = goes
   line-follows run rest none (inr wants) = absurd (wants_not run.reply rest wants.told none)

@@ -5,6 +5,8 @@ pub mod OneEdition
 pub mod RegisterFacts
 pub mod CutFacts
 pub mod DeskFacts
+pub mod AloneFacts
+pub mod DeskFirst
 pub mod Nesting
 pub mod WalkFacts
 pub mod Sorting

@@ -13,7 +13,7 @@ mod register;
 mod walk;
 
 pub use cut::each_feed_is_cut;
-pub use desk::{desk_goes_by_parts, lines_decide};
+pub use desk::{desk_first_decides, desk_goes_by_parts, lines_alone_decide, lines_decide};
 pub use interpreter::{one_edition, runs_in_parts};
 pub use layout::slices_suffice;
 pub use matching::unknown_without_a_row;

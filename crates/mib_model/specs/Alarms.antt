@@ -26,7 +26,7 @@ out_of_limits (Some spoken) run class repeats =
 out_of_limits None run class repeats =
     if run == repeats then ((Some class, run), Some (Alarm class)) else ((None, run), None)
 
--- a nominal sample ends the run, and clears what was spoken of
+-- a nominal sample ends the run and clears what was spoken of; each other goes on with the run of its class, which is spoken of once it is long enough
 unfoldable pub alarm : Watch → Class → ℕ → Watch × Option Change
 alarm watch Nominal repeats = ((None, 0), option_map (λ spoken. Clear spoken) watch.0)
 alarm watch class repeats = out_of_limits watch.0 (min (watch.1 + 1) repeats) class repeats

@@ -31,7 +31,7 @@ is_hard row = row.sort == letter "H"
 abbrev pub is_soft : OcpRow → Bool
 is_soft row = row.sort == letter "S"
 
--- a limit of the step from the sample before: `D`
+-- a limit of the step from the last number that was checked: `D`
 abbrev pub is_delta : OcpRow → Bool
 is_delta row = row.sort == letter "D"
 
@@ -71,7 +71,7 @@ abbrev pub is_out_from : Option ℤ → ℤ → OcpRow → Bool
 is_out_from None count row = false
 is_out_from (Some previous) count row = is_out row (count -ℤ previous)
 
--- a delta is violated by a number too far from the one before, and by no text
+-- a delta is violated by a number too far from the last that was checked, and by no text
 abbrev pub violates_delta : Option ℤ → Sample → OcpRow → Bool
 violates_delta previous (Numbered count) row = is_out_from previous count row
 violates_delta previous (Worded text) row = false

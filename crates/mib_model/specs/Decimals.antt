@@ -56,7 +56,7 @@ whole_digits text = before_first is_point (mantissa text)
 abbrev pub fraction_digits : List ℕ → List ℕ
 fraction_digits text = after_first is_point (mantissa text)
 
--- the exponent: an optional sign and 1 to 9 digits behind the mark, and 0 without a mark
+-- whether the exponent is well formed: an optional sign and 1 to 9 digits behind the mark, or no mark at all
 abbrev pub has_exponent_form : List ℕ → Bool
 has_exponent_form text = not (list_any is_exponent_mark text) || are_digits 1 9 (unsigned_part (exponent_part text))
 

@@ -1,17 +1,23 @@
 -- Which entries and replies a desk's lines may have. [This profile.]
 use Rattle.std.specs.Prelude.{◌≡◌, ◌⊎◌, ℕ, Bool, true, false, List, [], ◌∷◌, map, filter_map, Option, Some, None, if◌then◌else◌}
 use Rattle.std.specs.List.{flat_map}
+use Rattle.histories.specs.History.{move}
 use Rattle.mib_model.specs.declared.register.Answer.{Answer}
 use Rattle.mib_model.specs.declared.register.Entry.{Entry}
 use Rattle.mib_model.specs.declared.register.Entry.TheVariants as entry
 use Rattle.mib_model.specs.declared.reply.Reply.TheVariants as reply
 use Rattle.mib_model.specs.Desk.{DeskReply, Plain, DeskState, Way, Done, Ask}
 use Rattle.mib_model.specs.DeskWays.{way_of}
+use Rattle.mib_model.specs.RegisterHistories.{RegisterHistory}
 use Rattle.mib_model.specs.DeskLines.{Request, Put, Delete, Save, Drop, Use, UseFrom, Take, Go, request_of}
 
 -- the entries that a desk made, each with its answer
 abbrev pub Calls : Type 0
 Calls = List (Entry × Answer)
+
+-- the moves by which a single desk, of seat 1, makes entries that are answered so
+abbrev pub moves_by : Calls → RegisterHistory
+moves_by calls = map (λ call. move 1 call.0 call.1) calls
 
 -- a way that was gone to its end: each entry is the one that it asks for
 abbrev pub Follows : Way → Calls → Option DeskReply → DeskState → Type 0

@@ -52,22 +52,22 @@ abbrev pub kept_after : Kept → Sample → Watch → Kept
 kept_after kept sample watch = record kept { spoken = watch.0; run = watch.1; previous = previous_after sample kept.previous }
 
 -- what is kept of all names, and what is told
-abbrev pub Checked : Type 0
-Checked = Memory × Option Change
+abbrev pub CheckedValue : Type 0
+CheckedValue = Memory × Option Change
 
 -- what is kept of all names and told after a step of the alarm of one
-abbrev pub with_alarm : Memory → List ℕ → Sample → Watch × Option Change → Checked
+abbrev pub with_alarm : Memory → List ℕ → Sample → Watch × Option Change → CheckedValue
 with_alarm memory name sample step = (keeping memory name (kept_after (memory name) sample step.0), step.1)
 
 -- a sample is classed, and the alarm takes a step
-abbrev pub checked_sample : Database → Memory → List ℕ → OcfRow → Option Sample → Checked
+abbrev pub checked_sample : Database → Memory → List ℕ → OcfRow → Option Sample → CheckedValue
 checked_sample db memory name check None = (memory, None)
 checked_sample db memory name check (Some sample) =
     with_alarm memory name sample
     (alarm ((memory name).spoken, (memory name).run) (class_of (checks_of db name) sample (memory name).previous memory) check.nbchck)
 
 -- a value with a number is checked where its parameter has a check
-abbrev pub checked_by : Database → Memory → Value → Option Calibrated → Option OcfRow → Checked
+abbrev pub checked_by : Database → Memory → Value → Option Calibrated → Option OcfRow → CheckedValue
 checked_by db memory v given None = (memory, None)
 checked_by db memory v given (Some check) =
     if has_number v.shape.sort then checked_sample db memory v.name check (sample_for check v.raw given) else (memory, None)
@@ -77,7 +77,7 @@ abbrev pub Finished : Type 0
 Finished = Memory × Told
 
 -- a value with its tail and what its check tells
-abbrev pub told : Value → Tail → Checked → Finished
+abbrev pub told : Value → Tail → CheckedValue → Finished
 told v tail checked = (checked.0, record { value = v; tail = tail; change = checked.1 })
 
 -- a valid value is calibrated and checked, an invalid one is neither

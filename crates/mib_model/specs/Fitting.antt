@@ -31,7 +31,7 @@ pub record FitsText (octets : List ℕ) : Type 0 where
   pub short : is_text octets ≡ true
   pub whole : list_all (λ octet. not (is_tab octet)) octets ≡ true
 
--- a bound of a check: a text where it is of states, and else a decimal or nothing
+-- a bound of a check that is not of states: a decimal or nothing, and no text
 abbrev pub FitsBound : Bound → Type 0
 FitsBound bound.Empty = Unit {0}
 FitsBound (bound.Number d) = IsDecimal d

@@ -26,7 +26,7 @@ pub data Form : Type 0 where
   AnyText : Form
   Bounding : (states : Bool) → Form
 
--- the numbers from 1 on by which rows are told apart
+-- the numbers of packets: the range of SPID, from 1 on, in each table that names one
 abbrev pub row_id : Form
 row_id = Natural 1 ID_MOST
 

@@ -38,7 +38,7 @@ abbrev pub does_too_much : VpdRow → Bool
 does_too_much r =
     (is_yes r.choice && is_yes r.pidref) || (is_yes r.choice && has_group r) || (is_yes r.pidref && has_group r)
 
--- whether a row repeats no group
+-- whether a row has a fixed repetition above 0 and no group that it would repeat
 abbrev pub repeats_nothing : VpdRow → Bool
 repeats_nothing r = not (r.fixrep == 0) && not (has_group r)
 

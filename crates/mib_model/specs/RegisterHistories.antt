@@ -1,4 +1,4 @@
--- What the register's histories say of packets. [This profile.]
+-- What the register's histories say of packets, of editions and of their plans. [This profile.]
 use Rattle.std.specs.Prelude.{◌≡◌, ℕ, zero, suc, Bool, true, false, List, filter_map, Option, Some, None}
 use Rattle.std.specs.List.{All}
 use Rattle.histories.specs.History.{IsLegal, state_after}

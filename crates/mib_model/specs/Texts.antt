@@ -1,5 +1,5 @@
 -- The printed lines of a packet's record, each with its line feed. [This profile.]
-use Rattle.std.specs.Prelude.{ℕ, List, [], ◌∷◌, ◌++◌, length, codes, decimal, Option, Some, None}
+use Rattle.std.specs.Prelude.{ℕ, List, [], ◌∷◌, ◌++◌, length, codes, decimal, Option, Some, None, Bool, if◌then◌else◌}
 use Rattle.std.specs.Fmt.{signed_decimal}
 use Rattle.std.specs.List.{flat_map}
 use Rattle.mib_model.specs.declared.packet.BadWhy.{BadWhy}
@@ -105,3 +105,7 @@ cut_text octets = codes "CUT " ++ decimal octets ++ codes "\n"
 abbrev pub rest_text : List ℕ → List ℕ
 rest_text [] = []
 rest_text (b ∷ rest) = cut_text (length (b ∷ rest))
+
+-- the line of a feed's rest, unless the feed failed there
+abbrev pub rest_unless : Bool → List ℕ → List ℕ
+rest_unless failed rest = if failed then [] else rest_text rest

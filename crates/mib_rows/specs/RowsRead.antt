@@ -30,6 +30,7 @@ pub record RowsRead : Type 0 where
   pub of_ocf : (f : List (List ℕ)) → row_of kind.Ocf f ≡ made_into row.Ocf (made_by ocf ocf_row f)
   pub of_ocp : (f : List (List ℕ)) → row_of kind.Ocp f ≡ made_into row.Ocp (made_by (ocp (has_states f)) (ocp_row (has_states f)) f)
 
+-- the rows of each table are made so
 pub rows_read : RowsRead
 unfolding row_of
 rows_read = record {

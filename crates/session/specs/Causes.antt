@@ -1,18 +1,14 @@
 -- Which fault comes with which count of faults. [This profile.]
 use Rattle.std.specs.Prelude.{◌≡◌, ℕ, ◌≤◌, ⊤}
-use Rattle.tm_io.specs.Causes.{Rose}
+use Rattle.tm_io.specs.Causes.{HasRisen}
 use Rattle.mib_rows.specs.declared.read_fault.ReadFault.{ReadFault}
 use Rattle.mib_rows.specs.declared.read_fault.ReadFault.TheVariants as reads
 use Rattle.session.specs.declared.load_fault.LoadFault.{LoadFault}
 use Rattle.session.specs.declared.load_fault.LoadFault.TheVariants as faults
 
--- a count of faults that rose
-abbrev pub Failed : ℕ → ℕ → Type 0
-Failed before now = (before ≤ now) × Rose before now
-
 -- the count rose where the fault says so, and is as it was with each other
 abbrev pub HasLoadCause : LoadFault → ℕ → ℕ → Type 0
-HasLoadCause faults.Failed before now = Failed before now
+HasLoadCause faults.Failed before now = HasRisen before now
 HasLoadCause other before now = now ≡ before
 
 -- the fault of a load that a fault of reading is

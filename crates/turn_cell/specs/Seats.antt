@@ -34,6 +34,7 @@ module _ {P C E A : Type 0} where
   abbrev pub number_of : Seat P (View C E A) → ℕ
   number_of seat = least seat.me.0.holdings
 
+  -- all moves that the seat made, in their order
   abbrev pub own_moves : Seat P (View C E A) → List (Move E A)
   own_moves seat = listed (least seat.me.0.holdings) seat.me.0.holdings
 

@@ -11,6 +11,7 @@ use Rattle.turn_cell.specs.declared.view.View.{View}
 use Rattle.turn_cell.specs.Standings.{ticket_of}
 
 module _ {E A : Type 0} where
+  -- a number that is held, with the moves that were made under it
   abbrev pub holding : ℕ → List (Move E A) → Holding E A
   holding number moves = record { number = number; moves = moves }
 
@@ -55,6 +56,7 @@ module _ {E A : Type 0} where
   abbrev pub is_handed : List (Holding E A) → Holding E A → Bool
   is_handed hs h = is_spare hs h && (h.number == greatest (filter (is_spare hs) hs))
 
+  -- the one that is handed to the other side of a split: the greatest of those that can be spared
   abbrev pub handed : List (Holding E A) → List (Holding E A)
   handed hs = filter (is_handed hs) hs
 
@@ -71,6 +73,7 @@ unfoldable pub origin_of : {C : Type 0} → C → ℕ → Origin C
 origin_of state callers = record { state = state; callers = callers }
 
 module _ {C E A : Type 0} where
+  -- what a seat knows: where it comes from, what it holds, whether it is in a turn, and what it has seen
   abbrev pub view : Option (Origin C) → List (Holding E A) → Standing → List (Move E A) → View C E A
   view start holdings standing seen = record { origin = start; holdings = holdings; standing = standing; seen = seen; fronts = [] }
 
@@ -100,6 +103,7 @@ module _ {C E A : Type 0} where
   abbrev pub split_left : View C E A → View C E A
   split_left v = view v.origin (kept v.holdings) Idle v.seen
 
+  -- what the new seat of a split knows
   abbrev pub split_right : View C E A → View C E A
   split_right v = view v.origin (handed v.holdings) Idle v.seen
 
@@ -107,5 +111,6 @@ module _ {C E A : Type 0} where
   abbrev pub joined : View C E A → View C E A → View C E A
   joined v w = record { origin = v.origin; holdings = v.holdings ++ w.holdings; standing = Idle; seen = longer v.seen w.seen; fronts = v.seen ∷ w.seen ∷ [] }
 
+  -- what is left of a seat that was joined with another
   abbrev pub spent : View C E A
   spent = view None [] Idle []
