@@ -1,6 +1,6 @@
 ghost use Rattle.std.specs.Prelude.{◌≡◌, ◌++◌, ◌≤◌, ◌+◌, ℕ, length, take, IfSome};
 ghost use Rattle.decode_one.specs.Halves.{IsHalf};
-ghost use Rattle.decode_session.specs.Cells.{packet_in, stamped_in};
+ghost use Rattle.decode_session.specs.Cells.{packet_in, stamped_cell};
 ghost use Rattle.decode_session.specs.Finishing.{next_text, Leaves};
 ghost use Rattle.edition_plans.specs.Params.{param_slices};
 ghost use Rattle.fold_state.specs.Boards.{memory_of, plan_names};
@@ -28,9 +28,9 @@ fn finish_by<P: Plans>(
     requires board { board.old.names ≡ plan_names (param_slices (P.tables plans.now)) }
     requires room { length lines.old ≤ TEXT_BEFORE }
     ensures board { board.new.names ≡ board.old.names }
-    ensures kept { (edition : ℕ) → Leaves edition (P.tables plans.now) (memory_of board.old) (stamped_in edition (P.tables plans.now) cell.now)
+    ensures kept { (edition : ℕ) → Leaves edition (P.tables plans.now) (memory_of board.old) (stamped_cell edition (P.tables plans.now) cell.now)
         (memory_of board.new) }
-    ensures text { (edition : ℕ) → let text = next_text edition (P.tables plans.now) (memory_of board.old) (stamped_in edition (P.tables plans.now) cell.now) in
+    ensures text { (edition : ℕ) → let text = next_text edition (P.tables plans.now) (memory_of board.old) (stamped_cell edition (P.tables plans.now) cell.now) in
         lines.new ≡ lines.old ++ text }
     ensures room { length lines.new + LINE_MOST ≤ LINES_ROOM }
 {
@@ -59,9 +59,9 @@ fn finish_drawn<P: Plans>(
     requires board { board.old.names ≡ plan_names (param_slices (P.tables plans.now)) }
     requires room { length lines.old ≤ TEXT_BEFORE }
     ensures board { board.new.names ≡ board.old.names }
-    ensures kept { (edition : ℕ) → Leaves edition (P.tables plans.now) (memory_of board.old) (stamped_in edition (P.tables plans.now) cell.now)
+    ensures kept { (edition : ℕ) → Leaves edition (P.tables plans.now) (memory_of board.old) (stamped_cell edition (P.tables plans.now) cell.now)
         (memory_of board.new) }
-    ensures text { (edition : ℕ) → let text = next_text edition (P.tables plans.now) (memory_of board.old) (stamped_in edition (P.tables plans.now) cell.now) in
+    ensures text { (edition : ℕ) → let text = next_text edition (P.tables plans.now) (memory_of board.old) (stamped_cell edition (P.tables plans.now) cell.now) in
         lines.new ≡ lines.old ++ text }
     ensures room { length lines.new + LINE_MOST ≤ LINES_ROOM }
 {
@@ -93,9 +93,9 @@ pub fn finish_next<K: Tables, P: Plans>(
     ensures number { cell.new.number ≡ cell.old.number }
     ensures packet { packet_in cell.new ≡ packet_in cell.old }
     ensures board { board.new.names ≡ board.old.names }
-    ensures kept { (edition : ℕ) → Leaves edition (P.tables plans.now) (memory_of board.old) (stamped_in edition (P.tables plans.now) cell.old)
+    ensures kept { (edition : ℕ) → Leaves edition (P.tables plans.now) (memory_of board.old) (stamped_cell edition (P.tables plans.now) cell.old)
         (memory_of board.new) }
-    ensures text { (edition : ℕ) → let text = next_text edition (P.tables plans.now) (memory_of board.old) (stamped_in edition (P.tables plans.now) cell.old) in
+    ensures text { (edition : ℕ) → let text = next_text edition (P.tables plans.now) (memory_of board.old) (stamped_cell edition (P.tables plans.now) cell.old) in
         lines.new ≡ lines.old ++ text }
     ensures room { length lines.new + LINE_MOST ≤ LINES_ROOM }
 {

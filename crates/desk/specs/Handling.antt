@@ -1,17 +1,12 @@
 -- What a desk's line comes to at the register. [This profile.]
-use Rattle.std.specs.Prelude.{◌≡◌, ◌⊎◌, ℕ, ◌+◌, false, List, [], ◌++◌, map, Option, Some, option_map, ⊤}
-use Rattle.histories.specs.History.{move}
+use Rattle.std.specs.Prelude.{◌≡◌, ◌⊎◌, ℕ, ◌+◌, false, List, [], ◌++◌, Option, Some, option_map, ⊤}
 use Rattle.mib_model.specs.declared.reply.Reply.{Reply}
 use Rattle.mib_model.specs.declared.reply.Reply.TheVariants as reply
 use Rattle.mib_model.specs.Desk.{DeskState, Plain}
 use Rattle.mib_model.specs.DeskLines.{Request, Save}
-use Rattle.mib_model.specs.DeskRuns.{Calls, Follows, IsLine, LineRun, Wants}
+use Rattle.mib_model.specs.DeskRuns.{Calls, Follows, IsLine, LineRun, Wants, moves_by}
 use Rattle.mib_model.specs.DeskWays.{way_of}
 use Rattle.mib_model.specs.RegisterHistories.{RegisterHistory}
-
--- the moves of a desk's seat by which entries are made
-abbrev pub moves_by : Calls → RegisterHistory
-moves_by calls = map (λ c. move 1 c.0 c.1) calls
 
 -- what came of a line at a single desk
 abbrev pub run_of : List ℕ → DeskState → Calls → Option Reply → DeskState → LineRun
@@ -23,7 +18,7 @@ pub record HandlesLine (line : List ℕ) (old : DeskState) (before after : Regis
   pub own : after ≡ before ++ moves_by calls
   pub is_line : IsLine false (run_of line old calls given new)
 
--- the same of a request alone
+-- a request went its way, or want of memory refused it; the seat's moves grew by the entries that were made
 pub record Handles (request : Request) (old : DeskState) (before after : RegisterHistory) (given : Option Reply) (new : DeskState) : Type 0 where
   pub calls : Calls
   pub own : after ≡ before ++ moves_by calls

@@ -10,7 +10,7 @@ use Rattle.live_desk.specs.declared.desk_end.DeskEnd.TheVariants as end
 use Rattle.live_desk.specs.declared.line.Came.{Came}
 use Rattle.live_desk.specs.declared.line.Came.TheVariants as came
 use Rattle.live_desk.specs.Lines.{Answers, Comes, Replied}
-use Rattle.live_desk.specs.Standing.{Held, Standing}
+use Rattle.live_desk.specs.Standing.{DeskHeld, Standing}
 use Rattle.live_desk.proofs.LineFacts.{Known}
 use Rattle.mib_model.specs.declared.reply.Reply.{Reply}
 use Rattle.mib_model.specs.Desk.{DeskState, Plain}
@@ -51,7 +51,7 @@ line-as front line old new calls given asks (inl follows) = inl (subst (λ r. Fo
 line-as front line old new calls given asks (inr wants) =
     inr (record { may = subst (λ (r : Request). may_want r ≡ true) asks wants.may; entries = subst (λ (r : Request). LeavesLook false r calls) asks wants.entries; told = wants.told; kept = wants.kept })
 
-replied-as : (failed go : Bool) (front line : List ℕ) (before after : Held) → request_of false front ≡ request_of false line → Replied failed go front before after → Replied failed go line before after
+replied-as : (failed go : Bool) (front line : List ℕ) (before after : DeskHeld) → request_of false front ≡ request_of false line → Replied failed go front before after → Replied failed go line before after
 replied-as failed go front line before after asks r = record {
   given = r.given;
   handles = record { calls = r.handles.calls; own = r.handles.own; is_line = line-as front line before.state after.state r.handles.calls r.given asks r.handles.is_line };
@@ -59,7 +59,7 @@ replied-as failed go front line before after asks r = record {
   told = r.told;
 }
 
-pub answers-as : (before after : Held) (c : Came) (front line : List ℕ) → request_of false front ≡ request_of false line → Answers c front before after → Answers c line before after
+pub answers-as : (before after : DeskHeld) (c : Came) (front line : List ℕ) → request_of false front ≡ request_of false line → Answers c front before after → Answers c line before after
 answers-as before after (came.Handled go) front line asks answers = replied-as false go front line before after asks answers
 answers-as before after (came.Ended end.Done) front line asks answers = absurd answers
 answers-as before after (came.Ended end.Limit) front line asks answers = absurd answers

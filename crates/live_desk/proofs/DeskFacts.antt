@@ -1,24 +1,24 @@
 -- A desk's whole script: the lines up to the first `go`, and then the others.
-use Rattle.std.proofs.Common.{◌≡◌, ℕ, ◌==◌, Bool, true, false, List, [], ◌++◌, length, drop, Some, None, refl, sym, ap, ◌∙◌, subst, append_assoc, append-nil, length-append, arith}
+use Rattle.std.proofs.Common.{◌≡◌, ℕ, ◌==◌, Bool, true, false, List, [], ◌++◌, length, drop, Some, None, refl, sym, ap, ◌∙◌, subst, append_assoc, append-nil, length-append, arith, inl, inr}
 use Rattle.std.specs.Prelude.{IfSome}
 use Rattle.std.specs.Io.KnownBytes.{Appends, Consumes}
 use Rattle.std.proofs.KnownBytes.{Appends-trans, Consumes-trans}
 use Rattle.std.proofs.lemmas.List.Elements.{filter-append}
 use Rattle.std.proofs.Math.Seq.{drop-append_seam, drop-length}
 use Rattle.decode_session.proofs.FinishFacts.{part-behind}
-use Rattle.desk.specs.Handling.{moves_by}
 use Rattle.desk_lines.specs.Ahead.{Reading, reading_start, still, meets_limit}
 use Rattle.desk_lines.proofs.AheadFacts.{still-start, limit-start}
 use Rattle.histories.specs.History.{StartsWith, moves_of}
-use Rattle.live_intake.specs.Intake.{Gives}
+use Rattle.tm_io.specs.Octets.{WritesUnless}
 use Rattle.live_desk.specs.declared.desk_end.DeskEnd.{DeskEnd}
-use Rattle.live_desk.specs.Lines.{is_reply_fault}
-use Rattle.live_desk.specs.Scripts.{DeskedBy, EndsEarly, Pauses, limit_text, tail_by}
+use Rattle.live_desk.specs.DeskEnds.{is_reply_fault}
+use Rattle.live_desk.specs.Scripts.{DeskedBy, EndsEarly, FailsAt, IsGiven, IsUpTo, Pauses, limit_text, tail_by}
 use Rattle.live_desk.specs.Standing.{Standing}
+use Rattle.live_desk.proofs.ScriptFacts.{still-end}
 use Rattle.live_desk.proofs.LineFacts.{Known, desk-none, given-append, moves-append, text-append}
 use Rattle.mib_model.specs.declared.database.Database.{Database}
-use Rattle.mib_model.specs.Desk.{desk_start}
-use Rattle.mib_model.specs.DeskRuns.{Calls, IsDesk, prelude}
+use Rattle.mib_model.specs.Desk.{DeskReply, desk_start}
+use Rattle.mib_model.specs.DeskRuns.{Calls, IsDesk, prelude, moves_by}
 use Rattle.mib_model.specs.RegisterHistories.{RegisterHistory}
 use Rattle.mib_model.specs.Replies.{desk_text}
 use Rattle.mib_model.specs.Script.{script, reaches_limit}
@@ -27,9 +27,36 @@ use Rattle.mib_model.specs.Script.{script, reaches_limit}
 pub starts-more : (initial old new : RegisterHistory) → StartsWith old initial → StartsWith new old → StartsWith new initial
 starts-more initial old new first later = (first.0 ++ later.0, later.1 ∙ ap (λ l. l ++ later.0) first.1 ∙ append_assoc initial first.0 later.0)
 
-gives-behind : (failed : Bool) (xs ys : List ℕ) (a b c : Known) → Appends a b xs → Gives failed b c ys → Gives failed a c (xs ++ ys)
+gives-behind : (failed : Bool) (xs ys : List ℕ) (a b c : Known) → Appends a b xs → WritesUnless failed b c ys → WritesUnless failed a c (xs ++ ys)
 gives-behind false xs ys a b c front rest = Appends-trans a b c xs ys front rest
 gives-behind true xs ys a b c front rest = part-behind xs ys a b c front rest
+
+-- the replies failed behind others
+fails-behind : (rs qs : List DeskReply) (others : List (List ℕ)) (tail : List ℕ) (a b c : Known) → Appends a b (desk_text None rs) → FailsAt qs others tail b c → FailsAt (rs ++ qs) others tail a c
+fails-behind rs qs others tail a b c written (front, more, place, wrote, inl (parts, few, part)) = (
+  rs ++ front,
+  more,
+  place,
+  subst (Appends a place) (sym (text-append rs front)) (Appends-trans a b place (desk_text None rs) (desk_text None front) written wrote),
+  inl (ap (λ l. rs ++ l) parts ∙ sym (append_assoc rs front more), few, part),
+)
+fails-behind rs qs others tail a b c written (front, more, place, wrote, inr (all, none, limit, part)) = (
+  rs ++ front,
+  more,
+  place,
+  subst (Appends a place) (sym (text-append rs front)) (Appends-trans a b place (desk_text None rs) (desk_text None front) written wrote),
+  inr (ap (λ l. rs ++ l) all, none, limit, part),
+)
+
+-- lines that were handled behind others are no more than were given: none, where those had come to the script's end
+more-given : (mid : Reading) (left place : Known) (given further : List ℕ) (handled more others : List (List ℕ)) → Consumes left place given → IfSome left (λ l. IsUpTo given place handled)
+    → IfSome place (λ l. still mid l ≡ more ++ others) → IsGiven place further more → IsGiven left (given ++ further) (handled ++ more)
+more-given mid None place given further handled more others taken upto parted few = tt
+more-given mid (Some l) None given further handled more others taken upto parted few = absurd taken
+more-given mid (Some l) (Some p) given further handled more others taken (inl all) parted few = omega (arith, given-append given further, all, few, length-append handled more)
+more-given mid (Some l) (Some p) given further handled more others taken (inr (all, end)) parted few =
+    let none = ap (λ (ls : List (List ℕ)). length ls) (sym (still-end mid) ∙ ap (still mid) (sym end) ∙ parted) in
+    omega (arith, given-append given further, all, none, length-append more others, length-append handled more)
 
 -- the moves of the first lines stand at the front
 in-front : (front seen o1 : RegisterHistory) (cs : Calls) → StartsWith front seen → moves_of 1 seen ≡ o1 → o1 ≡ moves_by cs → StartsWith (moves_of 1 front) (moves_by cs)
@@ -85,6 +112,7 @@ module _ (e : DeskEnd) (first : Database) (all front seen : RegisterHistory) (st
           of_script = script-both before.read unread middle.read before.left middle.left w.given w.handled r.handled r.others w.consumed w.ahead r.parted;
           all = r.all;
           whole = omega (arith, given-append w.given r.given, w.whole, r.whole, length-append w.handled r.handled);
+          no_more = more-given middle.read before.left middle.left w.given r.given w.handled r.handled r.others w.consumed w.upto r.parted r.no_more;
           early = w.calls;
           late = r.calls;
           early_replies = w.replies;
@@ -96,8 +124,9 @@ module _ (e : DeskEnd) (first : Database) (all front seen : RegisterHistory) (st
           entered = refl;
           tail = r.tail;
           is_tail = tail-both before.read unread e middle.read before.left middle.left w.given r.tail w.consumed w.limit r.is_tail;
-          told = subst (Gives (is_reply_fault e) w0 w2) (sym (append_assoc (desk_text None w.replies) (desk_text None r.replies) r.tail) ∙ ap (λ t. t ++ r.tail) (sym (text-append w.replies r.replies)))
+          told = subst (WritesUnless (is_reply_fault e) w0 w2) (sym (append_assoc (desk_text None w.replies) (desk_text None r.replies) r.tail) ∙ ap (λ t. t ++ r.tail) (sym (text-append w.replies r.replies)))
               (gives-behind (is_reply_fault e) (desk_text None w.replies) (desk_text None r.replies ++ r.tail) w0 w1 w2 (subst (Appends w0 w1) w.told p.printed) r.told);
+          fails_at = λ is. fails-behind w.replies r.replies r.others r.tail w0 w1 w2 (subst (Appends w0 w1) w.told p.printed) (r.fails_at is);
           front = front;
           starts = starts;
           no_stamp = no_stamp;
@@ -122,6 +151,7 @@ module _ (e : DeskEnd) (first : Database) (all front seen : RegisterHistory) (st
           of_script = script-one before.read unread before.left r.handled r.others r.parted;
           all = r.all;
           whole = r.whole;
+          no_more = r.no_more;
           early = r.calls;
           late = [];
           early_replies = r.replies;
@@ -133,7 +163,8 @@ module _ (e : DeskEnd) (first : Database) (all front seen : RegisterHistory) (st
           entered = sym (append-nil r.calls);
           tail = r.tail;
           is_tail = tail-one before.read unread e before.left r.tail r.is_tail;
-          told = subst (λ rs. Gives (is_reply_fault e) before.held.written after.held.written (desk_text None rs ++ r.tail)) (sym (append-nil r.replies)) r.told;
+          told = subst (λ rs. WritesUnless (is_reply_fault e) before.held.written after.held.written (desk_text None rs ++ r.tail)) (sym (append-nil r.replies)) r.told;
+          fails_at = λ is. subst (λ rs. FailsAt rs r.others r.tail before.held.written after.held.written) (sym (append-nil r.replies)) (r.fails_at is);
           front = front;
           starts = starts;
           no_stamp = no_stamp;

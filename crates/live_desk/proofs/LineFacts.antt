@@ -8,7 +8,7 @@ use Rattle.std.proofs.lemmas.List.{length-take-le, map-append}
 use Rattle.std.proofs.lemmas.List.Elements.{All-head, All-tail}
 use Rattle.std.proofs.lemmas.List.Sums.{sum_by-append, sum_by-cons}
 use Rattle.std.proofs.lemmas.List.Splits.{length-slice_split}
-use Rattle.desk.specs.Handling.{moves_by, run_of}
+use Rattle.desk.specs.Handling.{run_of}
 use Rattle.desk_lines.specs.Ahead.{HasNoFeed}
 use Rattle.desk_lines.specs.Gives.{IsTakenFor}
 use Rattle.histories.specs.History.{move}
@@ -18,7 +18,7 @@ use Rattle.mib_model.specs.declared.register.Answer.{Answer}
 use Rattle.mib_model.specs.declared.register.Entry.{Entry}
 use Rattle.mib_model.specs.declared.reply.Reply.{Reply}
 use Rattle.mib_model.specs.Desk.{DeskReply, DeskState, Plain}
-use Rattle.mib_model.specs.DeskRuns.{Calls, IsDesk, IsLine}
+use Rattle.mib_model.specs.DeskRuns.{Calls, IsDesk, IsLine, moves_by}
 use Rattle.mib_model.specs.Lines.{is_feed}
 use Rattle.mib_model.specs.Replies.{desk_line, desk_text}
 
@@ -82,6 +82,11 @@ given-none xs none = lines-count xs ∙ count-none xs none
 
 pub given-append : (xs ys : List ℕ) → lines_given (xs ++ ys) ≡ lines_given xs + lines_given ys
 given-append xs ys = lines-count (xs ++ ys) ∙ count-append xs ys ∙ sym (λ i. lines-count xs i + lines-count ys i)
+
+-- a line with its LF is one
+pub given-whole : (line : List ℕ) → HasNoFeed line → lines_given (line ++ 10 ∷ []) ≡ 1
+given-whole line none =
+    let all = given-append line (10 ∷ []) in let front = given-none line none in let feed : lines_given (10 ∷ []) ≡ 1 = lines-count (10 ∷ []) in omega (arith, all, front, feed)
 
 -- the octets of one line end it at most once
 pub given-line : (line taken : List ℕ) (new : Known) → HasNoFeed line → IsTakenFor line taken new → lines_given taken ≤ 1

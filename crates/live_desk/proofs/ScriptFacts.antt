@@ -1,29 +1,32 @@
 -- A script, line by line.
-use Rattle.std.proofs.Common.{◌≡◌, ◌≤◌, ◌+◌, ℕ, Bool, true, false, cond, List, [], ◌∷◌, ◌++◌, length, Option, Some, None, refl, sym, ap, ◌∙◌, subst, append_assoc, append-nil, length-append, arith, inl, inr}
+use Rattle.std.proofs.Common.{◌≡◌, ◌≤◌, ◌+◌, ◌-◌, nat_le, take, ℕ, Bool, true, false, cond, List, [], ◌∷◌, ◌++◌, length, Option, Some, None, refl, sym, ap, ◌∙◌, subst, append_assoc, append-nil, length-append, arith, inl, inr}
 use Rattle.std.specs.Prelude.{IfSome, option_map}
 use Rattle.std.specs.Option.{option_to_list}
 use Rattle.std.specs.Io.KnownBytes.{Appends, Consumes}
 use Rattle.std.proofs.KnownBytes.{Appends-trans, Appends-nil, Consumes-trans, Consumes-nil}
+use Rattle.std.proofs.lemmas.Bool.{false≢true}
 use Rattle.std.proofs.lemmas.List.Elements.{All-nil}
-use Rattle.tm_io.specs.Octets.{AppendsPrefix}
+use Rattle.tm_io.specs.Octets.{AppendsPrefix, WritesUnless}
 use Rattle.decode_session.proofs.FinishFacts.{part-longer, part-behind}
-use Rattle.desk.specs.Handling.{moves_by}
-use Rattle.desk_lines.specs.Ahead.{Reading, still, meets_limit}
-use Rattle.desk_lines.specs.Gives.{TakesPart, NoneComes}
-use Rattle.live_intake.specs.Intake.{Gives}
+use Rattle.desk_lines.specs.Ahead.{HasNoFeed, Reading, lines_behind, still, meets_limit}
+use Rattle.desk_lines.specs.Gives.{IsTakenFor, TakesPart, NoneComes}
 use Rattle.live_desk.specs.declared.desk_end.DeskEnd.{DeskEnd}
 use Rattle.live_desk.specs.declared.desk_end.DeskEnd.TheVariants as end
 use Rattle.live_desk.specs.declared.line.Came.TheVariants as came
-use Rattle.live_desk.specs.Lines.{Comes, Fails, Handles, Stops, is_reply_fault, limit_line}
-use Rattle.live_desk.specs.Scripts.{Ends, EndsEarly, IsHandled, Pauses, Working, Works, lines_given, tail_by}
+use Rattle.live_desk.specs.Lines.{Comes, Fails, HandlesNext, Stops}
+use Rattle.live_desk.specs.DeskEnds.{is_reply_fault, limit_line}
+use Rattle.live_desk.specs.Scripts.{Ends, EndsEarly, FailsAt, IsGiven, IsHandled, IsUpTo, Pauses, Working, Works, lines_given, tail_by}
 use Rattle.live_desk.specs.Standing.{Standing}
-use Rattle.live_desk.proofs.LineFacts.{Known, desk-append, desk-none, desk-one, given-append, given-line, given-none, moves-append, text-append, text-none}
+use Rattle.live_desk.proofs.LineFacts.{Known, desk-append, desk-none, desk-one, given-append, given-line, given-none, given-whole, moves-append, text-append, text-none}
 use Rattle.mib_model.specs.declared.reply.Reply.{Reply}
 use Rattle.mib_model.specs.Desk.{Plain}
 use Rattle.mib_model.specs.DeskLines.{request_of}
-use Rattle.mib_model.specs.DeskRuns.{IsDesk, is_go, prelude}
+use Rattle.mib_model.specs.DeskRuns.{IsDesk, is_go, prelude, moves_by}
 use Rattle.mib_model.specs.Lines.{is_feed}
 use Rattle.mib_model.specs.Replies.{desk_text}
+use Rattle.mib_model.specs.Script.{most_lines, most_script}
+use Rattle.std.proofs.lemmas.Bool.{cases_Bool}
+use Rattle.std.proofs.lemmas.List.{take_all}
 
 -- ---- lines that are still to come
 
@@ -50,6 +53,49 @@ limit-more was mid now (Some l) None behind given taken first next = absurd take
 limit-more was mid now (Some l) (Some p) None given taken first next = tt
 limit-more was mid now (Some l) (Some p) (Some b) given taken first next = first ∙ next
 
+-- at the end none is still to come
+lines-end : (taken : ℕ) → lines_behind taken [] ≡ []
+lines-end taken = elim (cases_Bool (nat_le most_script (taken + 0))) [
+  | inl filled ↦ rw (filled, take_all {A = ℕ} (most_script - taken) [] (omega arith)) refl
+  | inr not ↦ rw not refl
+]
+
+pub still-end : (r : Reading) → still r [] ≡ []
+unfolding still
+still-end r = ap (take (most_lines - r.lines)) (lines-end r.octets) ∙ take_all {A = List ℕ} (most_lines - r.lines) [] (omega arith)
+
+no-line : (r now : Reading) (place b : List ℕ) (line : List ℕ) → place ≡ [] → still r place ≡ line ∷ still now b → ⊥
+no-line r now place b line end first = let none : [] ≡ line ∷ still now b = sym (still-end r) ∙ ap (still r) (sym end) ∙ first in cc none
+
+-- ---- lines that were given
+
+upto-none : (left : Known) → IfSome left (λ l. IsUpTo [] left [])
+upto-none None = tt
+upto-none (Some l) = inl (omega arith)
+
+upto-more : (was now : Reading) (left place behind : Known) (given taken line : List ℕ) (handled : List (List ℕ)) → Consumes left place given → Consumes place behind taken → HasNoFeed line → IsTakenFor line taken behind
+    → IfSome place (λ l. IfSome behind (λ b. still was l ≡ line ∷ still now b)) → IfSome left (λ l. IsUpTo given place handled) → IfSome left (λ l. IsUpTo (given ++ taken) behind (handled ++ line ∷ []))
+upto-more was now None place behind given taken line handled c more none for first upto = tt
+upto-more was now (Some l) None behind given taken line handled c more none for first upto = absurd c
+upto-more was now (Some l) (Some p) None given taken line handled c more none for first upto = absurd more
+upto-more was now (Some l) (Some p) (Some b) given taken line handled c more none for first (inr (few, end)) = absurd (no-line was now p b line end first)
+upto-more was now (Some l) (Some p) (Some b) given taken line handled c more none for first (inl few) = by for
+  where
+    by : IsTakenFor line taken (Some b) → IsUpTo (given ++ taken) (Some b) (handled ++ line ∷ [])
+    by (inl is) = inl (omega (arith, given-append given taken, few, ap lines_given is ∙ given-whole line none, length-append handled (line ∷ [])))
+    by (inr last) = inr (omega (arith, given-append given taken, few, length-append handled (line ∷ [])), last.1)
+
+-- what is taken behind the lines gives none
+upto-all : (left place : Known) (given part : List ℕ) (handled : List (List ℕ)) → IfSome left (λ l. IsUpTo given place handled) → IsGiven left (given ++ part) handled
+upto-all None place given part handled upto = tt
+upto-all (Some l) place given part handled (inl few) = omega (arith, given-append given part, few)
+upto-all (Some l) place given part handled (inr (few, end)) = omega (arith, given-append given part, few)
+
+upto-same : (left place : Known) (given : List ℕ) (handled : List (List ℕ)) → IfSome left (λ l. IsUpTo given place handled) → IsGiven left given handled
+upto-same None place given handled upto = tt
+upto-same (Some l) place given handled (inl few) = omega (arith, few)
+upto-same (Some l) place given handled (inr (few, end)) = few
+
 -- ---- lines that were handled
 
 works-start : (s : Standing) → (w : Works [] s s) × (w.handled ≡ [])
@@ -63,6 +109,7 @@ works-start s = (
     given = [];
     consumed = Consumes-nil s.left;
     whole = let none = given-none [] (All-nil (λ octet. is_feed octet ≡ false)) in omega (arith, none);
+    upto = upto-none s.left;
     ahead = ahead-none s.read s.left;
     limit = limit-none s.read s.left;
     told = sym text-none;
@@ -74,8 +121,9 @@ works-start s = (
 abbrev reply_of : Option Reply → List ℕ
 reply_of given = desk_text None (option_to_list (option_map Plain given))
 
-module _ (failed go : Bool) (before middle after : Standing) (text : List ℕ) (w : Works text before middle) (h : Handles failed go middle after) where
+module _ (failed go : Bool) (before middle after : Standing) (text : List ℕ) (w : Works text before middle) (h : HandlesNext failed go middle after) where
   works-more : (m : Works (text ++ reply_of h.replied.given) before after) × (m.handled ≡ w.handled ++ h.line ∷ [])
+      × (m.replies ≡ w.replies ++ option_to_list (option_map Plain h.replied.given))
   works-more =
       let more = h.replied.handles.calls in let replies = option_to_list (option_map Plain h.replied.given) in
       let s0 = before.held.state in let s1 = middle.held.state in let s2 = after.held.state in
@@ -89,14 +137,21 @@ module _ (failed go : Bool) (before middle after : Standing) (text : List ℕ) (
           given = w.given ++ h.takes.taken;
           consumed = Consumes-trans before.left middle.left after.left w.given h.takes.taken w.consumed h.takes.consumed;
           whole = omega (arith, given-append w.given h.takes.taken, w.whole, given-line h.line h.takes.taken after.left h.takes.no_feed h.takes.is_taken, length-append w.handled (h.line ∷ []));
+          upto = upto-more middle.read after.read before.left middle.left after.left w.given h.takes.taken h.line w.handled w.consumed h.takes.consumed h.takes.no_feed h.takes.is_taken h.takes.first w.upto;
           ahead = ahead-more before.read middle.read after.read before.left middle.left after.left w.given w.handled h.line w.consumed w.ahead h.takes.first;
           limit = limit-more before.read middle.read after.read before.left middle.left after.left w.given w.consumed w.limit h.takes.limit;
           told = ap (λ t. t ++ reply_of h.replied.given) w.told ∙ sym (text-append w.replies replies);
         },
         refl,
+        refl,
       )
 
 -- ---- a script that ended
+
+-- there is one reply at most
+one-reply : (given : Option Reply) → length (option_to_list (option_map Plain given)) ≤ 1
+one-reply None = omega arith
+one-reply (Some r) = omega arith
 
 -- the lines that are still to come, where the script is known
 others_of : Reading → Known → List (List ℕ)
@@ -167,8 +222,9 @@ module _ (before middle after : Standing) (text : List ℕ) (w : Works text befo
   whole-part p = omega (arith, given-append w.given p.part, given-none p.part p.no_feed, w.whole)
 
   -- none is to come
-  stops : (e : DeskEnd) (failed limit : Bool) (tail : List ℕ) → IsHandled e [] → (s : Stops failed limit tail middle after) → Gives (is_reply_fault e) w0 w2 (desk_text None w.replies ++ tail_by e limit) → Ended-as e w.handled
-  stops e failed limit tail all s told = (
+  stops : (e : DeskEnd) (failed limit : Bool) (tail : List ℕ) → IsHandled e [] → (s : Stops failed limit tail middle after) → WritesUnless (is_reply_fault e) w0 w2 (desk_text None w.replies ++ tail_by e limit)
+      → (is_reply_fault e ≡ true → FailsAt w.replies [] (tail_by e limit) w0 w2) → Ended-as e w.handled
+  stops e failed limit tail all s told fails = (
     record {
       handled = w.handled;
       others = [];
@@ -179,23 +235,26 @@ module _ (before middle after : Standing) (text : List ℕ) (w : Works text befo
       given = w.given ++ s.takes.part;
       consumed = taken-part s.takes;
       whole = whole-part s.takes;
+      no_more = upto-all before.left middle.left w.given s.takes.part w.handled w.upto;
       parted = parted-none before.read middle.read before.left middle.left w.given w.handled limit w.consumed w.ahead s.none;
       all = all;
       tail = tail_by e limit;
       is_tail = tail-known e before.read before.left limit (limit-known before.read middle.read before.left middle.left w.given limit w.consumed w.limit s.none);
       told = told;
+      fails_at = fails;
     },
     refl,
   )
 
   ends-done : Stops false false [] middle after → Ended-as end.Done w.handled
-  ends-done s = stops end.Done false false [] refl s (Appends-trans w0 w1 w2 (desk_text None w.replies) [] wrote s.told)
+  ends-done s = stops end.Done false false [] refl s (Appends-trans w0 w1 w2 (desk_text None w.replies) [] wrote s.told) (λ is. absurd (false≢true is))
 
   ends-limit : Stops false true limit_line middle after → Ended-as end.Limit w.handled
-  ends-limit s = stops end.Limit false true limit_line refl s (Appends-trans w0 w1 w2 (desk_text None w.replies) limit_line wrote s.told)
+  ends-limit s = stops end.Limit false true limit_line refl s (Appends-trans w0 w1 w2 (desk_text None w.replies) limit_line wrote s.told) (λ is. absurd (false≢true is))
 
   ends-unlimited : Stops true true limit_line middle after → Ended-as end.ReplyFault w.handled
   ends-unlimited s = stops end.ReplyFault true true limit_line tt s (part-behind (desk_text None w.replies) limit_line w0 w1 w2 wrote s.told)
+      (λ is. (w.replies, [], w1, wrote, inr (refl, refl, refl, s.told)))
 
   -- the desk failed
   ends-fault : Fails middle after → Ended-as end.DeskFault w.handled
@@ -210,11 +269,13 @@ module _ (before middle after : Standing) (text : List ℕ) (w : Works text befo
       given = w.given ++ f.takes.part;
       consumed = taken-part f.takes;
       whole = whole-part f.takes;
+      no_more = upto-all before.left middle.left w.given f.takes.part w.handled w.upto;
       parted = parted-ahead before.read middle.read before.left middle.left w.given w.handled w.consumed w.ahead;
       all = tt;
       tail = [];
       is_tail = no-tail before.left;
       told = subst (Appends w0 w2) (sym (append-nil (desk_text None w.replies))) (subst (λ t. Appends w0 t (desk_text None w.replies)) (sym f.told) wrote);
+      fails_at = λ is. absurd (false≢true is);
     },
     refl,
   )
@@ -224,7 +285,7 @@ module _ (before middle after : Standing) (text : List ℕ) (w : Works text befo
       no-tail (Some octets) = refl
 
   -- the reply to a line was written in part
-  ends-unreplied : (go : Bool) (h : Handles true go middle after) → Ended-as end.ReplyFault (w.handled ++ h.line ∷ [])
+  ends-unreplied : (go : Bool) (h : HandlesNext true go middle after) → Ended-as end.ReplyFault (w.handled ++ h.line ∷ [])
   ends-unreplied go h =
       let both = works-more true go before middle after text w h in let m = both.0 in let tail = tail_for end.ReplyFault before.read before.left in (
         record {
@@ -237,11 +298,13 @@ module _ (before middle after : Standing) (text : List ℕ) (w : Works text befo
           given = m.given;
           consumed = m.consumed;
           whole = m.whole;
+          no_more = upto-same before.left after.left m.given m.handled m.upto;
           parted = parted-ahead before.read after.read before.left after.left m.given m.handled m.consumed m.ahead;
           all = tt;
           tail = tail;
           is_tail = tail-is end.ReplyFault before.read before.left;
           told = part-longer (desk_text None m.replies) tail w0 w2 (subst (AppendsPrefix w0 w2) m.told (part-behind text (reply_of h.replied.given) w0 w1 w2 printed h.replied.told));
+          fails_at = λ is. (w.replies, option_to_list (option_map Plain h.replied.given), w1, wrote, inl (both.2, one-reply h.replied.given, h.replied.told));
         },
         both.1,
       )
@@ -276,7 +339,7 @@ all-go handled on = ap (prelude false) (sym (append-nil handled)) ∙ on [] ∙ 
 
 -- ---- a desk that works
 
-pub line-counted : (failed go : Bool) (before after : Standing) → Handles failed go before after → after.read.lines ≡ before.read.lines + 1
+pub line-counted : (failed go : Bool) (before after : Standing) → HandlesNext failed go before after → after.read.lines ≡ before.read.lines + 1
 line-counted failed go before after h = ap (λ r. r.lines) h.takes.counted
 
 pub working-start : (until_go : Bool) (s : Standing) → Working until_go s s
@@ -286,11 +349,11 @@ working-start until_go s =
 
 module _ (until_go : Bool) (before middle after : Standing) (w : Working until_go before middle) where
   -- the replies so far, and that to a line more
-  prints-more : (go : Bool) (h : Handles false go middle after) → Appends before.held.written after.held.written (w.text ++ reply_of h.replied.given)
+  prints-more : (go : Bool) (h : HandlesNext false go middle after) → Appends before.held.written after.held.written (w.text ++ reply_of h.replied.given)
   prints-more go h = Appends-trans before.held.written middle.held.written after.held.written w.text (reply_of h.replied.given) w.printed h.replied.told
 
   -- a line more
-  pub working-more : (go : Bool) → (until_go ≡ true → go ≡ false) → Handles false go middle after → Working until_go before after
+  pub working-more : (go : Bool) → (until_go ≡ true → go ≡ false) → HandlesNext false go middle after → Working until_go before after
   working-more go none h =
       let m = works-more false go before middle after w.text w.works h in
       record {
@@ -301,7 +364,7 @@ module _ (until_go : Bool) (before middle after : Standing) (w : Working until_g
       }
 
   -- a `go`
-  pub working-pauses : (go : Bool) → until_go ≡ true → go ≡ true → Handles false go middle after → Pauses until_go before after
+  pub working-pauses : (go : Bool) → until_go ≡ true → go ≡ true → HandlesNext false go middle after → Pauses until_go before after
   working-pauses go until some h =
       let m = works-more false go before middle after w.text w.works h in
       record {
@@ -315,7 +378,7 @@ module _ (until_go : Bool) (before middle after : Standing) (w : Working until_g
   early-same : (e : DeskEnd) → (r : Ends e before after) × (r.handled ≡ w.works.handled) → EndsEarly until_go e before after
   early-same e r = record { ends = r.0; is_prelude = λ until. subst (λ ls. prelude false ls ≡ ls) (sym r.1) (all-go w.works.handled (w.no_go until)) }
 
-  early-line : (go : Bool) (h : Handles true go middle after) → EndsEarly until_go end.ReplyFault before after
+  early-line : (go : Bool) (h : HandlesNext true go middle after) → EndsEarly until_go end.ReplyFault before after
   early-line go h =
       let r = ends-unreplied before middle after w.text w.works w.printed go h in
       record { ends = r.0; is_prelude = λ until. subst (λ ls. prelude false ls ≡ ls) (sym r.1) (goes-by w.works.handled h.line go h.replied.is_go (w.no_go until) go refl) }

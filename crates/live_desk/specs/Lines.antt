@@ -2,51 +2,37 @@
 use Rattle.std.specs.Prelude.{◌≡◌, ◌⊎◌, ℕ, Bool, true, false, List, [], Option, None, IfSome, option_map}
 use Rattle.std.specs.Option.{option_to_list}
 use Rattle.std.specs.Io.KnownBytes.{Appends}
-use Rattle.tm_io.specs.Octets.{AppendsPrefix}
+use Rattle.tm_io.specs.Octets.{AppendsPrefix, WritesUnless}
 use Rattle.desk.specs.Handling.{HandlesLine}
 use Rattle.desk_lines.specs.Gives.{TakesLine, TakesPart, NoneComes}
-use Rattle.live_intake.specs.Intake.{Counts, Gives}
+use Rattle.tm_io.specs.Causes.{RisesWhere}
 use Rattle.live_desk.specs.declared.desk_end.DeskEnd.{DeskEnd}
 use Rattle.live_desk.specs.declared.desk_end.DeskEnd.TheVariants as end
 use Rattle.live_desk.specs.declared.line.Came.{Came}
 use Rattle.live_desk.specs.declared.line.Came.TheVariants as came
-use Rattle.live_desk.specs.Standing.{Held, Standing}
+use Rattle.live_desk.specs.DeskEnds.{is_desk_fault, is_reply_fault, limit_line}
+use Rattle.live_desk.specs.Standing.{DeskHeld, Standing}
 use Rattle.mib_model.specs.declared.reply.Reply.{Reply}
-use Rattle.mib_model.specs.declared.reply.Reply.TheVariants as reply
 use Rattle.mib_model.specs.Desk.{Plain}
 use Rattle.mib_model.specs.DeskLines.{request_of}
 use Rattle.mib_model.specs.DeskRuns.{is_go}
-use Rattle.mib_model.specs.Replies.{desk_line, desk_text}
-
--- the line of a script's limit
-abbrev pub limit_line : List ℕ
-limit_line = desk_line None (Plain reply.Limit)
-
--- whether the desk failed
-abbrev pub is_desk_fault : DeskEnd → Bool
-is_desk_fault end.DeskFault = true
-is_desk_fault other = false
-
--- whether the replies failed
-abbrev pub is_reply_fault : DeskEnd → Bool
-is_reply_fault end.ReplyFault = true
-is_reply_fault other = false
+use Rattle.mib_model.specs.Replies.{desk_text}
 
 -- a line was handled, which is a `go` or not, and its reply was written, or in part where writing failed
-pub record Replied (failed go : Bool) (line : List ℕ) (before after : Held) : Type 0 where
+pub record Replied (failed go : Bool) (line : List ℕ) (before after : DeskHeld) : Type 0 where
   pub given : Option Reply
   pub handles : HandlesLine line before.state before.own after.own given after.state
   pub is_go : go ≡ is_go (request_of false line)
-  pub told : Gives failed before.written after.written (desk_text None (option_to_list (option_map Plain given)))
+  pub told : WritesUnless failed before.written after.written (desk_text None (option_to_list (option_map Plain given)))
 
 -- a line was taken and handled so
-pub record Handles (failed go : Bool) (before after : Standing) : Type 0 where
+pub record HandlesNext (failed go : Bool) (before after : Standing) : Type 0 where
   pub line : List ℕ
   pub takes : TakesLine before.read after.read before.left after.left line
   pub replied : Replied failed go line before.held after.held
 
 -- what came of a line
-abbrev pub Answers : Came → List ℕ → Held → Held → Type 0
+abbrev pub Answers : Came → List ℕ → DeskHeld → DeskHeld → Type 0
 Answers (came.Handled go) line before after = Replied false go line before after
 Answers (came.Ended end.ReplyFault) line before after = (go : Bool) × Replied true go line before after
 Answers (came.Ended other) line before after = ⊥
@@ -57,7 +43,7 @@ pub record Stops (failed limit : Bool) (text : List ℕ) (before after : Standin
   pub none : IfSome before.left (NoneComes limit before.read)
   pub same : after.held.state ≡ before.held.state
   pub own : after.held.own ≡ before.held.own
-  pub told : Gives failed before.held.written after.held.written text
+  pub told : WritesUnless failed before.held.written after.held.written text
 
 -- the desk failed before a line was taken
 pub record Fails (before after : Standing) : Type 0 where
@@ -68,24 +54,33 @@ pub record Fails (before after : Standing) : Type 0 where
 
 -- what came of the next line
 abbrev pub Comes : Came → Standing → Standing → Type 0
-Comes (came.Handled go) before after = Handles false go before after
+Comes (came.Handled go) before after = HandlesNext false go before after
 Comes (came.Ended end.Done) before after = Stops false false [] before after
 Comes (came.Ended end.Limit) before after = Stops false true limit_line before after
 Comes (came.Ended end.DeskFault) before after = Fails before after
-Comes (came.Ended end.ReplyFault) before after = ((go : Bool) × Handles true go before after) ⊎ Stops true true limit_line before after
+Comes (came.Ended end.ReplyFault) before after = ((go : Bool) × HandlesNext true go before after) ⊎ Stops true true limit_line before after
 
 -- what was written at a script's limit
-abbrev pub EndsAtLimit : DeskEnd → Option (List ℕ) → Option (List ℕ) → Type 0
-EndsAtLimit end.Limit w0 w1 = Appends w0 w1 limit_line
-EndsAtLimit end.ReplyFault w0 w1 = AppendsPrefix w0 w1 limit_line
-EndsAtLimit other w0 w1 = ⊥
+abbrev pub TellsLimit : DeskEnd → Option (List ℕ) → Option (List ℕ) → Type 0
+TellsLimit end.Limit w0 w1 = Appends w0 w1 limit_line
+TellsLimit end.ReplyFault w0 w1 = AppendsPrefix w0 w1 limit_line
+TellsLimit other w0 w1 = ⊥
+
+-- whether the replies failed at a line
+abbrev pub fails_replying : Came → Bool
+fails_replying (came.Handled go) = false
+fails_replying (came.Ended e) = is_reply_fault e
+
+-- where all that was written of the replies was handed on before, all that is written now is, unless they failed
+abbrev pub HandsOn : {P : Type 0} → Bool → (P → Option (List ℕ)) → (P → Option (List ℕ)) → P → P → Type 0
+HandsOn failed written handed old new = failed ≡ false → handed old ≡ written old → handed new ≡ written new
 
 -- the count of the desk rose where it failed, and else stays as it was
 abbrev pub HasScriptCause : Came → ℕ → ℕ → Type 0
 HasScriptCause (came.Handled go) before now = now ≡ before
-HasScriptCause (came.Ended e) before now = Counts (is_desk_fault e) before now
+HasScriptCause (came.Ended e) before now = RisesWhere (is_desk_fault e) before now
 
 -- the count of the replies rose where they failed, and else stays as it was
 abbrev pub HasReplyCause : Came → ℕ → ℕ → Type 0
 HasReplyCause (came.Handled go) before now = now ≡ before
-HasReplyCause (came.Ended e) before now = Counts (is_reply_fault e) before now
+HasReplyCause (came.Ended e) before now = RisesWhere (is_reply_fault e) before now

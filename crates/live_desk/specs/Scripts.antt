@@ -1,17 +1,17 @@
 -- What a desk does with its script. [This profile.]
-use Rattle.std.specs.Prelude.{◌≡◌, ℕ, ◌≤◌, Bool, true, false, List, [], ◌++◌, length, drop, Option, Some, None, IfSome, ⊤, if◌then◌else◌}
-use Rattle.std.specs.Io.KnownBytes.{Appends, Consumes}
-use Rattle.desk.specs.Handling.{moves_by}
+use Rattle.std.specs.Prelude.{◌≡◌, ◌⊎◌, ℕ, ◌≤◌, ◌+◌, Bool, true, false, List, [], ◌++◌, length, drop, Option, Some, None, IfSome, ⊤, if◌then◌else◌}
+use Rattle.std.specs.Io.KnownBytes.{Appends, Consumes, IsAtEnd}
+use Rattle.tm_io.specs.Octets.{AppendsPrefix, WritesUnless}
 use Rattle.desk_lines.specs.Ahead.{still, meets_limit}
 use Rattle.histories.specs.History.{StartsWith, moves_of}
-use Rattle.live_intake.specs.Intake.{Counts, Gives}
+use Rattle.tm_io.specs.Causes.{RisesWhere}
 use Rattle.live_desk.specs.declared.desk_end.DeskEnd.{DeskEnd}
 use Rattle.live_desk.specs.declared.desk_end.DeskEnd.TheVariants as end
-use Rattle.live_desk.specs.Lines.{is_desk_fault, is_reply_fault, limit_line}
+use Rattle.live_desk.specs.DeskEnds.{is_desk_fault, is_reply_fault, limit_line}
 use Rattle.live_desk.specs.Standing.{Standing}
 use Rattle.mib_model.specs.declared.database.Database.{Database}
 use Rattle.mib_model.specs.Desk.{DeskReply, DeskState, desk_start}
-use Rattle.mib_model.specs.DeskRuns.{Calls, IsDesk, prelude}
+use Rattle.mib_model.specs.DeskRuns.{Calls, IsDesk, prelude, moves_by}
 use Rattle.mib_model.specs.RegisterHistories.{RegisterHistory}
 use Rattle.mib_model.specs.Replies.{desk_text}
 use Rattle.mib_model.specs.Script.{script, whole_pieces, reaches_limit}
@@ -19,6 +19,14 @@ use Rattle.mib_model.specs.Script.{script, whole_pieces, reaches_limit}
 -- how many lines end among octets, by their LF
 abbrev pub lines_given : List ℕ → ℕ
 lines_given octets = length (whole_pieces octets)
+
+-- no more lines were handled than were given, but for one at the script's end that no LF ends
+abbrev pub IsUpTo : List ℕ → Option (List ℕ) → List (List ℕ) → Type 0
+IsUpTo given behind handled = (length handled ≤ lines_given given) ⊎ ((length handled ≤ lines_given given + 1) × IsAtEnd behind)
+
+-- of a script that tells its octets no more lines are handled than were given, but for one at its end that no LF ends
+abbrev pub IsGiven : Option (List ℕ) → List ℕ → List (List ℕ) → Type 0
+IsGiven left given handled = IfSome left (λ octets. length handled ≤ lines_given given + 1)
 
 -- ---- lines of a script
 
@@ -32,6 +40,7 @@ pub record Works (text : List ℕ) (before after : Standing) : Type 0 where
   pub given : List ℕ
   pub consumed : Consumes before.left after.left given
   pub whole : lines_given given ≤ length handled
+  pub upto : IfSome before.left (λ l. IsUpTo given after.left handled)
   pub ahead : IfSome before.left (λ l. IfSome after.left (λ b. still before.read l ≡ handled ++ still after.read b))
   pub limit : IfSome before.left (λ l. IfSome after.left (λ b. meets_limit before.read l ≡ meets_limit after.read b))
   pub told : text ≡ desk_text None replies
@@ -47,6 +56,14 @@ IsHandled end.ReplyFault others = ⊤
 abbrev pub tail_by : DeskEnd → Bool → List ℕ
 tail_by e limit = if is_desk_fault e then [] else if limit then limit_line else []
 
+-- the replies failed: all before the last were written, and a first part of the last; or all were written, no line was left, and a first
+-- part of the limit's line
+abbrev pub FailsAt : List DeskReply → List (List ℕ) → List ℕ → Option (List ℕ) → Option (List ℕ) → Type 0
+FailsAt replies others tail old new =
+    (front : List DeskReply) × (more : List DeskReply) × (place : Option (List ℕ)) × Appends old place (desk_text None front)
+    × (((replies ≡ front ++ more) × (length more ≤ 1) × AppendsPrefix place new (desk_text None more))
+    ⊎ ((replies ≡ front) × (others ≡ []) × (tail ≡ limit_line) × AppendsPrefix place new limit_line))
+
 -- a script ended: its lines that were handled, and those that were not
 pub record Ends (e : DeskEnd) (before after : Standing) : Type 0 where
   pub handled : List (List ℕ)
@@ -58,11 +75,13 @@ pub record Ends (e : DeskEnd) (before after : Standing) : Type 0 where
   pub given : List ℕ
   pub consumed : Consumes before.left after.left given
   pub whole : lines_given given ≤ length handled
+  pub no_more : IsGiven before.left given handled
   pub parted : IfSome before.left (λ l. still before.read l ≡ handled ++ others)
   pub all : IsHandled e others
   pub tail : List ℕ
   pub is_tail : IfSome before.left (λ l. tail ≡ tail_by e (meets_limit before.read l))
-  pub told : Gives (is_reply_fault e) before.held.written after.held.written (desk_text None replies ++ tail)
+  pub told : WritesUnless (is_reply_fault e) before.held.written after.held.written (desk_text None replies ++ tail)
+  pub fails_at : is_reply_fault e ≡ true → FailsAt replies others tail before.held.written after.held.written
 
 -- so lines were handled, none of them a `go` where that is waited for: the lines up to the first `go` go on with the others
 pub record Working (until_go : Bool) (before after : Standing) : Type 0 where
@@ -92,12 +111,17 @@ Worked until_go (Some e) before after = EndsEarly until_go e before after
 -- the count of the desk rose where it failed, and else stays as it was
 abbrev pub HasDeskCause : Option DeskEnd → ℕ → ℕ → Type 0
 HasDeskCause None before now = now ≡ before
-HasDeskCause (Some e) before now = Counts (is_desk_fault e) before now
+HasDeskCause (Some e) before now = RisesWhere (is_desk_fault e) before now
 
 -- the count of the replies rose where they failed, and else stays as it was
 abbrev pub HasRepliesCause : Option DeskEnd → ℕ → ℕ → Type 0
 HasRepliesCause None before now = now ≡ before
-HasRepliesCause (Some e) before now = Counts (is_reply_fault e) before now
+HasRepliesCause (Some e) before now = RisesWhere (is_reply_fault e) before now
+
+-- whether the replies failed
+abbrev pub fails_to_reply : Option DeskEnd → Bool
+fails_to_reply None = false
+fails_to_reply (Some e) = is_reply_fault e
 
 -- ---- a desk's whole script
 
@@ -111,6 +135,7 @@ pub record Desked (e : DeskEnd) (first : Database) (entries : Calls) (seen : Reg
   pub taken : Consumes left behind given
   pub handled : List (List ℕ)
   pub others : List (List ℕ)
+  pub no_more : IsGiven left given handled
   pub of_script : IfSome left (λ octets. script octets ≡ handled ++ others)
   pub all : IsHandled e others
   pub whole : lines_given given ≤ length handled
@@ -125,13 +150,14 @@ pub record Desked (e : DeskEnd) (first : Database) (entries : Calls) (seen : Reg
   pub entered : entries ≡ early ++ late
   pub tail : List ℕ
   pub is_tail : IfSome left (λ octets. tail ≡ limit_text e octets)
-  pub told : Gives (is_reply_fault e) old new (desk_text None (early_replies ++ late_replies) ++ tail)
+  pub told : WritesUnless (is_reply_fault e) old new (desk_text None (early_replies ++ late_replies) ++ tail)
+  pub fails_at : is_reply_fault e ≡ true → FailsAt (early_replies ++ late_replies) others tail old new
   pub front : RegisterHistory
   pub starts : StartsWith seen front
   pub no_stamp : moves_of 0 front ≡ []
   pub before : StartsWith (moves_of 1 front) (moves_by early)
 
--- the same of a desk that stood so before and stands so behind its script, by the moves of its seat
+-- what a desk did with its script, by where it stood before and stands behind it, and by the moves of its seat
 abbrev pub DeskedBy : DeskEnd → Database → RegisterHistory → Standing → Standing → Type 0
 DeskedBy e first seen before after =
     (entries : Calls) × (after.held.own ≡ moves_by entries) × Desked e first entries seen before.left after.left before.held.written after.held.written

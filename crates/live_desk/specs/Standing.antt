@@ -13,7 +13,7 @@ use Rattle.turn_cell.specs.declared.view.View.{View}
 use Rattle.turn_cell.specs.Seats.{Seat, own_moves}
 
 -- what a desk holds: its state, the moves of its seat, and what was written of its replies, where that is told
-pub record Held : Type 0 where
+pub record DeskHeld : Type 0 where
   pub state : DeskState
   pub own : RegisterHistory
   pub written : Option (List ℕ)
@@ -22,10 +22,10 @@ pub record Held : Type 0 where
 pub record Standing : Type 0 where
   pub read : Reading
   pub left : Option (List ℕ)
-  pub held : Held
+  pub held : DeskHeld
 
 -- what is held by a desk, by its seat, and by the object that its replies go to
-abbrev pub held_by : {S C P : Type 0} → (P → Option (List ℕ)) → Desk → Seat S (View C Entry Answer) → P → Held
+abbrev pub held_by : {S C P : Type 0} → (P → Option (List ℕ)) → Desk → Seat S (View C Entry Answer) → P → DeskHeld
 held_by written desk seat replies = record { state = desk_of desk; own = own_moves seat; written = written replies }
 
 -- where a desk stands, by its reader, by itself, by its seat, and by the object that its replies go to

@@ -7,14 +7,14 @@ ghost use Rattle.desk_lines.specs.Reader.{source_of};
 ghost use Rattle.desk_lines.specs.declared.reader.TheConstants.{LINE_ROOM};
 ghost use Rattle.edition_register.specs.Seats.{IsSeat, first_of, shown_in};
 ghost use Rattle.histories.specs.History.{StartsWith};
-ghost use Rattle.live_intake.specs.Intake.{Counts};
-ghost use Rattle.live_desk.specs.Lines.{Answers, Comes, EndsAtLimit, HasReplyCause, HasScriptCause, is_reply_fault};
+ghost use Rattle.live_desk.specs.Lines.{Answers, Comes, TellsLimit, HandsOn, HasReplyCause, HasScriptCause, fails_replying};
+ghost use Rattle.live_desk.specs.DeskEnds.{is_reply_fault};
 ghost use Rattle.live_desk.specs.Standing.{held_by, standing_of};
 ghost use Rattle.mib_model.specs.Desk.{Plain};
 ghost use Rattle.mib_model.specs.DeskLines.{request_of};
 ghost use Rattle.mib_model.specs.DeskRuns as Spec;
 ghost use Rattle.mib_model.specs.Replies.{desk_text, reply_text};
-ghost use Rattle.tm_io.specs.Causes.{HasCause};
+ghost use Rattle.tm_io.specs.Causes.{HasCause, RisesWhere};
 ghost use Rattle.tm_io.specs.Octets.{AppendsPrefix};
 ghost use Rattle.turn_cell.specs.Seats.{own_moves, seen_by};
 
@@ -50,6 +50,7 @@ fn is_go(line: &[u8]) -> bool
 fn write_reply<P: Sink>(reply: &Reply, replies: &mut P) -> Result<(), Failed>
     ensures all { OnOk result (Appends (P.written replies.old) (P.written replies.new) (reply_text reply.now)) }
     ensures part { OnErr result (AppendsPrefix (P.written replies.old) (P.written replies.new) (reply_text reply.now)) }
+    ensures handed { OnOk result (P.handed replies.new ≡ P.written replies.new) }
     ensures cause { HasCause (P.faults replies.old) (P.faults replies.new) result }
 {
     let mut line = Line::new();
@@ -64,6 +65,7 @@ fn write_given<P: Sink>(reply: &Option<Reply>, replies: &mut P) -> Result<(), Fa
         (Appends (P.written replies.old) (P.written replies.new) text) }
     ensures part { let text = desk_text None (option_to_list (option_map Plain reply.now)) in OnErr result
         (AppendsPrefix (P.written replies.old) (P.written replies.new) text) }
+    ensures handed { OnOk result (P.handed replies.old ≡ P.written replies.old → P.handed replies.new ≡ P.written replies.new) }
     ensures cause { HasCause (P.faults replies.old) (P.faults replies.new) result }
 {
     match reply {
@@ -92,6 +94,7 @@ fn handle<L: Ledger, R: Wait, P: Sink>(
     ensures few { length (own_moves seat.new) ≤ length (own_moves seat.old) + 1 }
     ensures seen { StartsWith (seen_by seat.new) (seen_by seat.old) }
     ensures replies { HasReplyCause result (P.faults replies.old) (P.faults replies.new) }
+    ensures handed { HandsOn (fails_replying result) P.written P.handed replies.old replies.new }
 {
     let reply = desk.line(rt, alloc, register, seat, line, steps);
     let go = is_go(line);
@@ -103,8 +106,9 @@ fn handle<L: Ledger, R: Wait, P: Sink>(
 
 // Ends at the script's limit, and writes the line of it.
 fn end_at_limit<P: Sink>(replies: &mut P) -> DeskEnd
-    ensures ends { EndsAtLimit result (P.written replies.old) (P.written replies.new) }
-    ensures cause { Counts (is_reply_fault result) (P.faults replies.old) (P.faults replies.new) }
+    ensures ends { TellsLimit result (P.written replies.old) (P.written replies.new) }
+    ensures handed { HandsOn (is_reply_fault result) P.written P.handed replies.old replies.new }
+    ensures cause { RisesWhere (is_reply_fault result) (P.faults replies.old) (P.faults replies.new) }
 {
     match write_reply(&Reply::Limit, replies) {
         Ok(()) => DeskEnd::Limit,
@@ -136,6 +140,7 @@ pub(crate) fn next_line<L: Ledger, R: Wait, D: Source, P: Sink>(
     ensures seen { StartsWith (seen_by seat.new) (seen_by seat.old) }
     ensures script { HasScriptCause result (D.faults (source_of reader.old)) (D.faults (source_of reader.new)) }
     ensures replies { HasReplyCause result (P.faults replies.old) (P.faults replies.new) }
+    ensures handed { HandsOn (fails_replying result) P.written P.handed replies.old replies.new }
     ensures buffer { length buffer.new ≡ LINE_ROOM }
     ensures missed { D.missed (source_of reader.new) ≡ D.missed (source_of reader.old) }
     ensures borrow { D.borrow (source_of reader.new) ≡ D.borrow (source_of reader.old) }

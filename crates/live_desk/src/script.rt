@@ -5,7 +5,8 @@ ghost use Rattle.desk_lines.specs.Reader.{reading_of, source_of};
 ghost use Rattle.desk_lines.specs.declared.reader.TheConstants.{LINE_ROOM};
 ghost use Rattle.edition_register.specs.Seats.{IsSeat, first_of, shown_in};
 ghost use Rattle.histories.specs.History.{StartsWith};
-ghost use Rattle.live_desk.specs.Scripts.{HasDeskCause, HasRepliesCause, Worked};
+ghost use Rattle.live_desk.specs.Lines.{HandsOn};
+ghost use Rattle.live_desk.specs.Scripts.{HasDeskCause, HasRepliesCause, Worked, fails_to_reply};
 ghost use Rattle.live_desk.specs.Standing.{standing_of};
 ghost use Rattle.turn_cell.specs.Seats.{own_moves, seen_by};
 
@@ -56,6 +57,7 @@ pub fn work<L: Ledger, R: Wait, D: Source, P: Sink>(
     ensures seen { StartsWith (seen_by seat.new) (seen_by seat.old) }
     ensures desk { HasDeskCause result (D.faults (source_of reader.old)) (D.faults (source_of reader.new)) }
     ensures replies { HasRepliesCause result (P.faults replies.old) (P.faults replies.new) }
+    ensures handed { HandsOn (fails_to_reply result) P.written P.handed replies.old replies.new }
     ensures buffer { length buffer.new ≡ LINE_ROOM }
     ensures missed { D.missed (source_of reader.new) ≡ D.missed (source_of reader.old) }
     ensures borrow { D.borrow (source_of reader.new) ≡ D.borrow (source_of reader.old) }

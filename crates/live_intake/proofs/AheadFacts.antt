@@ -7,7 +7,7 @@ use Rattle.std.proofs.KnownBytes.{Appends-nil, Appends-trans}
 use Rattle.std.proofs.lemmas.List.{map-append}
 use Rattle.tm_io.specs.Octets.{AppendsPrefix}
 use Rattle.decode_session.specs.declared.cell.Cell.{Cell}
-use Rattle.decode_session.specs.Cells.{stamped_in, all_stamped}
+use Rattle.decode_session.specs.Cells.{stamped_cell, all_stamped}
 use Rattle.decode_session.specs.Finishing.{batch_text, next_text, LeavesAfter}
 use Rattle.decode_session.specs.Moving.{Moves}
 use Rattle.decode_session.proofs.FinishFacts.{leaves-append, leaves-none, leaves-one, moves-more, moves-on, part-behind, part-longer, text-append, text-none, text-one}
@@ -57,18 +57,18 @@ module _ (edition : ℕ) (db : Database) where
     pub goes-finish : (rest : List Cell) (after : Memory) (lines new_lines : List ℕ) (old mid new : Known) → Finishes db waiting rest now after lines new_lines mid new
         → GoesOn edition db before own cells waiting start left memory now lines old mid → GoesOn edition db before own cells rest start left memory after new_lines old new
     goes-finish rest after lines new_lines old mid new f g =
-        let next = next_text edition db now (stamped_in edition db f.cell) in
-        let all = map-append (stamped_in edition db) g.goes.done (f.cell ∷ []) in
+        let next = next_text edition db now (stamped_cell edition db f.cell) in
+        let all = map-append (stamped_cell edition db) g.goes.done (f.cell ∷ []) in
         record {
           text = g.text ++ next;
           goes = record {
             done = g.goes.done ++ f.cell ∷ [];
             reads = subst (λ cs. ReadsOn (edition, db) before own cells cs start left) (ap (λ l. g.goes.done ++ l) f.first ∙ sym (append_assoc g.goes.done (f.cell ∷ []) rest)) g.goes.reads;
             kept = subst (λ s. LeavesAfter edition db memory s after) (sym all)
-                (leaves-append edition db memory now after (all_stamped edition db g.goes.done) (stamped_in edition db f.cell ∷ []) g.goes.kept (leaves-one edition db now after (stamped_in edition db f.cell) (f.kept edition)));
+                (leaves-append edition db memory now after (all_stamped edition db g.goes.done) (stamped_cell edition db f.cell ∷ []) g.goes.kept (leaves-one edition db now after (stamped_cell edition db f.cell) (f.kept edition)));
             told = ap (λ t. t ++ next) g.goes.told
-                ∙ sym (ap (batch_text edition db memory) all ∙ text-append edition db memory now (all_stamped edition db g.goes.done) (stamped_in edition db f.cell ∷ []) g.goes.kept
-                ∙ ap (λ t. batch_text edition db memory (all_stamped edition db g.goes.done) ++ t) (text-one edition db now (stamped_in edition db f.cell)));
+                ∙ sym (ap (batch_text edition db memory) all ∙ text-append edition db memory now (all_stamped edition db g.goes.done) (stamped_cell edition db f.cell ∷ []) g.goes.kept
+                ∙ ap (λ t. batch_text edition db memory (all_stamped edition db g.goes.done) ++ t) (text-one edition db now (stamped_cell edition db f.cell)));
           };
           moves = subst (λ l. Moves (g.text ++ next) l old new) (sym (f.text edition))
               (moves-more g.text f.left next (g.text ++ next) old new (moves-on g.text lines f.left old mid new g.moves f.moves) refl);
@@ -80,7 +80,7 @@ module _ (edition : ℕ) (db : Database) where
     whole done text first lines told parts kept =
         sym (append_assoc first lines (batch_text edition db now (all_stamped edition db waiting)))
         ∙ ap (λ t. t ++ batch_text edition db now (all_stamped edition db waiting)) (sym parts ∙ told)
-        ∙ sym (ap (batch_text edition db memory) (map-append (stamped_in edition db) done waiting) ∙ text-append edition db memory now (all_stamped edition db done) (all_stamped edition db waiting) kept)
+        ∙ sym (ap (batch_text edition db memory) (map-append (stamped_cell edition db) done waiting) ∙ text-append edition db memory now (all_stamped edition db done) (all_stamped edition db waiting) kept)
 
     -- what was done is read, and what waits
     fills : (how : Reading) (all : List Cell) (after : RegisterHistory) (behind : Known) → ReadsOn (edition, db) before own cells all start left → (how ≡ reading.Paused → 0 < length all)
@@ -100,7 +100,7 @@ module _ (edition : ℕ) (db : Database) where
           fills = fills how (g.goes.done ++ waiting) after behind g.goes.reads (λ p. some p (g.goes.done ++ waiting) g.goes.reads) closes;
           printed = subst (Appends old new) (whole g.goes.done g.text g.moves.first lines g.goes.told g.moves.parts g.goes.kept)
               (Appends-trans old mid new g.moves.first (lines ++ batch_text edition db now (all_stamped edition db waiting)) g.moves.wrote (f.text edition));
-          kept = subst (λ s. LeavesAfter edition db memory s later) (sym (map-append (stamped_in edition db) g.goes.done waiting))
+          kept = subst (λ s. LeavesAfter edition db memory s later) (sym (map-append (stamped_cell edition db) g.goes.done waiting))
               (leaves-append edition db memory now later (all_stamped edition db g.goes.done) (all_stamped edition db waiting) g.goes.kept (f.kept edition));
         }
 
@@ -151,7 +151,7 @@ module _ (db : Database) (waiting : List Cell) (memory : Memory) (lines : List �
     text-on : (edition : ℕ) (more : List Cell) → lines ++ batch_text edition db memory (all_stamped edition db (s.done ++ more))
         ≡ (lines ++ batch_text edition db memory (all_stamped edition db s.done)) ++ batch_text edition db now (all_stamped edition db more)
     text-on edition more =
-        ap (λ t. lines ++ batch_text edition db memory t) (map-append (stamped_in edition db) s.done more)
+        ap (λ t. lines ++ batch_text edition db memory t) (map-append (stamped_cell edition db) s.done more)
         ∙ ap (λ t. lines ++ t) (text-append edition db memory now (all_stamped edition db s.done) (all_stamped edition db more) (s.kept edition))
         ∙ sym (append_assoc lines (batch_text edition db memory (all_stamped edition db s.done)) (batch_text edition db now (all_stamped edition db more)))
 
@@ -159,13 +159,13 @@ module _ (db : Database) (waiting : List Cell) (memory : Memory) (lines : List �
     some-more others after longer new f = record {
       done = s.done ++ f.cell ∷ [];
       parts = s.parts ∙ ap (λ l. s.done ++ l) f.first ∙ sym (append_assoc s.done (f.cell ∷ []) others);
-      kept = λ e. subst (λ l. LeavesAfter e db memory l after) (sym (map-append (stamped_in e db) s.done (f.cell ∷ [])))
-          (leaves-append e db memory now after (all_stamped e db s.done) (stamped_in e db f.cell ∷ []) (s.kept e) (leaves-one e db now after (stamped_in e db f.cell) (f.kept e)));
+      kept = λ e. subst (λ l. LeavesAfter e db memory l after) (sym (map-append (stamped_cell e db) s.done (f.cell ∷ [])))
+          (leaves-append e db memory now after (all_stamped e db s.done) (stamped_cell e db f.cell ∷ []) (s.kept e) (leaves-one e db now after (stamped_cell e db f.cell) (f.kept e)));
       moves = λ e.
-          let next = next_text e db now (stamped_in e db f.cell) in
+          let next = next_text e db now (stamped_cell e db f.cell) in
           let text = lines ++ batch_text e db memory (all_stamped e db s.done) in
           subst (λ l. Moves (lines ++ batch_text e db memory (all_stamped e db (s.done ++ f.cell ∷ []))) l old new) (sym (f.text e))
-          (moves-more text f.left next _ old new (moves-on text left f.left old mid new (s.moves e) f.moves) (text-on e (f.cell ∷ []) ∙ ap (λ t. text ++ t) (text-one e db now (stamped_in e db f.cell))));
+          (moves-more text f.left next _ old new (moves-on text left f.left old mid new (s.moves e) f.moves) (text-on e (f.cell ∷ []) ∙ ap (λ t. text ++ t) (text-one e db now (stamped_cell e db f.cell))));
     }
 
     -- writing stopped in what is left

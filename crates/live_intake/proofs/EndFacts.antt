@@ -7,7 +7,7 @@ use Rattle.std.proofs.KnownBytes.{Appends-trans, Consumes-trans, Consumes-nil}
 use Rattle.std.proofs.lemmas.List.{take_at}
 use Rattle.std.proofs.lemmas.List.Elements.{All-push}
 use Rattle.std.proofs.lemmas.List.Folds.{concat-append}
-use Rattle.tm_io.specs.Octets.{AppendsPrefix}
+use Rattle.tm_io.specs.Octets.{AppendsPrefix, WritesUnless}
 use Rattle.packet_feed.specs.Feed.{TookLast, TookRest}
 use Rattle.decode_session.specs.declared.batch.Filled.{Filled}
 use Rattle.decode_session.specs.declared.batch.Filled.TheVariants as filled
@@ -25,10 +25,11 @@ use Rattle.decode_session.specs.Run.{most_packets}
 use Rattle.decode_session.proofs.FinishFacts.{part-longer, part-behind}
 use Rattle.live_intake.specs.declared.reading.Reading.{Reading}
 use Rattle.live_intake.specs.declared.reading.Reading.TheVariants as reading
-use Rattle.live_intake.specs.Intake.{Counts, EndsAs, EndsBy, Gives, Going, Intakes, Prints, is_out_failed, tail_of}
+use Rattle.live_intake.specs.Intake.{EndsAs, EndsIntake, Going, Intakes, GoesOn, is_out_failed}
+use Rattle.tm_io.specs.Causes.{RisesWhere}
 use Rattle.live_intake.specs.Opening.{lead_of}
 use Rattle.live_intake.specs.Reading.{Closes, HasReadingCause, IsRead, ReadsOn}
-use Rattle.live_intake.specs.Stamped.{stamp_of, stamped_by, text_of}
+use Rattle.live_intake.specs.Stamped.{stamp_of, stamped_by_moves, text_of}
 use Rattle.live_intake.proofs.GoingFacts.{Known, AllRead, all-read, done-read, going-on, opened-read}
 use Rattle.live_intake.proofs.StampedFacts.{text-append}
 use Rattle.mib_model.specs.declared.database.Database.{Database}
@@ -36,7 +37,7 @@ use Rattle.mib_model.specs.Interpreter.{Course, start, course_after_all, interpr
 use Rattle.mib_model.specs.Kept.{Memory}
 use Rattle.mib_model.specs.Packets.{IsPacket, IsCut, BeginsNoPacket}
 use Rattle.mib_model.specs.RegisterHistories.{RegisterHistory}
-use Rattle.mib_model.specs.Texts.{cut_text, rest_text}
+use Rattle.mib_model.specs.Texts.{cut_text, rest_text, rest_unless}
 
 -- ---- texts in part
 
@@ -77,7 +78,7 @@ record Behind (few : Type 0) (before now : ℕ) (left after : Known) : Type 0 wh
   pub none : BeginsNoPacket rest
   pub taken : Consumes left after rest
   pub failed : Bool
-  pub count : Counts failed before now
+  pub count : RisesWhere failed before now
   pub last : few ⊎ (rest ≡ [])
 
 behind-none : (few : Type 0) (before now : ℕ) (left : Known) → now ≡ before → Behind few before now left left
@@ -106,7 +107,7 @@ module _ (first : Database) where
   part-more own after edition shown cell origin left behind old new r p =
       let more = stamp_of edition shown cell ∷ [] in
       let all = p.packets ++ packet_in cell ∷ [] in
-      let text : text_of first after all ≡ text_of first own p.packets ++ records_text (interpret (course_after_all (start first) (stamped_by own p.packets)) (stamped_by more (packet_in cell ∷ []))) =
+      let text : text_of first after all ≡ text_of first own p.packets ++ records_text (interpret (course_after_all (start first) (stamped_by_moves own p.packets)) (stamped_by_moves more (packet_in cell ∷ []))) =
       ap (λ o. text_of first o all) r.own ∙ text-append first own more p.packets (packet_in cell ∷ []) p.many in
       record {
         packets = all;
@@ -141,7 +142,7 @@ module _ (first : Database) where
     is_failed = tt;
     feed_count = b.count;
     ends = omega (arith, few, p.many);
-    written = part-longer (text_of first own p.packets) (tail_of b.failed b.rest) old new p.written;
+    written = part-longer (text_of first own p.packets) (rest_unless b.failed b.rest) old new p.written;
   }
     where
       limits : (length own < most_packets) ⊎ (b.rest ≡ []) → length p.packets ≡ most_packets → b.rest ≡ []
@@ -150,7 +151,7 @@ module _ (first : Database) where
 
   -- writing stopped before a batch was read
   pub stops-unread : (own : RegisterHistory) (edition : ℕ) (db : Database) (memory : Memory) (cells : List Cell) (before now : ℕ) (origin left old mid new : Known) → length own ≤ most_packets → now ≡ before → new ≡ mid
-      → Prints first own (standing edition db memory) cells origin left old mid → Intakes (Err (fault.Print stop.Out)) first own before now origin left old new
+      → GoesOn first own (standing edition db memory) cells origin left old mid → Intakes (Err (fault.Print stop.Out)) first own before now origin left old new
   stops-unread own edition db memory cells before now origin left old mid new few same kept p =
       let batch = batch_text edition db memory (all_stamped edition db cells) in
       stopped own before now origin left left old new few
@@ -159,7 +160,7 @@ module _ (first : Database) where
 
   -- writing stopped in the records of a stretch
   pub stops-stretch : (how : Reading) (own middle after : RegisterHistory) (edition : ℕ) (db : Database) (memory : Memory) (cells all : List Cell) (before now : ℕ) (origin left place behind old mid new : Known) → length after ≤ most_packets
-      → ReadsOn (edition, db) own middle cells all left place → Closes (edition, db) how middle after place behind → HasReadingCause how before now → Prints first own (standing edition db memory) cells origin left old mid
+      → ReadsOn (edition, db) own middle cells all left place → Closes (edition, db) how middle after place behind → HasReadingCause how before now → GoesOn first own (standing edition db memory) cells origin left old mid
       → AppendsPrefix mid new (batch_text edition db memory (all_stamped edition db all)) → Intakes (Err (fault.Print stop.Out)) first after before now origin behind old new
   stops-stretch how own middle after edition db memory cells all before now origin left place behind old mid new few r closes cause p wrote = by_reading how closes cause
     where
@@ -179,7 +180,7 @@ module _ (first : Database) where
 
   -- writing stopped in the line of an edition
   pub stops-opening : (own after : RegisterHistory) (course : Course) (edition : ℕ) (shown : Database) (cell : Cell) (before now : ℕ) (origin left behind old mid new : Known) → length after ≤ most_packets → now ≡ before
-      → (edition ≡ course.edition → shown ≡ course.tables) → IsRead edition shown cell own after left behind → Prints first own course [] origin left old mid → AppendsPrefix mid new (lead_of course edition)
+      → (edition ≡ course.edition → shown ≡ course.tables) → IsRead edition shown cell own after left behind → GoesOn first own course [] origin left old mid → AppendsPrefix mid new (lead_of course edition)
       → Intakes (Err (fault.Print stop.Out)) first after before now origin behind old new
   stops-opening own after course edition shown cell before now origin left behind old mid new few still same r p wrote =
       let o = opened-read first own course origin left p.text p.going after edition shown cell behind same r in
@@ -269,12 +270,12 @@ module _ (first : Database) where
 
   -- the feed ended behind packets that were printed
   pub ends-as : (why : Filled) (result : Result RunEnd RunFault) (own : RegisterHistory) (course : Course) (before now : ℕ) (origin left after old mid new : Known) → length own < most_packets → EndsFeed why left after → HasFillCause why before now
-      → Prints first own course [] origin left old mid → EndsAs why result mid new → Intakes result first own before now origin after old new
+      → GoesOn first own course [] origin left old mid → EndsAs why result mid new → Intakes result first own before now origin after old new
   ends-as why result own course before now origin left after old mid new few ends cause p kept =
       ends-by own before now origin left after old mid new why result p.text (done-read first own course origin left p.text p.going) p.printed few ends cause kept
 
   -- as many packets as a run may have were printed
-  pub ends-limit : (own : RegisterHistory) (course : Course) (cells : List Cell) (before now : ℕ) (origin left old new : Known) → length own ≡ most_packets → cells ≡ [] → now ≡ before → Prints first own course cells origin left old new
+  pub ends-limit : (own : RegisterHistory) (course : Course) (cells : List Cell) (before now : ℕ) (origin left old new : Known) → length own ≡ most_packets → cells ≡ [] → now ≡ before → GoesOn first own course cells origin left old new
       → Intakes (Ok end.Limit) first own before now origin left old new
   ends-limit own course cells before now origin left old new all none same p =
       let going = subst (λ cs. Going first own course cs origin left p.text) none p.going in
@@ -295,7 +296,7 @@ module _ (first : Database) where
 
   -- ---- an intake whose output fails at its end
 
-  few-of : (result : Result RunEnd RunFault) (packets : List (List ℕ)) (rest : List ℕ) (origin left : Known) → EndsBy result packets rest origin left → length packets ≤ most_packets
+  few-of : (result : Result RunEnd RunFault) (packets : List (List ℕ)) (rest : List ℕ) (origin left : Known) → EndsIntake result packets rest origin left → length packets ≤ most_packets
   few-of (Ok end.Whole) packets rest origin left ends = omega (arith, ends.2)
   few-of (Ok (end.Cut count)) packets rest origin left ends = omega (arith, ends.3)
   few-of (Ok end.Limit) packets rest origin left ends = omega (arith, ends)
@@ -303,7 +304,7 @@ module _ (first : Database) where
   few-of (Err (fault.Print stop.Out)) packets rest origin left ends = ends
   few-of (Err (fault.Print stop.Memory)) packets rest origin left ends = absurd ends
 
-  part-gives : (failed : Bool) (text : List ℕ) (old new : Known) → Gives failed old new text → AppendsPrefix old new text
+  part-gives : (failed : Bool) (text : List ℕ) (old new : Known) → WritesUnless failed old new text → AppendsPrefix old new text
   part-gives false text old new gives = part-same text old new gives
   part-gives true text old new gives = gives
 
@@ -320,5 +321,5 @@ module _ (first : Database) where
     is_failed = tt;
     feed_count = i.feed_count;
     ends = few-of result i.packets i.rest origin after i.ends;
-    written = part-gives (is_out_failed result) (text_of first own i.packets ++ tail_of i.feed_failed i.rest) old new i.written;
+    written = part-gives (is_out_failed result) (text_of first own i.packets ++ rest_unless i.feed_failed i.rest) old new i.written;
   }

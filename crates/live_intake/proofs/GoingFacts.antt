@@ -7,12 +7,12 @@ use Rattle.std.proofs.lemmas.List.{map-append}
 use Rattle.std.proofs.lemmas.List.Elements.{All-append, All-cons, All-nil}
 use Rattle.std.proofs.lemmas.List.Folds.{concat-append}
 use Rattle.decode_session.specs.declared.cell.Cell.{Cell}
-use Rattle.decode_session.specs.Cells.{packet_in, packets_in, stamped_in, all_stamped}
+use Rattle.decode_session.specs.Cells.{packet_in, packets_in, stamped_cell, all_stamped}
 use Rattle.decode_session.specs.Finishing.{standing, batch_text, LeavesAfter}
-use Rattle.live_intake.specs.Intake.{Going, Leads, Prints}
+use Rattle.live_intake.specs.Intake.{Going, Leads, GoesOn}
 use Rattle.live_intake.specs.Opening.{turned, lead_of}
 use Rattle.live_intake.specs.Reading.{IsRead, ReadsOn}
-use Rattle.live_intake.specs.Stamped.{stamp_of, stamps_of, stamped_by, text_of}
+use Rattle.live_intake.specs.Stamped.{stamp_of, stamps_of, stamped_by_moves, text_of}
 use Rattle.live_intake.proofs.StampedFacts.{stamps-count, stamped-append, cells-stamped, course-append, text-none, course-none, text-append}
 use Rattle.mib_model.specs.declared.database.Database.{Database}
 use Rattle.mib_model.specs.Carry.{carry}
@@ -105,7 +105,7 @@ led-none before now lead none same = record { text = sym (ap (λ l. l ++ []) non
 pub led-cells : (before : Course) (edition : ℕ) (db : Database) (memory : Memory) (lead : List ℕ) (cells : List Cell) → Leads before (standing edition db memory) lead → (cells ≡ [] → (lead ≡ []) × (before ≡ standing edition db memory))
     → Led before (standing edition db memory) lead (all_stamped edition db cells)
 led-cells before edition db memory lead [] leads none = led-none before (standing edition db memory) lead (none refl).0 (none refl).1
-led-cells before edition db memory lead (c ∷ cs) leads none = led-some before (standing edition db memory) lead (stamped_in edition db c) (all_stamped edition db cs) leads refl refl
+led-cells before edition db memory lead (c ∷ cs) leads none = led-some before (standing edition db memory) lead (stamped_cell edition db c) (all_stamped edition db cs) leads refl refl
 
 -- ---- an intake that goes on
 
@@ -143,10 +143,10 @@ module _ (first : Database) where
     told = sym (ap (λ t. t ++ []) (text-none first));
   }
 
-  pub prints-start : (own : RegisterHistory) (now : Course) (cells : List Cell) (left written : Known) → own ≡ [] → cells ≡ [] → now ≡ start first → Prints first own now cells left left written written
+  pub prints-start : (own : RegisterHistory) (now : Course) (cells : List Cell) (left written : Known) → own ≡ [] → cells ≡ [] → now ≡ start first → GoesOn first own now cells left left written written
   prints-start own now cells left written none empty is =
-      subst (λ o. Prints first o now cells left left written written) (sym none) (subst (λ cs. Prints first [] now cs left left written written) (sym empty)
-      (subst (λ c. Prints first [] c [] left left written written) (sym is) (record {
+      subst (λ o. GoesOn first o now cells left left written written) (sym none) (subst (λ cs. GoesOn first [] now cs left left written written) (sym empty)
+      (subst (λ c. GoesOn first [] c [] left left written written) (sym is) (record {
         text = [];
         going = begins left;
         printed = Appends-nil written;
@@ -191,9 +191,9 @@ module _ (first : Database) where
     all-led : Led g.before (standing edition db memory) g.lead (all_stamped edition db cells)
     all-led = led-cells g.before edition db memory g.lead cells g.leads g.none
 
-    all-stamped : stamped_by own all_packets ≡ stamped_by g.done g.packets ++ all_stamped edition db cells
+    all-stamped : stamped_by_moves own all_packets ≡ stamped_by_moves g.done g.packets ++ all_stamped edition db cells
     all-stamped =
-        ap (λ o. stamped_by o all_packets) g.parted ∙ stamped-append g.done (stamps_of edition db cells) g.packets (packets_in cells) g.many ∙ ap (λ l. stamped_by g.done g.packets ++ l) (cells-stamped edition db cells)
+        ap (λ o. stamped_by_moves o all_packets) g.parted ∙ stamped-append g.done (stamps_of edition db cells) g.packets (packets_in cells) g.many ∙ ap (λ l. stamped_by_moves g.done g.packets ++ l) (cells-stamped edition db cells)
 
     all-text : text_of first own all_packets ≡ text ++ batch_text edition db memory (all_stamped edition db cells)
     all-text =
@@ -221,7 +221,7 @@ module _ (first : Database) where
       taken = subst (Consumes origin left) (sym (append-nil (concat all_packets))) all-taken;
       before = standing edition db after;
       is_before = leaves ∙ sym all-led.course ∙ ap (λ c. course_after_all c (all_stamped edition db cells)) g.is_before
-          ∙ sym (ap (course_after_all (start first)) all-stamped ∙ course-append (start first) (stamped_by g.done g.packets) (all_stamped edition db cells));
+          ∙ sym (ap (course_after_all (start first)) all-stamped ∙ course-append (start first) (stamped_by_moves g.done g.packets) (all_stamped edition db cells));
       lead = [];
       leads = leads-same (standing edition db after);
       none = λ e. (refl, refl);
@@ -230,8 +230,8 @@ module _ (first : Database) where
 
   -- a batch was printed
   pub prints-batch : (own : RegisterHistory) (edition : ℕ) (db : Database) (memory after : Memory) (cells : List Cell) (stamped : List StampedPacket) (origin left old mid new : Known) → stamped ≡ all_stamped edition db cells
-      → Prints first own (standing edition db memory) cells origin left old mid → Appends mid new (batch_text edition db memory stamped) → LeavesAfter edition db memory stamped after
-      → Prints first own (standing edition db after) [] origin left old new
+      → GoesOn first own (standing edition db memory) cells origin left old mid → Appends mid new (batch_text edition db memory stamped) → LeavesAfter edition db memory stamped after
+      → GoesOn first own (standing edition db after) [] origin left old new
   prints-batch own edition db memory after cells stamped origin left old mid new is p wrote leaves =
       let g = p.going in record {
         text = p.text ++ batch_text edition db memory (all_stamped edition db cells);
@@ -265,7 +265,7 @@ module _ (first : Database) where
           waiting = All-cons IsPacket (packet_in cell) [] r.is_packet (All-nil IsPacket);
           taken = subst (Consumes origin behind) (ap (λ l. concat g.packets ++ l) (sym (append-nil (packet_in cell)))) (Consumes-trans origin left behind (concat g.packets) (packet_in cell) done-taken r.taken);
           before = now;
-          is_before = sym (g.none refl).1 ∙ g.is_before ∙ ap (λ o. course_after_all (start first) (stamped_by o g.packets)) done-is;
+          is_before = sym (g.none refl).1 ∙ g.is_before ∙ ap (λ o. course_after_all (start first) (stamped_by_moves o g.packets)) done-is;
           lead = lead_of now edition;
           leads = leads-turned now edition shown;
           none = λ e. let some = ap (λ (l : List Cell). length l) e in absurd (omega (arith, some));
@@ -284,7 +284,7 @@ module _ (first : Database) where
         (batch_text to.edition to.tables to.memory (all_stamped to.edition to.tables (cell ∷ [])), all-read after to.edition to.tables to.memory (cell ∷ []) origin behind (text ++ lead_of now edition) (going-opens after edition shown cell behind same r))
 
   pub prints-opens : (own after : RegisterHistory) (now : Course) (edition : ℕ) (shown : Database) (cell : Cell) (origin left behind old mid new : Known) → (edition ≡ now.edition → shown ≡ now.tables) → IsRead edition shown cell own after left behind
-      → Prints first own now [] origin left old mid → Appends mid new (lead_of now edition) → Prints first after (turned now edition shown) (cell ∷ []) origin behind old new
+      → GoesOn first own now [] origin left old mid → Appends mid new (lead_of now edition) → GoesOn first after (turned now edition shown) (cell ∷ []) origin behind old new
   prints-opens own after now edition shown cell origin left behind old mid new same r p wrote = record {
     text = p.text ++ lead_of now edition;
     going = going-opens own now origin left p.text p.going after edition shown cell behind same r;

@@ -2,7 +2,7 @@
 use Rattle.std.specs.Prelude.{◌≡◌, ℕ, List, ◌∷◌, ◌++◌, Option}
 use Rattle.std.specs.Io.KnownBytes.{Appends}
 use Rattle.decode_session.specs.declared.cell.Cell.{Cell}
-use Rattle.decode_session.specs.Cells.{stamped_in, all_stamped}
+use Rattle.decode_session.specs.Cells.{stamped_cell, all_stamped}
 use Rattle.decode_session.specs.Finishing.{batch_text, next_text, Leaves, LeavesAfter}
 use Rattle.decode_session.specs.Moving.{Moves}
 use Rattle.live_intake.specs.Reading.{ReadsOn}
@@ -30,10 +30,10 @@ pub record GoesOn (edition : ℕ) (db : Database) (before own : RegisterHistory)
 pub record Finishes (db : Database) (waiting rest : List Cell) (memory after : Memory) (lines new_lines : List ℕ) (old new : Option (List ℕ)) : Type 0 where
   pub cell : Cell
   pub first : waiting ≡ cell ∷ rest
-  pub kept : (edition : ℕ) → Leaves edition db memory (stamped_in edition db cell) after
+  pub kept : (edition : ℕ) → Leaves edition db memory (stamped_cell edition db cell) after
   pub left : List ℕ
   pub moves : Moves lines left old new
-  pub text : (edition : ℕ) → new_lines ≡ left ++ next_text edition db memory (stamped_in edition db cell)
+  pub text : (edition : ℕ) → new_lines ≡ left ++ next_text edition db memory (stamped_cell edition db cell)
 
 -- the records of packets that waited were written behind what was left of a text
 pub record FinishesAll (db : Database) (waiting : List Cell) (memory after : Memory) (lines : List ℕ) (old new : Option (List ℕ)) : Type 0 where

@@ -1,5 +1,5 @@
 -- What an intake reads and writes. [This profile.]
-use Rattle.std.specs.Prelude.{◌≡◌, ◌⊎◌, ℕ, ◌<◌, ◌≤◌, Bool, true, false, List, [], ◌++◌, length, Option, IfSome, Result, Ok, Err, ⊤, if◌then◌else◌}
+use Rattle.std.specs.Prelude.{◌≡◌, ◌⊎◌, ℕ, ◌<◌, ◌≤◌, Bool, true, false, List, [], ◌++◌, length, Option, IfSome, Result, Ok, Err, ⊤}
 use Rattle.std.specs.List.{All, concat}
 use Rattle.std.specs.Io.KnownBytes.{Appends, Consumes, IsAtEnd}
 use Rattle.decode_session.specs.declared.batch.Filled.{Filled}
@@ -10,16 +10,16 @@ use Rattle.decode_session.specs.declared.ending.RunEnd.TheVariants as end
 use Rattle.decode_session.specs.declared.ending.RunFault.{RunFault}
 use Rattle.decode_session.specs.declared.ending.RunFault.TheVariants as fault
 use Rattle.decode_session.specs.declared.ending.Stop.TheVariants as stop
-use Rattle.decode_session.specs.Causes.{Failed}
+use Rattle.tm_io.specs.Causes.{RisesWhere}
 use Rattle.decode_session.specs.Cells.{packets_in}
 use Rattle.decode_session.specs.Run.{most_packets}
-use Rattle.live_intake.specs.Stamped.{stamped_by, stamps_of, text_of}
+use Rattle.live_intake.specs.Stamped.{stamped_by_moves, stamps_of, text_of}
 use Rattle.mib_model.specs.declared.database.Database.{Database}
 use Rattle.mib_model.specs.Interpreter.{Course, StampedPacket, start, record_for, course_after, course_after_all}
 use Rattle.mib_model.specs.Packets.{IsPacket, IsCut}
 use Rattle.mib_model.specs.RegisterHistories.{RegisterHistory}
-use Rattle.mib_model.specs.Texts.{cut_text, record_text, rest_text}
-use Rattle.tm_io.specs.Octets.{AppendsPrefix}
+use Rattle.mib_model.specs.Texts.{cut_text, record_text, rest_unless}
+use Rattle.tm_io.specs.Octets.{AppendsPrefix, WritesUnless}
 
 -- ---- an intake that goes on
 
@@ -39,14 +39,14 @@ pub record Going (first : Database) (own : RegisterHistory) (now : Course) (cell
   pub waiting : All IsPacket (packets_in cells)
   pub taken : Consumes start_left left (concat packets ++ concat (packets_in cells))
   pub before : Course
-  pub is_before : before ≡ course_after_all (start first) (stamped_by done packets)
+  pub is_before : before ≡ course_after_all (start first) (stamped_by_moves done packets)
   pub lead : List ℕ
   pub leads : Leads before now lead
   pub none : cells ≡ [] → (lead ≡ []) × (before ≡ now)
   pub told : text ≡ text_of first done packets ++ lead
 
--- so it goes on, and that text was written
-pub record Prints (first : Database) (own : RegisterHistory) (now : Course) (cells : List Cell) (start_left left old new : Option (List ℕ)) : Type 0 where
+-- an intake goes on, and the text so far was written
+pub record GoesOn (first : Database) (own : RegisterHistory) (now : Course) (cells : List Cell) (start_left left old new : Option (List ℕ)) : Type 0 where
   pub text : List ℕ
   pub going : Going first own now cells start_left left text
   pub printed : Appends old new text
@@ -72,29 +72,15 @@ IsFeedFailed (Ok end) failed = failed ≡ false
 IsFeedFailed (Err fault.Feed) failed = failed ≡ true
 IsFeedFailed (Err (fault.Print stop)) failed = ⊤
 
--- a count of faults that rose just where the object failed
-abbrev pub Counts : Bool → ℕ → ℕ → Type 0
-Counts true before now = Failed before now
-Counts false before now = now ≡ before
-
--- all of a text was written, or where writing failed a first part of it
-abbrev pub Gives : Bool → Option (List ℕ) → Option (List ℕ) → List ℕ → Type 0
-Gives false old new text = Appends old new text
-Gives true old new text = AppendsPrefix old new text
-
--- the line of a rest, unless the feed failed there
-abbrev pub tail_of : Bool → List ℕ → List ℕ
-tail_of failed rest = if failed then [] else rest_text rest
-
 -- how an intake ended: at the end of a feed that tells its octets, where there is a rest or none; at the limit; or hindered
-abbrev pub EndsBy : Result RunEnd RunFault → List (List ℕ) → List ℕ → Option (List ℕ) → Option (List ℕ) → Type 0
-EndsBy (Ok end.Whole) packets rest start_left left = (rest ≡ []) × IfSome start_left (λ octets. IsAtEnd left) × (length packets < most_packets)
-EndsBy (Ok (end.Cut count)) packets rest start_left left = (length rest ≡ count) × (0 < count) × IfSome start_left (λ octets. IsAtEnd left)
+abbrev pub EndsIntake : Result RunEnd RunFault → List (List ℕ) → List ℕ → Option (List ℕ) → Option (List ℕ) → Type 0
+EndsIntake (Ok end.Whole) packets rest start_left left = (rest ≡ []) × IfSome start_left (λ octets. IsAtEnd left) × (length packets < most_packets)
+EndsIntake (Ok (end.Cut count)) packets rest start_left left = (length rest ≡ count) × (0 < count) × IfSome start_left (λ octets. IsAtEnd left)
     × (length packets < most_packets)
-EndsBy (Ok end.Limit) packets rest start_left left = length packets ≡ most_packets
-EndsBy (Err fault.Feed) packets rest start_left left = length packets < most_packets
-EndsBy (Err (fault.Print stop.Out)) packets rest start_left left = length packets ≤ most_packets
-EndsBy (Err (fault.Print stop.Memory)) packets rest start_left left = ⊥
+EndsIntake (Ok end.Limit) packets rest start_left left = length packets ≡ most_packets
+EndsIntake (Err fault.Feed) packets rest start_left left = length packets < most_packets
+EndsIntake (Err (fault.Print stop.Out)) packets rest start_left left = length packets ≤ most_packets
+EndsIntake (Err (fault.Print stop.Memory)) packets rest start_left left = ⊥
 
 -- what was read is cut into packets and a rest, each packet was stamped, and the text of all was written, with these counts of faults of the feed
 pub record Intakes (result : Result RunEnd RunFault) (first : Database) (own : RegisterHistory) (before now : ℕ)
@@ -108,6 +94,6 @@ pub record Intakes (result : Result RunEnd RunFault) (first : Database) (own : R
   pub limit : length packets ≡ most_packets → rest ≡ []
   pub feed_failed : Bool
   pub is_failed : IsFeedFailed result feed_failed
-  pub feed_count : Counts feed_failed before now
-  pub ends : EndsBy result packets rest start_left left
-  pub written : Gives (is_out_failed result) old new (text_of first own packets ++ tail_of feed_failed rest)
+  pub feed_count : RisesWhere feed_failed before now
+  pub ends : EndsIntake result packets rest start_left left
+  pub written : WritesUnless (is_out_failed result) old new (text_of first own packets ++ rest_unless feed_failed rest)

@@ -26,9 +26,9 @@ stamped_with (answer.Stamped number edition tables) packet = record { number = n
 stamped_with other packet = []
 
 -- packets with the stamps of moves, one for one
-abbrev pub stamped_by : RegisterHistory → List (List ℕ) → List StampedPacket
-stamped_by moves packets = flat_map (λ pair. stamped_with pair.0.reply pair.1) (zip moves packets)
+abbrev pub stamped_by_moves : RegisterHistory → List (List ℕ) → List StampedPacket
+stamped_by_moves moves packets = flat_map (λ pair. stamped_with pair.0.reply pair.1) (zip moves packets)
 
 -- the text of packets with the stamps of moves, from a database on
 unfoldable pub text_of : Database → RegisterHistory → List (List ℕ) → List ℕ
-text_of first moves packets = records_text (interpret (start first) (stamped_by moves packets))
+text_of first moves packets = records_text (interpret (start first) (stamped_by_moves moves packets))

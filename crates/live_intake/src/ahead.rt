@@ -1,5 +1,5 @@
 // A stretch whose packets are decoded by workers, ahead of their records.
-ghost use Rattle.std.specs.Prelude.{◌≡◌, ◌≢◌, ℕ, ◌<◌, ◌≤◌, ◌+◌, [], length, vec_len, vec_capacity, IfOk, IfErr, OnOk, OnErr, IsTrue, IsFalse};
+ghost use Rattle.std.specs.Prelude.{◌≡◌, ◌≢◌, ℕ, ◌<◌, ◌≤◌, ◌+◌, ◌⊎◌, [], length, vec_len, vec_capacity, IfOk, IfErr, IfSome, OnOk, OnErr, IsTrue, IsFalse};
 ghost use Rattle.decode_session.specs.Moving.{Moves};
 ghost use Rattle.decode_session.specs.Run.{most_packets};
 ghost use Rattle.edition_plans.specs.Params.{param_slices};
@@ -11,7 +11,7 @@ ghost use Rattle.histories.specs.History.{StartsWith};
 ghost use Rattle.live_intake.specs.Ahead.{BreaksIn, Finishes, FinishesAll};
 ghost use Rattle.live_intake.specs.Stretches.{Stops, Takes};
 ghost use Rattle.live_intake.specs.Reading.{Closes, HasReadingCause, IsRead, held_by};
-ghost use Rattle.packet_feed.specs.Feed.{source_of};
+ghost use Rattle.packet_feed.specs.Feed.{BeginsWithPacket, source_of};
 ghost use Rattle.tm_io.specs.Causes.{HasCause};
 ghost use Rattle.tm_io.specs.Octets.{AppendsPrefix};
 ghost use Rattle.turn_cell.specs.Seats.{own_moves, seen_by};
@@ -196,7 +196,7 @@ fn may_read<S: Source>(
     number <= MOST_PACKETS && !rooms.is_empty() && (waiting.is_empty() || feed.is_next_at_hand())
 }
 
-// Hands on all text where reading the next packet may wait, while the workers rest.
+// Hands on all text where reading the next packet may wait, since that isn't known to be there whole, while the workers rest.
 fn hand_on<K: Tables, S: Source, O: Sink>(
     feed: &Feed<S>,
     ahead: &mut Ahead<'_, K>,
@@ -205,6 +205,7 @@ fn hand_on<K: Tables, S: Source, O: Sink>(
 ) -> Result<(), Failed>
     ensures moved { OnOk result (Moves lines.old lines.new (O.written out.old) (O.written out.new)) }
     ensures part { OnErr result (AppendsPrefix (O.written out.old) (O.written out.new) lines.old) }
+    ensures handed { OnOk result (((lines.new ≡ []) × (O.handed out.new ≡ O.written out.new)) ⊎ IfSome (S.left (source_of feed.now)) BeginsWithPacket) }
     ensures cause { HasCause (O.faults out.old) (O.faults out.new) result }
 {
     if feed.is_next_at_hand() {

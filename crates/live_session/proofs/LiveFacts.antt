@@ -1,15 +1,17 @@
 -- A whole live run, by what its two sides did and by the history at its end.
-use Rattle.std.proofs.Common.{◌≡◌, ℕ, [], ◌∷◌, map, length, Some, Result, refl, sym, ap, ◌∙◌, subst}
+use Rattle.std.proofs.Common.{◌≡◌, ℕ, ◌+◌, ◌<◌, ◌^◌, Bool, true, false, arith, [], ◌∷◌, map, length, Some, Result, refl, sym, ap, ◌∙◌, subst}
 use Rattle.decode_session.specs.declared.ending.RunEnd.{RunEnd}
 use Rattle.decode_session.specs.declared.ending.RunFault.{RunFault}
 use Rattle.decode_session.specs.Causes.{HasOutCause}
-use Rattle.desk.specs.Handling.{moves_by}
 use Rattle.histories.specs.History.{IsOfSeatsBelow, Permits, StartsWith, calls_of, moves_of}
 use Rattle.live_desk.specs.declared.desk_end.DeskEnd.{DeskEnd}
 use Rattle.live_desk.specs.Scripts.{Desked, DeskedBy, HasDeskCause, HasRepliesCause}
 use Rattle.live_desk.specs.Standing.{Standing}
 use Rattle.live_desk.proofs.DeskFacts.{starts-more}
-use Rattle.live_intake.specs.Intake.{Gives, Intakes, is_out_failed, tail_of}
+use Rattle.live_intake.specs.Intake.{Intakes, is_out_failed}
+use Rattle.mib_model.specs.Texts.{rest_unless}
+use Rattle.tm_io.specs.Octets.{WritesUnless}
+use Rattle.tm_io.specs.Causes.{RisesWhere}
 use Rattle.live_session.specs.Codes.{code_by}
 use Rattle.live_session.specs.Live.{Lives, Prints, object}
 use Rattle.live_session.proofs.EndFacts.{Known, code-is, few-packets, out-counts, read-out}
@@ -17,12 +19,17 @@ use Rattle.live_session.proofs.PlanFacts.{plans-of}
 use Rattle.live_session.proofs.StampFacts.{stamps-count, text-same}
 use Rattle.mib_model.specs.declared.code.Code.{Code}
 use Rattle.mib_model.specs.declared.database.Database.{Database}
-use Rattle.mib_model.specs.DeskRuns.{Calls}
+use Rattle.mib_model.specs.DeskRuns.{Calls, moves_by}
 use Rattle.mib_model.specs.RegisterHistories.{IsRegisterHistory, MayEnter, RegisterHistory}
 
 calls-back : (calls : Calls) → map (λ m. (m.entry, m.reply)) (moves_by calls) ≡ calls
 calls-back [] = refl
 calls-back (c ∷ cs) = ap (λ l. c ∷ l) (calls-back cs)
+
+-- an object whose count stands, and could rise, didn't fail
+pub unfailed : (failed : Bool) (before now : ℕ) → RisesWhere failed before now → now ≡ before → before + 1 < 2 ^ 64 → failed ≡ false
+unfailed false before now counts same more = refl
+unfailed true before now counts same more = absurd (omega (arith, counts.1, same, more))
 
 -- what a desk did stands by all that goes on from what was seen
 desked-on : (e : DeskEnd) (first : Database) (entries : Calls) (seen all : RegisterHistory) (left behind w0 w1 : Known) → StartsWith all seen → Desked e first entries seen left behind w0 w1 → Desked e first entries all left behind w0 w1
@@ -34,6 +41,7 @@ desked-on e first entries seen all left behind w0 w1 on d = record {
   of_script = d.of_script;
   all = d.all;
   whole = d.whole;
+  no_more = d.no_more;
   early = d.early;
   late = d.late;
   early_replies = d.early_replies;
@@ -46,6 +54,7 @@ desked-on e first entries seen all left behind w0 w1 on d = record {
   tail = d.tail;
   is_tail = d.is_tail;
   told = d.told;
+  fails_at = d.fails_at;
   front = d.front;
   starts = starts-more d.front seen all d.starts on;
   no_stamp = d.no_stamp;
@@ -70,7 +79,7 @@ module _ (ended : Result RunEnd RunFault) (first : Database) (history own : Regi
     out_count = out-counts ended out_before out_now cause;
     feed_count = i.feed_count;
     whole = read-out ended i.feed_failed i.packets i.rest l0 l1 before now i.is_failed i.ends;
-    written = subst (Gives (is_out_failed ended) w0 w1) (text-same first history own legal permits is i.packets (tail_of i.feed_failed i.rest)) i.written;
+    written = subst (WritesUnless (is_out_failed ended) w0 w1) (text-same first history own legal permits is i.packets (rest_unless i.feed_failed i.rest)) i.written;
   }
 
   -- a live run

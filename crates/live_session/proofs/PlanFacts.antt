@@ -4,7 +4,6 @@ use Rattle.std.proofs.lemmas.Bool.{false≢true}
 use Rattle.std.proofs.lemmas.List.Elements.{All-from_recursion}
 use Rattle.std.specs.Prelude.{if◌then◌else◌}
 use Rattle.std.specs.List.{AllByRecursion, flat_map}
-use Rattle.desk.specs.Handling.{moves_by}
 use Rattle.histories.specs.History.{IsOfSeatsBelow, Permits, move, moves_of}
 use Rattle.mib_model.specs.declared.fault.MibFault.{MibFault}
 use Rattle.mib_model.specs.declared.key.Key.{Key}
@@ -16,7 +15,7 @@ use Rattle.mib_model.specs.declared.register.Entry.TheVariants as entry
 use Rattle.mib_model.specs.declared.rows.Row.{Row}
 use Rattle.mib_model.specs.Desk.{DeskReply, DeskState, Done, Ask}
 use Rattle.mib_model.specs.DeskLines.{Request, Comment, TooLong, BadLine, BadTable, Put, Delete, Save, Drop, Use, UseFrom, Take, Go, request_of}
-use Rattle.mib_model.specs.DeskRuns.{Calls, Follows, IsChain, IsDesk, IsLine, LeavesLook, LineRun}
+use Rattle.mib_model.specs.DeskRuns.{Calls, Follows, IsChain, IsDesk, IsLine, LeavesLook, LineRun, moves_by}
 use Rattle.mib_model.specs.DeskWays.{delete_way, put_way, save_way, saved, took, use_way, way_of}
 use Rattle.mib_model.specs.Drafts.{is_held, rows_of}
 use Rattle.mib_model.specs.Reading.{key_read, row_read}

@@ -69,7 +69,7 @@ zip-none (x ∷ xs) s = refl
 
 -- the packets with their stamps, by the moves and by the register at the end
 abbrev by_moves : RegisterHistory → List (List ℕ) → List StampedPacket
-by_moves moves packets = Intake.stamped_by moves packets
+by_moves moves packets = Intake.stamped_by_moves moves packets
 
 same-step : (s : Register) (a : Answer) (xs : List (ℕ × ℕ)) (p : List ℕ) (ps : List (List ℕ)) (rest : List StampedPacket) → IsStamp a → HasItsTables s.editions a → rest ≡ map (stamped_in s) (zip xs ps)
     → stamped_with a p ++ rest ≡ map (stamped_in s) (zip (cons_option (stamp_in a) xs) (p ∷ ps))

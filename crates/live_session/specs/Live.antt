@@ -1,18 +1,25 @@
 -- What a live run leaves. [This profile.]
-use Rattle.std.specs.Prelude.{◌≡◌, ◌⊎◌, ℕ, ◌≤◌, ◌==◌, Bool, false, List, [], length, Option, IfSome}
+use Rattle.std.specs.Prelude.{◌≡◌, ◌⊎◌, ℕ, ◌≤◌, ◌<◌, ◌+◌, ◌^◌, ◌==◌, Bool, false, List, [], length, Option, IfSome}
 use Rattle.std.specs.Io.KnownBytes.{Consumes, IsAtEnd}
 use Rattle.decode_session.specs.Run.{most_packets}
 use Rattle.histories.specs.History.{IsOfSeatsBelow, Permits, calls_of, moves_of}
 use Rattle.live_desk.specs.declared.desk_end.DeskEnd.{DeskEnd}
-use Rattle.live_desk.specs.Lines.{is_desk_fault, is_reply_fault}
+use Rattle.live_desk.specs.DeskEnds.{is_desk_fault, is_reply_fault}
 use Rattle.live_desk.specs.Scripts.{Desked}
-use Rattle.live_intake.specs.Intake.{Counts, Gives, tail_of}
+use Rattle.mib_model.specs.Texts.{rest_unless}
+use Rattle.tm_io.specs.Octets.{WritesUnless}
+use Rattle.tm_io.specs.Causes.{RisesWhere}
 use Rattle.mib_model.specs.declared.code.Code.{Code}
 use Rattle.mib_model.specs.declared.database.Database.{Database}
 use Rattle.mib_model.specs.Endings.{Ending, code_of_ending}
 use Rattle.mib_model.specs.Output.{output}
 use Rattle.mib_model.specs.Packets.{IsCut}
-use Rattle.mib_model.specs.RegisterHistories.{AddsItsPlans, IsRegisterHistory, MayEnter, RegisterHistory, stamps}
+use Rattle.edition_register.specs.declared.outcome.Closed.{Closed}
+use Rattle.edition_register.specs.Seats.{history_of}
+use Rattle.mib_model.specs.declared.meaning.MadeFor as MadeFor
+use Rattle.mib_model.specs.declared.meaning.Rows as Rows
+use Rattle.mib_model.specs.Register.{count_of_editions}
+use Rattle.mib_model.specs.RegisterHistories.{AddsItsPlans, IsRegisterHistory, MayEnter, RegisterHistory, register_after, stamps}
 
 -- an object before and behind a call: its octets, where it tells them, and how often it failed
 pub record Object : Type 0 where
@@ -50,10 +57,10 @@ pub record Prints (first : Database) (history : RegisterHistory) (feed out : Obj
   pub limit : length packets ≡ most_packets → rest ≡ []
   pub out_failed : Bool
   pub feed_failed : Bool
-  pub out_count : Counts out_failed out.before out.now
-  pub feed_count : Counts feed_failed feed.before feed.now
+  pub out_count : RisesWhere out_failed out.before out.now
+  pub feed_count : RisesWhere feed_failed feed.before feed.now
   pub whole : out_failed ≡ false → feed_failed ≡ false → IsReadOut feed packets
-  pub written : Gives out_failed out.old out.new (output first packets history (tail_of feed_failed rest))
+  pub written : WritesUnless out_failed out.old out.new (output first packets history (rest_unless feed_failed rest))
 
 -- what happened in a run, by the faults of its objects, the rest of the feed and the number of packets
 abbrev pub ending_of : Bool → Bool → DeskEnd → List ℕ → List (List ℕ) → Ending
@@ -66,6 +73,17 @@ ending_of out_failed feed_failed desk rest packets = record {
   is_limit = length packets == most_packets;
 }
 
+-- an object whose count didn't rise and still could: where all that was written was handed on before, all that is written now is
+abbrev pub StaysHandedOn : {P : Type 0} → ℕ → ℕ → (P → Option (List ℕ)) → (P → Option (List ℕ)) → P → P → Type 0
+StaysHandedOn before now written handed old new = now ≡ before → before + 1 < 2 ^ 64 → handed old ≡ written old → handed new ≡ written new
+
+module _ {E B : Type 0} {rows : Rows.Ghosts E} {boards : MadeFor.Ghosts B} where
+  -- what a closed register tells beside its history is what that comes to from a first edition: the number of the packet that would be next,
+  -- and how many editions there are
+  abbrev pub EndsAs : Database → Closed E B rows boards → Type 0
+  EndsAs first closed =
+      (closed.next ≡ (register_after first (history_of closed)).next) × (closed.editions ≡ count_of_editions (register_after first (history_of closed)))
+
 -- a live run: its history, what it printed of the feed, and what it did with the desk's script and replied, by that history; the code
 -- is that of what happened, and an object failed where its count of faults rose
 pub record Lives (code : Code) (first : Database) (history : RegisterHistory) (feed desk out replies : Object) : Type 0 where
@@ -73,6 +91,6 @@ pub record Lives (code : Code) (first : Database) (history : RegisterHistory) (f
   pub prints : Prints first history feed out
   pub desk_end : DeskEnd
   pub desked : Desked desk_end first (calls_of 1 history) history desk.old desk.new replies.old replies.new
-  pub desk_count : Counts (is_desk_fault desk_end) desk.before desk.now
-  pub replies_count : Counts (is_reply_fault desk_end) replies.before replies.now
+  pub desk_count : RisesWhere (is_desk_fault desk_end) desk.before desk.now
+  pub replies_count : RisesWhere (is_reply_fault desk_end) replies.before replies.now
   pub is_code : code ≡ code_of_ending (ending_of prints.out_failed prints.feed_failed desk_end prints.rest prints.packets)

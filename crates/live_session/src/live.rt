@@ -4,7 +4,7 @@ ghost use Rattle.desk.specs.State.{desk_of, editions_of};
 ghost use Rattle.desk_lines.specs.Ahead.{reading_start};
 ghost use Rattle.desk_lines.specs.Reader.{reading_of, source_of};
 ghost use Rattle.edition_register.specs.Seats.{IsSeat, first_of, history_of};
-ghost use Rattle.live_session.specs.Live.{Lives, object};
+ghost use Rattle.live_session.specs.Live.{EndsAs, Lives, StaysHandedOn, object};
 ghost use Rattle.live_session.specs.Sides.{IsFresh};
 ghost use Rattle.mib_model.specs.Desk.{desk_start};
 ghost use Rattle.turn_cell.specs.Seats.{own_moves};
@@ -52,6 +52,8 @@ fn run_opened<R: Threads + Wait + Sync, F: Source, D: Source + Send, O: Sink, P:
         (object (O.written out.old) (O.written out.new) (O.faults out.old) (O.faults out.new))
         (object (P.written replies.old) (P.written replies.new) (P.faults replies.old) (P.faults replies.new)) }
     ensures handed { result.code ≢ Code.OutFault → O.handed out.old ≡ O.written out.old → O.handed out.new ≡ O.written out.new }
+    ensures replied { StaysHandedOn (P.faults replies.old) (P.faults replies.new) P.written P.handed replies.old replies.new }
+    ensures numbers { EndsAs (first_of opened.register) result.closed }
     ensures feed_missed { F.missed feed.new ≡ F.missed feed.old }
     ensures desk_missed { D.missed (source_of reader.new) ≡ D.missed (source_of reader.old) }
     ensures borrow { D.borrow (source_of reader.new) ≡ D.borrow (source_of reader.old) }
@@ -105,6 +107,8 @@ pub fn live_run<R: Threads + Wait + Sync, F: Source, D: Source + Send, O: Sink, 
         (object (O.written out.old) (O.written out.new) (O.faults out.old) (O.faults out.new))
         (object (P.written replies.old) (P.written replies.new) (P.faults replies.old) (P.faults replies.new))) }
     ensures handed { IfOk result (λ lived. lived.code ≢ Code.OutFault → O.handed out.old ≡ O.written out.old → O.handed out.new ≡ O.written out.new) }
+    ensures replied { IfOk result (λ lived. StaysHandedOn (P.faults replies.old) (P.faults replies.new) P.written P.handed replies.old replies.new) }
+    ensures numbers { IfOk result (λ lived. EndsAs first lived.closed) }
     ensures missed { (F.missed feed.new ≡ F.missed feed.old) × (D.missed desk.new ≡ D.missed desk.old) }
     ensures untouched { OnErr result ((feed.new ≡ feed.old) × (desk.new ≡ desk.old) × (out.new ≡ out.old) × (replies.new ≡ replies.old)) }
 {

@@ -6,7 +6,9 @@ ghost use Rattle.desk_lines.specs.Ahead.{reading_start};
 ghost use Rattle.desk_lines.specs.Reader.{reading_of, source_of};
 ghost use Rattle.edition_register.specs.Seats.{IsSeat, first_of, shown_in};
 ghost use Rattle.histories.specs.History.{StartsWith};
-ghost use Rattle.live_desk.specs.Scripts.{DeskedBy, HasDeskCause, HasRepliesCause, Worked};
+ghost use Rattle.live_desk.specs.Lines.{HandsOn};
+ghost use Rattle.live_desk.specs.DeskEnds.{is_reply_fault};
+ghost use Rattle.live_desk.specs.Scripts.{DeskedBy, HasDeskCause, HasRepliesCause, Worked, fails_to_reply};
 ghost use Rattle.live_desk.specs.Standing.{standing_of};
 ghost use Rattle.live_intake.specs.Intake.{Intakes};
 ghost use Rattle.live_session.specs.Sides.{IsFresh};
@@ -60,6 +62,7 @@ fn run_both<R: Threads + Wait + Sync, F: Source, D: Source + Send, O: Sink, P: S
         (standing_of D.left P.written reader.new desk.new seat.new replies.new) }
     ensures desk_cause { HasDeskCause result.1 (D.faults (source_of reader.old)) (D.faults (source_of reader.new)) }
     ensures replies { HasRepliesCause result.1 (P.faults replies.old) (P.faults replies.new) }
+    ensures replied { HandsOn (fails_to_reply result.1) P.written P.handed replies.old replies.new }
     ensures desk_missed { D.missed (source_of reader.new) ≡ D.missed (source_of reader.old) }
     ensures borrow { D.borrow (source_of reader.new) ≡ D.borrow (source_of reader.old) }
 {
@@ -109,6 +112,7 @@ pub(crate) fn run<R: Threads + Wait + Sync, F: Source, D: Source + Send, O: Sink
         (standing_of D.left P.written reader.new desk.new seat.new replies.new) }
     ensures desk_cause { HasDeskCause (Some result.1) (D.faults (source_of reader.old)) (D.faults (source_of reader.new)) }
     ensures replies { HasRepliesCause (Some result.1) (P.faults replies.old) (P.faults replies.new) }
+    ensures replied { HandsOn (is_reply_fault result.1) P.written P.handed replies.old replies.new }
     ensures desk_missed { D.missed (source_of reader.new) ≡ D.missed (source_of reader.old) }
     ensures borrow { D.borrow (source_of reader.new) ≡ D.borrow (source_of reader.old) }
 {

@@ -5,7 +5,8 @@ ghost use Rattle.desk.specs.State.{editions_of};
 ghost use Rattle.desk_lines.specs.Reader.{reading_of, source_of};
 ghost use Rattle.edition_register.specs.Seats.{IsSeat, first_of, shown_in};
 ghost use Rattle.histories.specs.History.{StartsWith};
-ghost use Rattle.live_desk.specs.Scripts.{HasDeskCause, HasRepliesCause, Worked};
+ghost use Rattle.live_desk.specs.Lines.{HandsOn};
+ghost use Rattle.live_desk.specs.Scripts.{HasDeskCause, HasRepliesCause, Worked, fails_to_reply};
 ghost use Rattle.live_desk.specs.Standing.{standing_of};
 ghost use Rattle.live_intake.specs.Intake.{Intakes};
 ghost use Rattle.live_session.specs.Sides.{IsFresh};
@@ -101,6 +102,7 @@ fn work_counted<L: Ledger, R: Wait, D: Source, P: Sink>(
     ensures seen { StartsWith (seen_by seat.new) (seen_by seat.old) }
     ensures desk { HasDeskCause result (D.faults (source_of reader.old)) (D.faults (source_of reader.new)) }
     ensures replies { HasRepliesCause result (P.faults replies.old) (P.faults replies.new) }
+    ensures handed { HandsOn (fails_to_reply result) P.written P.handed replies.old replies.new }
     ensures missed { D.missed (source_of reader.new) ≡ D.missed (source_of reader.old) }
     ensures borrow { D.borrow (source_of reader.new) ≡ D.borrow (source_of reader.old) }
 {
@@ -142,6 +144,7 @@ pub(crate) fn run_desk<R: Wait, D: Source, P: Sink>(
     ensures seen { StartsWith (seen_by seat.new) (seen_by seat.old) }
     ensures desk { HasDeskCause result (D.faults (source_of reader.old)) (D.faults (source_of reader.new)) }
     ensures replies { HasRepliesCause result (P.faults replies.old) (P.faults replies.new) }
+    ensures handed { HandsOn (fails_to_reply result) P.written P.handed replies.old replies.new }
     ensures missed { D.missed (source_of reader.new) ≡ D.missed (source_of reader.old) }
     ensures borrow { D.borrow (source_of reader.new) ≡ D.borrow (source_of reader.old) }
 {

@@ -8,7 +8,7 @@ use Rattle.mib_model.specs.Packets.{IsCut}
 use Rattle.mib_model.specs.declared.code.Input.TheVariants as input
 use Rattle.mib_model.specs.declared.fault.MibFault.{MibFault}
 use Rattle.mib_model.specs.Summaries.{summary}
-use Rattle.session.specs.Causes.{Failed}
+use Rattle.tm_io.specs.Causes.{HasRisen}
 use Rattle.session.specs.Sources.{Files}
 use Rattle.std.specs.Io.KnownBytes.{Appends}
 use Rattle.mibtm_tool.specs.Objects.{ShelfView, SinkView, Took}
@@ -18,7 +18,7 @@ use Rattle.mibtm_tool.specs.Statement.{Checked, Decoded, Drilled, Printed, RanBy
 use Rattle.mibtm_tool.specs.Tool.{Completes, CompletesCheck, CompletesDrill, IsUnfailed, PrintsWhole, PrintsCut, PrintsMost}
 
 -- a count that stays as it was, below its end, didn't rise
-pub not_failed : (before now : ℕ) → IsUnfailed before now → Failed before now → ⊥
+pub not_failed : (before now : ℕ) → IsUnfailed before now → HasRisen before now → ⊥
 not_failed before now still failed = omega (arith, still.same, still.more, failed.1)
 
 -- all that was read is all that there was
@@ -29,13 +29,13 @@ whole-cut octets read left rest packets whole end cut = rw (whole ∙ ap (λ l. 
 ok-completes : (db : Database) (octets : List ℕ) (left old new : Option (List ℕ)) → Ran EndsWhole db (Some octets) left old new → PrintsWhole db octets old new
 ok-completes db octets None old new ran = absurd ran
 ok-completes db octets (Some left) old new (read, packets, rest, whole, cut, (none, end, few, wrote)) =
-    (packets, rw none at (whole-cut octets read left rest packets whole end cut), wrote)
+    (packets, rw none at (whole-cut octets read left rest packets whole end cut), few, wrote)
 
 cut-completes : (db : Database) (octets : List ℕ) (count : ℕ) (left old new : Option (List ℕ)) → Ran (EndsCut count) db (Some octets) left old new
     → PrintsCut count db octets old new
 cut-completes db octets count None old new ran = absurd ran
 cut-completes db octets count (Some left) old new (read, packets, rest, whole, cut, (size, some, end, few, wrote)) =
-    (packets, rest, whole-cut octets read left rest packets whole end cut, size, some, wrote)
+    (packets, rest, whole-cut octets read left rest packets whole end cut, size, some, few, wrote)
 
 limit-completes : (db : Database) (octets : List ℕ) (left old new : Option (List ℕ)) → Ran EndsAtLimit db (Some octets) left old new
     → PrintsMost db octets old new

@@ -6,3 +6,5 @@ pub mod DrillSteps
 pub mod PrintSteps
 pub mod LiveSteps
 pub mod LiveCompleteness
+pub mod LiveRefusals
+pub mod Decided

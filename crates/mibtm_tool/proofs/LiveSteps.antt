@@ -1,5 +1,6 @@
 -- What a live run says of its objects, from what its part behind the feed says of them.
-use Rattle.std.proofs.Common.{◌≡◌, ℕ, Bool, true, false, List, Option, Some, None, Ok, IfSome, IsOkAnd, IsSomeAnd, is_some, ap, ◌∙◌, subst}
+use Rattle.std.proofs.Common.{◌≡◌, ℕ, Bool, true, false, List, Option, Some, None, Ok, IfSome, IsOkAnd, IsSomeAnd, is_some, ap, refl, ◌∙◌, subst}
+use Rattle.std.specs.Prelude.{⊤}
 use Rattle.mib_model.specs.declared.code.Code.{Code}
 use Rattle.mib_model.specs.declared.code.Code.TheVariants as code
 use Rattle.mib_model.specs.declared.code.Input.TheVariants as input
@@ -10,9 +11,14 @@ use Rattle.live_session.specs.Live.{Lives, object}
 use Rattle.mibtm_tool.proofs.DecodeSteps.{fed}
 use Rattle.mibtm_tool.proofs.StatementSteps.{each_told, missing_decoded}
 use Rattle.mibtm_tool.specs.Live.{LivedBeside, RanBeside}
-use Rattle.mibtm_tool.specs.Statement.{LivedBy, StoppedBeside, Unopened, Lived, names, shelves, opened, written_to, Decoded, OfFile}
+use Rattle.mibtm_tool.specs.Statement.{LivedBy, StoppedBeside, Unopened, Lived, names, shelves, from, written_to, Decoded, OfFile}
 use Rattle.mibtm_tool.specs.Objects.{ShelfView, SinkView, HasStood, IsUncalled, IsUnwritten, shelf}
 use Rattle.mibtm_tool.specs.Sources.{sound_in}
+
+-- what a shelf has left that was turned to a file is that file, where it tells it
+stood_at : (holds : Option Files) (name : List ℕ) (held : Bool) (start : Option (List ℕ)) → held ≡ true → IfSome holds (λ files. held ≡ is_some (files name))
+    → IfSome holds (λ files. IfSome (files name) (λ octets. start ≡ Some octets)) → IfSome holds (λ files. IsSomeAnd (files name) (λ octets. start ≡ Some octets))
+stood_at holds name held start is told left = fed (λ at. start ≡ at) holds name held start is told left refl
 
 module _ {T F D O P : Type 0} (folder name desk_name : List ℕ) (tables : ShelfView T) (before mid now : F) (holds : F → Option Files)
     (left : F → Option (List ℕ)) (faults missed : F → ℕ) (desk : ShelfView D) (out : SinkView O) (replies : SinkView P) (db : Database) (held : Bool)
@@ -36,7 +42,7 @@ module _ {T F D O P : Type 0} (folder name desk_name : List ℕ) (tables : Shelf
   stopped : (c : Code) → StoppedBeside c desk_name behind desk → Unopened c (names folder name desk_name) (shelves tables feed desk)
   stopped (code.NoFile input.Desk) (uncalled, same_desk, none) =
       (stood, ap faults uncalled ∙ same, same_desk, by_tables (λ d start. OfFile desk desk_name (λ found. found ≡ None)) none)
-  stopped code.DeskFault (uncalled, missing) = (stood, ap faults uncalled ∙ same, missing)
+  stopped code.DeskFault (uncalled, missing) = (stood, ap faults uncalled ∙ same, missing, by_tables (λ d start. ⊤) tt)
   stopped code.Want (uncalled, same_desk) = (stood, ap faults uncalled ∙ same, same_desk)
   stopped code.Ok said = absurd said
   stopped (code.Usage misuse) said = absurd said
@@ -49,12 +55,6 @@ module _ {T F D O P : Type 0} (folder name desk_name : List ℕ) (tables : Shelf
   stopped code.ReplyFault said = absurd said
   stopped code.Limit said = absurd said
 
-  abbrev LivesFrom : Code → RegisterHistory → ℕ → Database → Option (List ℕ) → Type 0
-  LivesFrom c history count d start =
-      OfFile desk desk_name
-      (λ found. IsSomeAnd found
-      (λ script. Lives c d history (object start (left now) count (faults now)) (opened desk script) (written_to out) (written_to replies)))
-
   ran : (c : Code) (history : RegisterHistory) → RanBeside c history db desk_name behind desk out replies
       → Lived c history (names folder name desk_name) (shelves tables feed desk) out replies
   ran c history said = record {
@@ -62,7 +62,14 @@ module _ {T F D O P : Type 0} (folder name desk_name : List ℕ) (tables : Shelf
     feed_turned = said.feed_turned ∙ turned;
     desk_turned = said.desk_turned;
     handed = said.handed;
-    lives = by_tables (LivesFrom c history (faults before)) (subst (λ count. LivesFrom c history count db (left mid)) same said.lives);
+    replied = said.replied;
+    first = db;
+    octets = left mid;
+    lines = said.lines;
+    of_tables = read;
+    of_feed = stood_at (holds before) name held (left mid) is told starts;
+    of_desk = said.of_desk;
+    lives = subst (λ count. Lives c db history (object (left mid) (left now) count (faults now)) (from desk said.lines) (written_to out) (written_to replies)) same said.lives;
   }
 
   pub lived : (c : Code) (closed : Option RegisterHistory) → LivedBeside c closed db desk_name behind desk out replies

@@ -7,9 +7,9 @@ use Rattle.mibtm_tool.specs.declared.load.Refusal.TheVariants as refusal
 use Rattle.decode_session.specs.declared.ending.Stop.{Stop}
 use Rattle.decode_session.specs.declared.ending.Stop.TheVariants as stop
 use Rattle.decode_session.specs.declared.ending.RunEnd.{RunEnd}
-use Rattle.decode_session.specs.declared.ending.RunEnd.TheVariants as end
 use Rattle.decode_session.specs.declared.ending.RunFault.{RunFault}
 use Rattle.decode_session.specs.declared.ending.RunFault.TheVariants as fault
+use Rattle.live_session.specs.Codes.{code_of_end}
 
 -- the code of a refusal
 abbrev pub code_of_refusal : Refusal → Code
@@ -21,12 +21,6 @@ code_of_refusal refusal.Memory = code.Want
 abbrev pub code_of_stop : Stop → Code
 code_of_stop stop.Memory = code.Want
 code_of_stop stop.Out = code.OutFault
-
--- the code of a run's end
-abbrev pub code_of_end : RunEnd → Code
-code_of_end end.Whole = code.Ok
-code_of_end (end.Cut count) = code.Cut count
-code_of_end end.Limit = code.Limit
 
 -- the code of a run's fault
 abbrev pub code_of_fault : RunFault → Code

@@ -1,7 +1,7 @@
 -- What the objects of a call show before it and behind it.
 use Rattle.std.specs.Prelude.{◌≡◌, ℕ, List, [], Option}
 use Rattle.std.specs.Io.KnownBytes.{Appends}
-use Rattle.session.specs.Causes.{Failed}
+use Rattle.tm_io.specs.Causes.{HasRisen}
 use Rattle.session.specs.Sources.{Files}
 
 -- a shelf: the files that it holds, what is left of the open one, how often it failed, and how often it failed to turn to a file
@@ -35,7 +35,7 @@ HasStood s = s.faults s.now ≡ s.faults s.before
 
 -- the shelf failed
 abbrev pub HasFailed : {S : Type 0} → ShelfView S → Type 0
-HasFailed s = Failed (s.faults s.before) (s.faults s.now)
+HasFailed s = HasRisen (s.faults s.before) (s.faults s.now)
 
 -- the shelf is as it was
 abbrev pub IsUncalled : {S : Type 0} → ShelfView S → Type 0
@@ -47,7 +47,7 @@ IsUnwritten o = o.now ≡ o.before
 
 -- the sink failed
 abbrev pub HasBroken : {O : Type 0} → SinkView O → Type 0
-HasBroken o = Failed (o.faults o.before) (o.faults o.now)
+HasBroken o = HasRisen (o.faults o.before) (o.faults o.now)
 
 -- this is said of the octets that the sink was given before and now
 abbrev pub Took : {O : Type 0} → SinkView O → (Option (List ℕ) → Option (List ℕ) → Type 0) → Type 0

@@ -1,6 +1,6 @@
 -- Why the tables of a folder are not to be had. [This profile.]
 use Rattle.std.specs.Prelude.{◌≡◌, ℕ, Result, Err, ⊤}
-use Rattle.session.specs.Causes.{Failed}
+use Rattle.tm_io.specs.Causes.{HasRisen}
 use Rattle.session.specs.declared.load_fault.LoadFault.{LoadFault}
 use Rattle.session.specs.declared.load_fault.LoadFault.TheVariants as loads
 use Rattle.edition.specs.declared.fault.SaveFault.{SaveFault}
@@ -36,5 +36,5 @@ Refuses refusal.Memory read = ⊤
 -- the count of the tables rose where they couldn't be read, and else stands
 abbrev pub HasRefusalCause : Refusal → ℕ → ℕ → Type 0
 HasRefusalCause (refusal.Mib fault) before now = now ≡ before
-HasRefusalCause refusal.Failed before now = Failed before now
+HasRefusalCause refusal.Failed before now = HasRisen before now
 HasRefusalCause refusal.Memory before now = now ≡ before

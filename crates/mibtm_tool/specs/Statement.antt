@@ -1,5 +1,5 @@
 -- The statement of `tool`: what a call shows of the objects that it is handed, by the status that it answers. [This profile.]
-use Rattle.std.specs.Prelude.{◌≡◌, ◌≢◌, ◌≤◌, ◌⊎◌, ℕ, List, Option, Some, None, Result, Err, IfSome, IsOkAnd, IsSomeAnd}
+use Rattle.std.specs.Prelude.{◌≡◌, ◌≢◌, ◌≤◌, ◌⊎◌, ℕ, List, Option, Some, None, Result, Ok, Err, IfSome, IsOkAnd, IsSomeAnd, ⊤}
 use Rattle.std.specs.Io.KnownBytes.{Appends}
 use Rattle.tm_io.specs.Octets.{AppendsPrefix}
 use Rattle.mib_model.specs.declared.code.Code.{Code}
@@ -9,8 +9,11 @@ use Rattle.mib_model.specs.declared.database.Database.{Database}
 use Rattle.mib_model.specs.declared.fault.MibFault.{MibFault}
 use Rattle.mib_model.specs.RegisterHistories.{RegisterHistory}
 use Rattle.mib_model.specs.Summaries.{summary}
-use Rattle.live_session.specs.Live.{Object, object, Lives}
-use Rattle.session.specs.Causes.{Failed}
+use Rattle.edition_register.specs.declared.outcome.Closed.{Closed}
+use Rattle.live_session.specs.Live.{EndsAs, Object, object, Lives, StaysHandedOn}
+use Rattle.mib_model.specs.declared.meaning.MadeFor as MadeFor
+use Rattle.mib_model.specs.declared.meaning.Rows as Rows
+use Rattle.tm_io.specs.Causes.{HasRisen}
 use Rattle.mibtm_tool.specs.Drill.{drill_summary}
 use Rattle.mibtm_tool.specs.Objects.{ShelfView, SinkView, HasStood, HasFailed, IsUncalled, IsUnwritten, HasBroken, Took, IsHandedOn, TookNothing}
 use Rattle.session.specs.Sources.{Files}
@@ -44,7 +47,7 @@ Printed says folder name tables feed out =
 
 -- the turn to the feed failed, and nothing was written
 abbrev pub MissedFeed : {F O : Type 0} → ShelfView F → SinkView O → Type 0
-MissedFeed feed out = Failed (feed.missed feed.before) (feed.missed feed.now) × TookNothing out
+MissedFeed feed out = HasRisen (feed.missed feed.before) (feed.missed feed.now) × TookNothing out
 
 -- what each status of `check` says, in the order of the statuses; no other comes
 abbrev pub Checked : {T O : Type 0} → Code → List ℕ → ShelfView T → SinkView O → Type 0
@@ -111,9 +114,13 @@ pub record Shelves (T F D : Type 0) : Type 0 where
 abbrev pub shelves : {T F D : Type 0} → ShelfView T → ShelfView F → ShelfView D → Shelves T F D
 shelves tables feed desk = record { tables = tables; feed = feed; desk = desk }
 
+-- a shelf that had this left as a run opened, where it tells that
+abbrev pub from : {S : Type 0} → ShelfView S → Option (List ℕ) → Object
+from s start = object start (s.left s.now) (s.faults s.before) (s.faults s.now)
+
 -- a shelf that stands at the start of a file of these octets as a run opens
 abbrev pub opened : {S : Type 0} → ShelfView S → List ℕ → Object
-opened s octets = object (Some octets) (s.left s.now) (s.faults s.before) (s.faults s.now)
+opened s octets = from s (Some octets)
 
 -- a shelf that a run reads from where it stands
 abbrev pub read_of : {S : Type 0} → ShelfView S → Object
@@ -127,24 +134,31 @@ written_to o = object (o.written o.before) (o.written o.now) (o.faults o.before)
 abbrev pub HasTurned : {S : Type 0} → ShelfView S → Type 0
 HasTurned s = s.missed s.now ≡ s.missed s.before
 
--- the tables are sound, feed and desk are held, and this is said of the database and of the octets of both
-abbrev pub Opens : {T F D : Type 0} → Names → Shelves T F D → (Database → List ℕ → List ℕ → Type 0) → Type 0
-Opens names s says =
-    ByTables s.tables (λ files. sound_in files names.folder)
-    (λ db. OfFile s.feed names.feed (λ feed. IsSomeAnd feed (λ octets. OfFile s.desk names.desk (λ desk. IsSomeAnd desk (says db octets)))))
+-- where the shelf tells, the file of that name is held, and this is what it had left as a run opened
+abbrev pub StoodAt : {S : Type 0} → ShelfView S → List ℕ → Option (List ℕ) → Type 0
+StoodAt s name start = OfFile s name (λ found. IsSomeAnd found (λ octets. start ≡ Some octets))
 
--- a live run with this history left its objects so; the code and what it printed and replied are those of the definitions
+-- a live run with this history left its objects so; the code and what it printed and replied are those of the definitions. It began with
+-- one edition and with what feed and desk had left: those of the folder and of the files, where the shelves tell them. The code and the
+-- counts of faults are tied to that run in any case
 pub record Lived {T F D O P : Type 0} (c : Code) (history : RegisterHistory) (names : Names) (s : Shelves T F D)
     (out : SinkView O) (replies : SinkView P) : Type 0 where
   pub tables_stood : HasStood s.tables
   pub feed_turned : HasTurned s.feed
   pub desk_turned : HasTurned s.desk
   pub handed : c ≢ code.OutFault → out.handed out.before ≡ out.written out.before → out.handed out.now ≡ out.written out.now
-  pub lives : Opens names s (λ db octets script. Lives c db history (opened s.feed octets) (opened s.desk script) (written_to out) (written_to replies))
+  pub replied : StaysHandedOn (replies.faults replies.before) (replies.faults replies.now) replies.written replies.handed replies.before replies.now
+  pub first : Database
+  pub octets : Option (List ℕ)
+  pub lines : Option (List ℕ)
+  pub of_tables : IfSome (s.tables.holds s.tables.before) (λ files. sound_in files names.folder ≡ Ok first)
+  pub of_feed : StoodAt s.feed names.feed octets
+  pub of_desk : StoodAt s.desk names.desk lines
+  pub lives : Lives c first history (from s.feed octets) (from s.desk lines) (written_to out) (written_to replies)
 
 -- a turn to a file failed
 abbrev pub HasMissed : {S : Type 0} → ShelfView S → Type 0
-HasMissed s = HasFailed s × Failed (s.missed s.before) (s.missed s.now)
+HasMissed s = HasFailed s × HasRisen (s.missed s.before) (s.missed s.now)
 
 -- the tables are sound, and this is said of the feed's file
 abbrev pub FeedIs : {T F D : Type 0} → Names → Shelves T F D → (Option (List ℕ) → Type 0) → Type 0
@@ -161,8 +175,8 @@ Unopened (code.BadMib fault) names s =
 Unopened (code.NoFile input.Feed) names s = HasStood s.tables × HasStood s.feed × IsUncalled s.desk × FeedIs names s (λ feed. feed ≡ None)
 Unopened (code.NoFile input.Desk) names s = HasStood s.tables × HasStood s.feed × HasStood s.desk × DeskIs names s (λ desk. desk ≡ None)
 Unopened code.TablesFault names s = HasFailed s.tables × IsUncalled s.feed × IsUncalled s.desk
-Unopened code.FeedFault names s = HasStood s.tables × HasMissed s.feed × IsUncalled s.desk
-Unopened code.DeskFault names s = HasStood s.tables × HasStood s.feed × HasMissed s.desk
+Unopened code.FeedFault names s = HasStood s.tables × HasMissed s.feed × IsUncalled s.desk × ByTables s.tables (λ files. sound_in files names.folder) (λ db. ⊤)
+Unopened code.DeskFault names s = HasStood s.tables × HasStood s.feed × HasMissed s.desk × FeedIs names s (λ feed. IsSomeAnd feed (λ octets. ⊤))
 Unopened code.Want names s = HasStood s.tables × HasStood s.feed × HasStood s.desk
 Unopened other names s = ⊥
 
@@ -170,6 +184,11 @@ Unopened other names s = ⊥
 abbrev pub LivedBy : {T F D O P : Type 0} → Code → Option RegisterHistory → Names → Shelves T F D → SinkView O → SinkView P → Type 0
 LivedBy c None names s out replies = Unopened c names s × IsUnwritten out × IsUnwritten replies
 LivedBy c (Some history) names s out replies = Lived c history names s out replies
+
+module _ {E B : Type 0} {rows : Rows.Ghosts E} {boards : MadeFor.Ghosts B} where
+  -- what a closed register tells beside its history is what that comes to, from whichever edition it began with
+  abbrev pub TellsItsEnd : Option (Closed E B rows boards) → Type 0
+  TellsItsEnd closed = IfSome closed (λ told. (first : Database) × EndsAs first told)
 
 -- what each status says of the part behind the tables and the feed, where that didn't open; no other comes
 abbrev pub StoppedBeside : {F D : Type 0} → Code → List ℕ → ShelfView F → ShelfView D → Type 0

@@ -13,15 +13,17 @@ use Rattle.mibtm_tool.specs.Drill.{drill_summary}
 use Rattle.mibtm_tool.specs.Objects.{ShelfView, SinkView, Took}
 use Rattle.decode_session.specs.Run.{Writes, most_packets}
 
--- the feed is cut into packets and nothing else, which were printed
+-- the feed is cut into packets, fewer than the most, and nothing else; they were printed
 abbrev pub PrintsWhole : Database → List ℕ → Option (List ℕ) → Option (List ℕ) → Type 0
-PrintsWhole db octets old new = (packets : List (List ℕ)) × IsCut octets packets [] × Writes db packets [] old new
+PrintsWhole db octets old new =
+    (packets : List (List ℕ)) × IsCut octets packets [] × (length packets < most_packets) × Writes db packets [] old new
 
--- the feed is cut into packets and a rest of so many octets, which were printed
+-- the feed is cut into packets, fewer than the most, and a rest of so many octets; they were printed
 abbrev pub PrintsCut : ℕ → Database → List ℕ → Option (List ℕ) → Option (List ℕ) → Type 0
 PrintsCut count db octets old new =
     (packets : List (List ℕ)) × (rest : List ℕ)
-    × IsCut octets packets rest × (length rest ≡ count) × (0 < count) × Writes db packets (cut_text count) old new
+    × IsCut octets packets rest × (length rest ≡ count) × (0 < count)
+    × (length packets < most_packets) × Writes db packets (cut_text count) old new
 
 -- the feed begins with the most packets, which were printed
 abbrev pub PrintsMost : Database → List ℕ → Option (List ℕ) → Option (List ℕ) → Type 0

@@ -1,6 +1,7 @@
 // The code that each answer inside a call is.
 ghost use Rattle.std.specs.Prelude.{◌≡◌};
-ghost use Rattle.mibtm_tool.specs.Codes.{code_of_end, code_of_refusal, code_of_run, code_of_stop};
+ghost use Rattle.mibtm_tool.specs.Codes.{code_of_refusal, code_of_run, code_of_stop};
+ghost use Rattle.live_session.specs.Codes.{code_of_end};
 
 use crate::load::Refusal;
 use decode_session::{RunEnd, RunFault, Stop};

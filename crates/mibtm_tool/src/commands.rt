@@ -1,11 +1,12 @@
-ghost use Rattle.std.specs.Prelude.{◌≡◌, ◌⊎◌, ℕ, List, Option, Some, None, Ok, map, string_bytes, option_map, IfErr};
+ghost use Rattle.std.specs.Prelude.{◌≡◌, ◌⊎◌, ℕ, List, Option, Some, None, Ok, Err, map, string_bytes, option_map, IfErr};
 ghost use Rattle.edition_register.specs.Seats.{history_of};
 ghost use Rattle.mib_model.specs.Words.{command_of};
 ghost use Rattle.mib_model.specs.declared.database.Database.{Database};
 ghost use Rattle.mibtm_tool.specs.Inputs.{IfCheck, IfDecode, IfDrill, IfLive, UnlessLive};
 ghost use Rattle.mib_model.specs.RegisterHistories.{RegisterHistory};
-ghost use Rattle.mibtm_tool.specs.Live.{AreFound, AreSteady, CompletesLive, HoldFiles};
-ghost use Rattle.mibtm_tool.specs.Statement.{LivedBy, Names, Shelves, names, shelves, Checked, Decoded, Drilled};
+ghost use Rattle.mibtm_tool.specs.Live.{AreFound, AreSteady, CompletesLive, HoldFiles, RefusesLive, ScriptDecides};
+ghost use Rattle.mib_model.specs.declared.fault.MibFault.{MibFault};
+ghost use Rattle.mibtm_tool.specs.Statement.{LivedBy, Names, Shelves, TellsItsEnd, names, shelves, Checked, Decoded, Drilled};
 ghost use Rattle.mibtm_tool.specs.Objects.{ShelfView, SinkView, shelf, sink};
 ghost use Rattle.mibtm_tool.specs.Sources.{sound_in};
 ghost use Rattle.mibtm_tool.specs.Tool.{Completes, CompletesCheck, CompletesDrill, Held, IsSteady, IsSteadySink};
@@ -18,7 +19,7 @@ use crate::live::live;
 use edition::Edition;
 use edition_register::Closed;
 use fold_state::Board;
-use mib_model::Code;
+use mib_model::{Code, Input};
 use std::alloc::Global;
 use std::sync::Wait;
 use std::thread::Threads;
@@ -94,6 +95,8 @@ pub fn tool<
         (sink out.old out.new O.written O.handed O.faults)
         (sink replies.old replies.new R.written R.handed R.faults)) }
 
+    ensures numbers { TellsItsEnd result.closed }
+
     // No other command calls the desk or the replies, or has a register to hand out.
     ensures desk { UnlessLive (command_of (map string_bytes words.now)) (desk.new ≡ desk.old) }
     ensures replies { UnlessLive (command_of (map string_bytes words.now)) (replies.new ≡ replies.old) }
@@ -157,4 +160,29 @@ pub fn living_is_complete<T, F, D, O, P>()
         → (s : Shelves T F D) (out : SinkView O) (replies : SinkView P)
         → HoldFiles s files feeds desks → AreFound files feeds desks words db octets script → AreSteady s out replies
         → LivedBy c closed words s out replies → CompletesLive c closed db octets script s out replies }
+{}
+
+/// Where the tables are refused and reading them doesn't fail, a live run opens nothing and is refused with the same fault, unless memory
+/// runs out, whatever feed and desk are.
+pub fn bad_tables_are_refused<T, F, D, O, P>()
+    ensures { (c : Code) (closed : Option RegisterHistory) (words : Names) (files : Files) (fault : MibFault)
+        → (s : Shelves T F D) (out : SinkView O) (replies : SinkView P)
+        → Held s.tables files → sound_in files words.folder ≡ Err fault → IsSteady s.tables
+        → LivedBy c closed words s out replies → RefusesLive (Code.BadMib fault) c closed }
+{}
+
+/// Where the tables are sound, the feed is not held and neither fails, a live run opens nothing and answers that there is no feed, unless
+/// memory runs out, whatever the desk is.
+pub fn a_missing_feed_is_refused<T, F, D, O, P>()
+    ensures { (c : Code) (closed : Option RegisterHistory) (words : Names) (files feeds : Files) (db : Database)
+        → (s : Shelves T F D) (out : SinkView O) (replies : SinkView P)
+        → Held s.tables files → sound_in files words.folder ≡ Ok db → Held s.feed feeds → feeds words.feed ≡ None
+        → IsSteady s.tables → IsSteady s.feed
+        → LivedBy c closed words s out replies → RefusesLive (Code.NoFile Input.Feed) c closed }
+{}
+
+/// Where the script of a live run ends with its first `go`, the tables, the script and what the feed gives decide the history, the output, the
+/// replies and the code, unless output, desk or replies fail or memory refuses a line.
+pub fn a_script_up_to_its_go_decides()
+    ensures { ScriptDecides }
 {}

@@ -18,6 +18,6 @@ mod load;
 mod print;
 
 pub use commands::{
-    Status, checking_is_complete, decoding_is_complete, drilling_is_complete, living_is_complete,
-    tool,
+    Status, a_missing_feed_is_refused, a_script_up_to_its_go_decides, bad_tables_are_refused,
+    checking_is_complete, decoding_is_complete, drilling_is_complete, living_is_complete, tool,
 };

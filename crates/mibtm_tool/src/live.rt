@@ -2,11 +2,11 @@
 ghost use Rattle.std.specs.Prelude.{◌≡◌, option_map};
 ghost use Rattle.edition_register.specs.Seats.{history_of};
 ghost use Rattle.mibtm_tool.specs.Live.{LivedBeside};
-ghost use Rattle.mibtm_tool.specs.Statement.{LivedBy, names, shelves};
+ghost use Rattle.mibtm_tool.specs.Statement.{LivedBy, TellsItsEnd, names, shelves};
 ghost use Rattle.mibtm_tool.specs.Objects.{shelf, sink};
 
-use crate::load::{folder_edition, let_go};
 use crate::commands::Status;
+use crate::load::{folder_edition, let_go};
 use edition::Edition;
 use live_session::{Lived, live_run};
 use mib_model::{Code, Input};
@@ -27,11 +27,12 @@ fn live_beside<F: Shelf, D: Shelf + Send, O: Sink, P: Sink + Send, X: Threads + 
     out: &mut O,
     replies: &mut P,
 ) -> Status
-    ensures { LivedBeside result.code (option_map history_of result.closed) edition desk_name.now
+    ensures lives { LivedBeside result.code (option_map history_of result.closed) edition desk_name.now
         (shelf feed.old feed.new F.holds F.left F.faults F.missed)
         (shelf desk.old desk.new D.holds D.left D.faults D.missed)
         (sink out.old out.new O.written O.handed O.faults)
         (sink replies.old replies.new P.written P.handed P.faults) }
+    ensures numbers { TellsItsEnd result.closed }
 {
     match desk.aim(desk_name) {
         Ok(true) => (),
@@ -76,12 +77,13 @@ pub(crate) fn live<
     out: &mut O,
     replies: &mut P,
 ) -> Status
-    ensures { LivedBy result.code (option_map history_of result.closed) (names folder.now name.now desk_name.now)
+    ensures lives { LivedBy result.code (option_map history_of result.closed) (names folder.now name.now desk_name.now)
         (shelves (shelf tables.old tables.new T.holds T.left T.faults T.missed)
         (shelf feed.old feed.new F.holds F.left F.faults F.missed)
         (shelf desk.old desk.new D.holds D.left D.faults D.missed))
         (sink out.old out.new O.written O.handed O.faults)
         (sink replies.old replies.new P.written P.handed P.faults) }
+    ensures numbers { TellsItsEnd result.closed }
 {
     let edition = match folder_edition(alloc, folder, tables) {
         Ok(edition) => edition,

@@ -1,4 +1,4 @@
-use Rattle.decode_session.specs.Cells.{stamped_in}
+use Rattle.decode_session.specs.Cells.{stamped_cell}
 use Rattle.decode_session.specs.Finishing.{standing}
 use Rattle.decode_session.proofs.FinishFacts.{comes, stepped-text, stepped-leaves}
 use Rattle.decode_ahead.proofs.finishing.finish_by.Goals as goal
@@ -8,10 +8,10 @@ pub returns-clause-kept : goal.returns-clause-kept
 returns-clause-kept g c e =
     let db = g.P.Structures.tables c.args.plans.now in
     stepped-leaves e db (memory_of c.args.board.now) (memory_of c.finish.new.board) c.args.cell.now _ _
-    (c.finish.ensures.step (standing e db (memory_of c.args.board.now)) (stamped_in e db c.args.cell.now) (comes e db (memory_of c.args.board.now) c.args.cell.now c.packet.result.now c.packet.ensures))
+    (c.finish.ensures.step (standing e db (memory_of c.args.board.now)) (stamped_cell e db c.args.cell.now) (comes e db (memory_of c.args.board.now) c.args.cell.now c.packet.result.now c.packet.ensures))
 
 pub returns-clause-text : goal.returns-clause-text
 returns-clause-text g c e =
     let db = g.P.Structures.tables c.args.plans.now in
     stepped-text e db (memory_of c.args.board.now) (memory_of c.finish.new.board) c.args.cell.now _ _
-    (c.finish.ensures.step (standing e db (memory_of c.args.board.now)) (stamped_in e db c.args.cell.now) (comes e db (memory_of c.args.board.now) c.args.cell.now c.packet.result.now c.packet.ensures))
+    (c.finish.ensures.step (standing e db (memory_of c.args.board.now)) (stamped_cell e db c.args.cell.now) (comes e db (memory_of c.args.board.now) c.args.cell.now c.packet.result.now c.packet.ensures))

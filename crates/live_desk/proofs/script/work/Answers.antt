@@ -15,6 +15,7 @@ loop-go-init g c = record {
   buffer = c.requires.buffer;
   script = refl;
   replies = refl;
+  handed = λ all. all;
   missed = refl;
   borrow = refl;
 }
@@ -42,6 +43,7 @@ loop-go-preserved g c =
       buffer = c.next_line.ensures.buffer;
       script = c.in-Handled.ensures.script ∙ inv.script;
       replies = c.in-Handled.ensures.replies ∙ inv.replies;
+      handed = λ all. c.in-Handled.ensures.handed refl (inv.handed all);
       missed = c.next_line.ensures.missed ∙ inv.missed;
       borrow = c.next_line.ensures.borrow ∙ inv.borrow;
     }

@@ -19,6 +19,7 @@ invariant-loop-go g l = record {
   buffer : length l.buffer ≡ LINE_ROOM;
   script : g.D.Source.faults (source_of l.reader) ≡ g.D.Source.faults (source_of l.initial.reader);
   replies : g.P.Sink.faults l.replies ≡ g.P.Sink.faults l.initial.replies;
+  handed : g.P.Sink.handed l.initial.replies ≡ g.P.Sink.written l.initial.replies → g.P.Sink.handed l.replies ≡ g.P.Sink.written l.replies;
   missed : g.D.Source.missed (source_of l.reader) ≡ g.D.Source.missed (source_of l.initial.reader);
   borrow : g.D.Source.borrow (source_of l.reader) ≡ g.D.Source.borrow (source_of l.initial.reader);
 }

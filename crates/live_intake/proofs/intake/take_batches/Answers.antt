@@ -8,7 +8,7 @@ use Rattle.decode_session.specs.Finishing.{standing}
 use Rattle.edition_register.specs.Seats.{first_of}
 use Rattle.edition_register.specs.Shown.{last_stamped}
 use Rattle.fold_state.specs.Boards.{is_made_for, memory_of}
-use Rattle.live_intake.specs.Intake.{Prints}
+use Rattle.live_intake.specs.Intake.{GoesOn}
 use Rattle.live_intake.specs.Opening.{course_of, turned}
 use Rattle.live_intake.specs.declared.reading.Reading.{Reading}
 use Rattle.live_intake.specs.declared.reading.Reading.TheVariants.{Paused, Opens, Ended}
@@ -73,7 +73,7 @@ returns-in_default-take_stretch-clause-intakes g c =
     (c.in_default-take_stretch.ensures.stops e (inv.last ∙ ap (λ (x : Database). (e, x)) (sym c.deref.ensures))) in
     stops-stretch first s.reading own s.middle after e db memory cells s.all (g.S.Source.faults (source_of c.args.feed.now)) now origin left s.place behind old mid new (omega arith) s.reads s.closes
     (subst (λ (k : ℕ). HasReadingCause s.reading k now) inv.feed s.cause)
-    (subst (λ w. Prints first own (standing e db memory) cells origin left old w) (sym c.hand_on_before_wait.ensures.written) inv.prints) s.part
+    (subst (λ w. GoesOn first own (standing e db memory) cells origin left old w) (sym c.hand_on_before_wait.ensures.written) inv.prints) s.part
 
 pub loop-alloc-smaller-in-Paused : goal.loop-alloc-smaller-in-Paused
 loop-alloc-smaller-in-Paused g c =
@@ -108,9 +108,9 @@ loop-alloc-preserved-in-Paused g c =
       cells = let n = c.take_stretch.ensures.cells in let k = c.in-Ok-take_stretch.ensures.free in let l = inv.cells in omega (arith, held, none, c.take_stretch.new.stock.cells.ok.0);
       names = c.take_stretch.ensures.names ∙ inv.names;
       last = last-on (1, first) (e, db) own after cells T.all left behind inv.last T.fills.0;
-      prints = subst (λ cs. Prints first after (standing e db later) cs origin behind old new) (sym c.in-Ok-take_stretch.ensures.empty)
+      prints = subst (λ cs. GoesOn first after (standing e db later) cs origin behind old new) (sym c.in-Ok-take_stretch.ensures.empty)
           (prints-read first e db memory origin old mid own after cells T.all left behind new later
-          (subst (λ w. Prints first own (standing e db memory) cells origin left old w) (sym c.hand_on_before_wait.ensures.written) inv.prints) T.fills.0 T.printed T.kept);
+          (subst (λ w. GoesOn first own (standing e db memory) cells origin left old w) (sym c.hand_on_before_wait.ensures.written) inv.prints) T.fills.0 T.printed T.kept);
       feed = subst (λ (r : Reading). HasReadingCause r (g.S.Source.faults (source_of c.loop-alloc.feed)) (g.S.Source.faults (source_of c.take_stretch.new.feed))) c.in-Paused.is c.in-Ok-take_stretch.ensures.read ∙ inv.feed;
       missed = c.take_stretch.ensures.missed ∙ inv.missed;
       borrow = c.take_stretch.ensures.borrow ∙ inv.borrow;
@@ -167,11 +167,11 @@ loop-alloc-preserved g c =
       names = c.begin.ensures.board;
       last = last-read (1, first) edition o.shown c.in-Opens.field-0.cell fills.0 after fills.1 behind o.is_read
           ∙ (λ i. (sym is.0 i, sym is.1 i)) ∙ sym (ap (λ (x : Course). (x.edition, x.tables)) course);
-      prints = subst (λ cs. Prints first after (course_of c.begin.new.in_use c.begin.new.board) cs origin behind old last) (sym stand)
-          (subst (λ x. Prints first after x (c.in-Opens.field-0.cell ∷ []) origin behind old last) (sym course)
+      prints = subst (λ cs. GoesOn first after (course_of c.begin.new.in_use c.begin.new.board) cs origin behind old last) (sym stand)
+          (subst (λ x. GoesOn first after x (c.in-Opens.field-0.cell ∷ []) origin behind old last) (sym course)
           (prints-opens first fills.0 after (standing e db later) edition o.shown c.in-Opens.field-0.cell origin fills.1 behind old new last o.same o.is_read
           (prints-read first e db memory origin old mid own fills.0 cells T.all left fills.1 new later
-          (subst (λ w. Prints first own (standing e db memory) cells origin left old w) (sym c.hand_on_before_wait.ensures.written) inv.prints) fills.2 T.printed T.kept)
+          (subst (λ w. GoesOn first own (standing e db memory) cells origin left old w) (sym c.hand_on_before_wait.ensures.written) inv.prints) fills.2 T.printed T.kept)
           c.in-Ok-begin.ensures.all));
       feed = subst (λ (r : Reading). HasReadingCause r (g.S.Source.faults (source_of c.loop-alloc.feed)) (g.S.Source.faults (source_of c.take_stretch.new.feed))) c.in-Opens.is c.in-Ok-take_stretch.ensures.read ∙ inv.feed;
       missed = c.take_stretch.ensures.missed ∙ inv.missed;
@@ -192,7 +192,7 @@ returns-in_default-begin-clause-intakes g c =
     stops-opening first fills.0 after (standing e db later) c.in-Opens.field-0.edition o.shown c.in-Opens.field-0.cell (g.S.Source.faults (source_of c.args.feed.now)) (g.S.Source.faults (source_of c.take_stretch.new.feed))
     origin fills.1 behind old new last (omega arith) (still ∙ inv.feed) o.same o.is_read
     (prints-read first e db memory origin old mid own fills.0 cells T.all left fills.1 new later
-    (subst (λ w. Prints first own (standing e db memory) cells origin left old w) (sym c.hand_on_before_wait.ensures.written) inv.prints) fills.2 T.printed T.kept)
+    (subst (λ w. GoesOn first own (standing e db memory) cells origin left old w) (sym c.hand_on_before_wait.ensures.written) inv.prints) fills.2 T.printed T.kept)
     c.in_default-begin.ensures.part
 
 pub end_as-requires : goal.end_as-requires
@@ -218,5 +218,5 @@ returns-in-Ended-clause-intakes g c =
     ends-as first c.in-Ended.why c.end_as.result after (standing e db later) (g.S.Source.faults (source_of c.args.feed.now)) now
     origin fills.0 behind old new (g.O.Sink.written c.end_as.new.out) fills.3 fills.2 (subst (λ (k : ℕ). HasFillCause c.in-Ended.why k now) inv.feed cause)
     (prints-read first e db memory origin old mid own after cells T.all left fills.0 new later
-    (subst (λ w. Prints first own (standing e db memory) cells origin left old w) (sym c.hand_on_before_wait.ensures.written) inv.prints) fills.1 T.printed T.kept)
+    (subst (λ w. GoesOn first own (standing e db memory) cells origin left old w) (sym c.hand_on_before_wait.ensures.written) inv.prints) fills.1 T.printed T.kept)
     c.end_as.ensures.ends

@@ -6,7 +6,7 @@ use Rattle.edition_register.specs.Seats.{IsSeat, first_of}
 use Rattle.edition_register.specs.Shown.{last_stamped}
 use Rattle.fold_state.specs.Boards.{plan_names}
 use Rattle.histories.specs.History.{StartsWith}
-use Rattle.live_intake.specs.Intake.{Prints}
+use Rattle.live_intake.specs.Intake.{GoesOn}
 use Rattle.live_intake.specs.Opening.{course_of}
 use Rattle.live_intake.proofs.intake.take_batches.Given as goal
 use Rattle.packet_feed.specs.Feed.{source_of}
@@ -23,7 +23,7 @@ invariant-loop-alloc g l = record {
   cells : vec_len l.stock.rooms + vec_len l.stock.cells ≤ vec_capacity l.stock.cells;
   names : l.stock.board.names ≡ plan_names (param_slices (arc_value l.in_use.handle));
   last : last_stamped (1, first_of l.register) (own_moves l.seat) ≡ (l.in_use.edition, arc_value l.in_use.handle);
-  prints : Prints (first_of l.register) (own_moves l.seat) (course_of l.in_use l.stock.board) l.stock.cells.items (g.S.Source.left (source_of l.initial.feed)) (g.S.Source.left (source_of l.feed)) (g.O.Sink.written l.initial.out) (g.O.Sink.written l.out);
+  prints : GoesOn (first_of l.register) (own_moves l.seat) (course_of l.in_use l.stock.board) l.stock.cells.items (g.S.Source.left (source_of l.initial.feed)) (g.S.Source.left (source_of l.feed)) (g.O.Sink.written l.initial.out) (g.O.Sink.written l.out);
   feed : g.S.Source.faults (source_of l.feed) ≡ g.S.Source.faults (source_of l.initial.feed);
   missed : g.S.Source.missed (source_of l.feed) ≡ g.S.Source.missed (source_of l.initial.feed);
   borrow : g.S.Source.borrow (source_of l.feed) ≡ g.S.Source.borrow (source_of l.initial.feed);

@@ -1,7 +1,8 @@
 use Rattle.desk_lines.specs.Reader.{source_of}
 use Rattle.edition_register.specs.Seats.{first_of, history_of}
 use Rattle.live_desk.specs.Standing.{standing_of}
-use Rattle.live_session.proofs.LiveFacts.{lives-of}
+use Rattle.live_desk.specs.DeskEnds.{is_reply_fault}
+use Rattle.live_session.proofs.LiveFacts.{lives-of, unfailed}
 use Rattle.live_session.proofs.live.run_opened.Goals as goal
 use Rattle.turn_cell.specs.Seats.{own_moves, seen_by}
 
@@ -18,3 +19,7 @@ returns-clause-lives g c =
     (g.F.Source.left c.args.feed.now) (g.F.Source.left c.run-ended.new.feed)
     (g.O.Sink.written c.args.out.now) (g.O.Sink.written c.run-ended.new.out)
     c.merged.ensures close.seats close.desk close.seen.0 ran.out ran.intakes ran.desked ran.desk_cause ran.replies
+
+pub returns-clause-replied : goal.returns-clause-replied
+returns-clause-replied g c = λ same more all.
+    c.run-ended.ensures.replied (unfailed (is_reply_fault c.run-ended.result.1) (g.P.Sink.faults c.args.replies.now) (g.P.Sink.faults c.run-ended.new.replies) c.run-ended.ensures.replies same more) all

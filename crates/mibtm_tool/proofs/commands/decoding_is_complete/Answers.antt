@@ -1,5 +1,5 @@
 use Rattle.mibtm_tool.proofs.Completeness.{completes}
-use Rattle.mibtm_tool.proofs.tool.decoding_is_complete.Goals as goal
+use Rattle.mibtm_tool.proofs.commands.decoding_is_complete.Goals as goal
 
 pub returns : goal.returns
 returns g c = completes

@@ -4,8 +4,8 @@ use Rattle.mibtm_tool.proofs.LiveSteps.{lived, missing_lived}
 use Rattle.mibtm_tool.specs.Objects.{shelf, sink}
 use Rattle.mibtm_tool.proofs.live.live.Goals as goal
 
-pub returns-in-Ok-true : goal.returns-in-Ok-true
-returns-in-Ok-true g c =
+pub returns-in-Ok-true-clause-lives : goal.returns-in-Ok-true-clause-lives
+returns-in-Ok-true-clause-lives g c =
     lived c.args.folder.now c.args.name.now c.args.desk_name.now
     (shelf c.args.tables.now c.folder_edition.new.tables g.T.Source.holds g.T.Source.left g.T.Source.faults g.T.Source.missed)
     c.args.feed.now c.aim.new.self c.live_beside.new.feed g.F.Source.holds g.F.Source.left g.F.Source.faults g.F.Source.missed
@@ -14,10 +14,10 @@ returns-in-Ok-true g c =
     (sink c.args.replies.now c.live_beside.new.replies g.P.Sink.written g.P.Sink.handed g.P.Sink.faults)
     c.in-Ok.edition c.in-Ok-true.field-0 c.in-Ok.ensures.ok c.in-Ok.ensures.told c.in-Ok-true.field-0-test
     c.in-Ok-true.ensures.held c.in-Ok-true.ensures.left c.in-Ok-true.ensures.cause.ok c.in-Ok-true.ensures.missed.ok
-    c.live_beside.result.code (option_map history_of c.live_beside.result.closed) c.live_beside.ensures
+    c.live_beside.result.code (option_map history_of c.live_beside.result.closed) c.live_beside.ensures.lives
 
-pub returns-in-Ok-false : goal.returns-in-Ok-false
-returns-in-Ok-false g c =
+pub returns-in-Ok-false-clause-lives : goal.returns-in-Ok-false-clause-lives
+returns-in-Ok-false-clause-lives g c =
     rw (c.unopened-in-Ok-false.ensures.code, c.unopened-in-Ok-false.ensures.closed)
     (missing_lived c.args.folder.now c.args.name.now c.args.desk_name.now
     (shelf c.args.tables.now c.folder_edition.new.tables g.T.Source.holds g.T.Source.left g.T.Source.faults g.T.Source.missed)
