@@ -12,7 +12,7 @@ use tm_io::{MemFile, MemShelf};
 pub(crate) type Change<'a> = (&'a str, &'a [u8]);
 
 // The text of a table.
-fn text(alloc: Global, short: &[u8]) -> Result<Vec<u8>, Fail> {
+pub(crate) fn text(alloc: Global, short: &[u8]) -> Result<Vec<u8>, Fail> {
     let mut text = Vec::new(alloc);
     for octet in short {
         text.push(if *octet == b'|' { b'\t' } else { *octet })?;

@@ -72,7 +72,7 @@ pub(crate) fn sink(alloc: Global, fails: &[u64], most: usize) -> Result<MemSink,
     Ok(MemSink::new(alloc, most, Vec::from_slice(alloc, fails)?)?)
 }
 
-fn words(alloc: Global, words: &[&str]) -> Result<Vec<String>, Fail> {
+pub(crate) fn words(alloc: Global, words: &[&str]) -> Result<Vec<String>, Fail> {
     let mut all = Vec::new(alloc);
     for word in words {
         all.push(String::from_str(alloc, word)?)?;
