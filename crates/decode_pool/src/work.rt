@@ -14,8 +14,8 @@ pub trait Work {
     fn work(&self, cell: &mut Self::Cell)
         ensures { made self.now cell.old cell.new };
 
-    /// The same, done by the worker of this place in a pool, counted from 0: for work whose workers have tools each of its
-    /// own. Work without tools leaves it as it is.
+    /// Makes the cell's result in its place, done by the worker of this place in a pool, counted from 0: for work whose workers
+    /// have tools each of its own. Work without tools leaves it as it is.
     fn work_by(&self, _worker: usize, cell: &mut Self::Cell)
         ensures { made self.now cell.old cell.new }
     {
