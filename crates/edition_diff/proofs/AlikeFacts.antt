@@ -4,7 +4,7 @@ use Rattle.mib_keys.specs.Kept.{AreSameIn}
 use Rattle.mib_model.specs.declared.database.Database.{Database}
 use Rattle.mib_model.specs.Plans.{type_item}
 use Rattle.mib_tables.specs.declared.table_set.TableSet.{TableSet}
-use Rattle.structure_set.specs.Sets.{AreStructuredAlike}
+use Rattle.numbered_plans.specs.Structures.{AreStructuredAlike}
 
 -- what holds anyway holds where there is a value
 pub on-ok : {T E : Type 0} {P : Type 0} (r : Result T E) → P → OnOk r P

@@ -5,7 +5,8 @@ use Rattle.std.proofs.lemmas.List.Elements.{filter-append}
 use Rattle.std.specs.List.{find, list_any}
 use Rattle.edition_plans.specs.Layouts.{is_layout_row, layout_of, layout_slice}
 use Rattle.edition_plans.specs.Params.{param_slices}
-use Rattle.layout_set.specs.Sets as Layouts
+use Rattle.numbered_plans.specs.Layouts as Layouts
+use Rattle.numbered_plans.specs.Numbered as Same
 use Rattle.mib_model.specs.declared.database.Database.{Database}
 use Rattle.mib_model.specs.declared.plan.Plan.{Plan}
 use Rattle.mib_model.specs.declared.plan.PlanName.{PlanName}
@@ -18,8 +19,8 @@ use Rattle.mib_model.specs.Plans.{distinct, has_plan, ident_plan, layout_plan, l
 use Rattle.mib_model.specs.Touched.{has_same_slice, is_touched, same_slice, touched}
 use Rattle.param_set.proofs.PlanFacts.{new-plans-touched}
 use Rattle.param_set.specs.Sharing.{new_names}
-use Rattle.structure_set.proofs.BuildingFacts.{found-all, held-same}
-use Rattle.structure_set.specs.Sets as Structures
+use Rattle.numbered_plans.proofs.StructureFacts.{found-all, held-same}
+use Rattle.numbered_plans.specs.Structures as Structures
 use Rattle.edition_diff.proofs.OrderFacts.{filter-agree, filter-all, filter-filter, filter-map, filter-sorted, map-map, numbers-sorted}
 use Rattle.edition_diff.specs.Diffs.{has_ident, ident_if, keyed_plans, touched_among}
 use Rattle.edition_diff.proofs.NamedPlans.{named-ident, named-layout, named-structure}
@@ -28,7 +29,7 @@ module _ (old new : Database) where
   abbrev is_new : Plan → Bool
   is_new = is_touched (plans old)
 
-  layout-same : (row : PidRow) (o : Option PidRow) → has_same_slice (layout_plan new row) (option_map (layout_plan old) o) ≡ Layouts.has_same (option_map (layout_slice old) o) (layout_slice new row)
+  layout-same : (row : PidRow) (o : Option PidRow) → has_same_slice (layout_plan new row) (option_map (layout_plan old) o) ≡ Same.has_same Layouts.same_layout (option_map (layout_slice old) o) (layout_slice new row)
   layout-same row None = refl
   layout-same row (Some before) = refl
 
@@ -52,7 +53,7 @@ module _ (old new : Database) where
       ∙ ap (map plan.Layout) (numbers-sorted (λ (row : PidRow). row.spid) (filter (Layouts.is_new old new) new.pid))
 
   structure-same : (tpsd : ℕ) (b : Bool) → has_same_slice (structure_plan new tpsd) (option_map (structure_plan old) (cond b (Some tpsd) None))
-      ≡ Structures.has_same (cond b (Some (Structures.structure_slice old (pos tpsd))) None) (Structures.structure_slice new (pos tpsd))
+      ≡ Same.has_same Structures.same_structure (cond b (Some (Structures.structure_slice old (pos tpsd))) None) (Structures.structure_slice new (pos tpsd))
   structure-same tpsd true = refl
   structure-same tpsd false = refl
 
@@ -61,8 +62,8 @@ module _ (old new : Database) where
       let tpsds : List ℕ = map (λ row. row.tpsd) old.vpd in
       ap not
       (ap (has_same_slice (structure_plan new tpsd)) (named-structure old tpsd) ∙ structure-same tpsd (list_any (λ n. nat_eq n tpsd) tpsds)
-      ∙ ap (λ b. Structures.has_same (cond b (Some (Structures.structure_slice old (pos tpsd))) None) (Structures.structure_slice new (pos tpsd))) (sym (held-same old.vpd tpsd))
-      ∙ ap (λ found. Structures.has_same found (Structures.structure_slice new (pos tpsd))) (found-all old (pos tpsd)))
+      ∙ ap (λ b. Same.has_same Structures.same_structure (cond b (Some (Structures.structure_slice old (pos tpsd))) None) (Structures.structure_slice new (pos tpsd))) (sym (held-same old.vpd tpsd))
+      ∙ ap (λ found. Same.has_same Structures.same_structure found (Structures.structure_slice new (pos tpsd))) (found-all old (pos tpsd)))
 
   -- the structures that are touched are those that are new, in the same order
   pub structures-touched : touched_among old (structure_plans new) ≡ map plan.Structure (Structures.new_structures old new)

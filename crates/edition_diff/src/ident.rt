@@ -1,48 +1,15 @@
 // The plan of identification.
 ghost use Rattle.std.specs.Prelude.{◌≡◌, ◌+◌, ◌++◌, not, length, IfOk, IsTrue, OnOk};
 ghost use Rattle.std.specs.Arc.{arc_value};
-ghost use Rattle.std.specs.Cmp.Lexicographic.{pointwise};
 ghost use Rattle.edition_diff.specs.Diffs.{has_ident, ident_if, ident_rows};
-ghost use Rattle.mib_model.specs.SameRows as Same;
 
 use ident_plan::Ident;
-use mib_model::{PicRow, PidRow, Steps};
+use mib_model::Steps;
 use mib_tables::Book;
+use row_sameness::all_same;
 use std::alloc::{AllocError, Global};
 use std::sync::Arc;
 use std::sync::ledger::Ledger;
-
-// Whether two lists of packets are the same.
-#[tactic(auto, unfolding(mib_model::specs::Sameness::same_cells))]
-fn are_packets(old: &[PidRow], new: &[PidRow]) -> bool
-    ensures { result ≡ pointwise Same.same_pid old.now new.now }
-{
-    old == new
-}
-
-// Whether two lists of packets are equal.
-fn same_packets(old: &[PidRow], new: &[PidRow]) -> bool
-    ensures test { result ≡ pointwise Same.same_pid old.now new.now }
-    ensures equal { IsTrue result → old.now ≡ new.now }
-{
-    are_packets(old, new)
-}
-
-// Whether two lists of criteria are the same.
-#[tactic(auto, unfolding(mib_model::specs::Sameness::same_cells))]
-fn are_criteria(old: &[PicRow], new: &[PicRow]) -> bool
-    ensures { result ≡ pointwise Same.same_pic old.now new.now }
-{
-    old == new
-}
-
-// Whether two lists of criteria are equal.
-fn same_criteria(old: &[PicRow], new: &[PicRow]) -> bool
-    ensures test { result ≡ pointwise Same.same_pic old.now new.now }
-    ensures equal { IsTrue result → old.now ≡ new.now }
-{
-    are_criteria(old, new)
-}
 
 // Whether two books have the same rows for the plan of identification.
 #[tactic(auto, unfolding(mib_model::specs::Touched::same_slice))]
@@ -50,7 +17,7 @@ fn same_ident(old: &Book, new: &Book) -> bool
     ensures test { result ≡ has_ident old.now new.now }
     ensures equal { IsTrue result → ident_rows old.now ≡ ident_rows new.now }
 {
-    same_packets(old.pid(), new.pid()) && same_criteria(old.pic(), new.pic())
+    all_same(old.pid(), new.pid()) && all_same(old.pic(), new.pic())
 }
 
 /// The plan of identification of a book, compiled in one step. An error is want of memory.

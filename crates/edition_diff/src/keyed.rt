@@ -4,26 +4,25 @@ ghost use Rattle.std.specs.Option.{option_copied};
 ghost use Rattle.edition_diff.specs.Diffs.{keyed_plans, touched_among};
 ghost use Rattle.edition_plans.specs.Layouts.{layout_of};
 ghost use Rattle.edition_plans.specs.Params.{param_slices};
-ghost use Rattle.layout_set.specs.Sets.{AreLaidAlike, new_layouts};
+ghost use Rattle.numbered_plans.specs.Layouts.{AreLaidAlike, new_layouts};
 ghost use Rattle.mib_keys.specs.Kept.{AreSameIn};
 ghost use Rattle.mib_model.specs.Database.{no_rows};
 ghost use Rattle.mib_model.specs.Plans.{type_item};
 ghost use Rattle.mib_model.specs.Soundness.{IsSound};
 ghost use Rattle.mib_model.specs.declared.limits.TheConstants.{HELD_MOST};
 ghost use Rattle.struct_plan.specs.Slices.{deduced_item, structure_found};
-ghost use Rattle.structure_set.specs.Sets.{new_structures};
+ghost use Rattle.numbered_plans.specs.Structures.{new_structures};
 
 use crate::names::keyed_names;
-use layout_set::{Layout, LayoutSet};
 use mib_keys::same_tables;
 use mib_model::{PcfRow, PlanName, Steps};
 use mib_tables::{Book, TableSet};
+use numbered_plans::{Layout, LayoutSet, Made, Structure, StructureSet, TypeItem};
 use param_plan::Params;
 use param_set::params_with;
 use std::alloc::{AllocError, Global};
 use std::marker::Model;
 use std::sync::ledger::Ledger;
-use structure_set::{Structure, StructureSet, TypeItem};
 use type_items::same_types;
 
 /// The plans of a database's parameters, layouts and structures. Contracts see the database.
@@ -87,7 +86,7 @@ fn layouts_with<L: Ledger>(
     same: TableSet,
     book: &Book,
     steps: &mut Steps<L>,
-) -> Result<layout_set::Made, AllocError>
+) -> Result<Made<LayoutSet>, AllocError>
     requires base { base.now ≡ old.now }
     requires sound { IsSound book.now }
     requires same { AreSameIn same old.now book.now }
@@ -117,7 +116,7 @@ fn structures_with<L: Ledger>(
     same: TableSet,
     book: &Book,
     steps: &mut Steps<L>,
-) -> Result<structure_set::Made, AllocError>
+) -> Result<Made<StructureSet>, AllocError>
     requires base { base.now ≡ old.now }
     requires same { AreSameIn same old.now book.now }
     ensures set { IfOk result (λ made. made.set ≡ book.now) }

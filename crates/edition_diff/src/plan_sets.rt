@@ -15,15 +15,14 @@ use crate::ident::{ident_beside, ident_of};
 use crate::keyed::KeyedPlans;
 use crate::names::add_ident;
 use ident_plan::Ident;
-use layout_set::Layout;
 use mib_model::{PlanName, Steps};
 use mib_tables::{Book, TableSet};
+use numbered_plans::{Layout, Structure, TypeItem};
 use param_plan::Params;
 use std::alloc::{AllocError, Global};
 use std::marker::Model;
 use std::sync::Arc;
 use std::sync::ledger::Ledger;
-use structure_set::{Structure, TypeItem};
 
 /// The plans of a database. Contracts see the database.
 pub struct PlanSets {

@@ -1,5 +1,5 @@
 // The names of rows in which two books differ.
-ghost use Rattle.std.specs.Prelude.{◌≡◌, ◌∷◌, [], List, ℕ, IfOk, IsTrue, OnOk, false, length, true};
+ghost use Rattle.std.specs.Prelude.{◌≡◌, ◌∷◌, [], List, ℕ, IfOk, OnOk, false, length, true};
 ghost use Rattle.std.specs.List.{list_any};
 ghost use Rattle.mib_keys.specs.Kept.{AreSameIn};
 ghost use Rattle.param_set.specs.Changed.{AreChanged, AreCurvesKept, AreRowsKept, Notes, has_name, takes_any};
@@ -9,22 +9,19 @@ use mib_model::{
 };
 use mib_tables::{Book, TableSet};
 use param_plan::ParamRows;
+use row_sameness::{Same, same_row};
 use std::alloc::{AllocError, Global};
 
 /// The most names of changed rows for which rows are looked up one by one.
 const FEW: usize = 32;
 
 // A row that is found by a name.
-trait Named: Copy + Drop {
+trait Named: Same + Copy + Drop {
     ghost name_of: { Self → List ℕ };
 
     // Its name.
     fn name(&self) -> Name
         ensures { result ≡ name_of self.now };
-
-    // Whether it is a row.
-    fn is(&self, other: &Self) -> bool
-        ensures { IsTrue result → self.now ≡ other.now };
 }
 
 impl Named for PcfRow {
@@ -32,10 +29,6 @@ impl Named for PcfRow {
 
     fn name(&self) -> Name {
         self.name
-    }
-
-    fn is(&self, other: &PcfRow) -> bool {
-        self == other
     }
 }
 
@@ -45,10 +38,6 @@ impl Named for CurRow {
     fn name(&self) -> Name {
         self.pname
     }
-
-    fn is(&self, other: &CurRow) -> bool {
-        self == other
-    }
 }
 
 impl Named for OcfRow {
@@ -56,10 +45,6 @@ impl Named for OcfRow {
 
     fn name(&self) -> Name {
         self.name
-    }
-
-    fn is(&self, other: &OcfRow) -> bool {
-        self == other
     }
 }
 
@@ -69,10 +54,6 @@ impl Named for OcpRow {
     fn name(&self) -> Name {
         self.name
     }
-
-    fn is(&self, other: &OcpRow) -> bool {
-        self == other
-    }
 }
 
 impl Named for CafRow {
@@ -80,10 +61,6 @@ impl Named for CafRow {
 
     fn name(&self) -> Name {
         self.numbr
-    }
-
-    fn is(&self, other: &CafRow) -> bool {
-        self == other
     }
 }
 
@@ -93,10 +70,6 @@ impl Named for CapRow {
     fn name(&self) -> Name {
         self.numbr
     }
-
-    fn is(&self, other: &CapRow) -> bool {
-        self == other
-    }
 }
 
 impl Named for TxfRow {
@@ -104,10 +77,6 @@ impl Named for TxfRow {
 
     fn name(&self) -> Name {
         self.numbr
-    }
-
-    fn is(&self, other: &TxfRow) -> bool {
-        self == other
     }
 }
 
@@ -117,10 +86,6 @@ impl Named for TxpRow {
     fn name(&self) -> Name {
         self.numbr
     }
-
-    fn is(&self, other: &TxpRow) -> bool {
-        self == other
-    }
 }
 
 impl Named for McfRow {
@@ -128,10 +93,6 @@ impl Named for McfRow {
 
     fn name(&self) -> Name {
         self.ident
-    }
-
-    fn is(&self, other: &McfRow) -> bool {
-        self == other
     }
 }
 
@@ -141,17 +102,13 @@ impl Named for LgfRow {
     fn name(&self) -> Name {
         self.ident
     }
-
-    fn is(&self, other: &LgfRow) -> bool {
-        self == other
-    }
 }
 
 // Notes the names of two rows where they differ.
 fn note_pair<R: Named>(names: &mut Vec<Name>, old: &R, new: &R) -> Result<(), AllocError>
     ensures { OnOk result (Notes R.name_of names.old.items names.new.items (old.now ∷ []) (new.now ∷ [])) }
 {
-    if old.is(new) {
+    if same_row(old, new) {
         return Ok(());
     }
     names.push(old.name())?;

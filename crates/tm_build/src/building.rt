@@ -67,7 +67,8 @@ fn pack(
     into: &mut [u8],
 ) -> Result<u32, BuildFault>
     requires { length into.old ≡ octets_most }
-    ensures { Builds result (Spec.with_length writes.items (Spec.packet_size row.now writes.items)) into.new }
+    ensures built { Builds result (Spec.with_length writes.items (Spec.packet_size row.now writes.items)) into.new }
+    ensures few { IfOk result (λ octets. octets ≤ octets_most) }
 {
     let least = (6 + u64::from(row.dfhsize)).max(9);
     let octets = octets_for(least, &writes);
@@ -165,6 +166,7 @@ impl<'a> Builder<'a> {
     ) -> Result<u32, BuildFault>
         requires room { length into.old ≡ octets_most }
         ensures built { Builds result (built_row self.old row.now (option_copied criterion.entry) count items.now) into.new }
+        ensures few { IfOk result (λ octets. octets ≤ octets_most) }
         ensures kept { self.new ≡ self.old }
     {
         let used = match lay_items(&self.tables, row, items, &mut self.slots) {
@@ -190,6 +192,7 @@ impl<'a> Builder<'a> {
         requires count { count < 2 ^ 14 }
         requires room { length into.old ≡ octets_most }
         ensures built { Builds result (built self.old spid count items.now) into.new }
+        ensures few { IfOk result (λ octets. octets ≤ octets_most) }
         ensures kept { self.new ≡ self.old }
     {
         let Some(row) = self.tables.packet(spid).copied() else {
@@ -218,7 +221,8 @@ pub fn build(
     requires sound { IsSound book.now }
     requires count { count < 2 ^ 14 }
     requires room { length into.old ≡ octets_most }
-    ensures { Builds result (built book.now spid count items.now) into.new }
+    ensures built { Builds result (built book.now spid count items.now) into.new }
+    ensures few { IfOk result (λ octets. octets ≤ octets_most) }
 {
     match Builder::new(alloc, book) {
         Ok(mut builder) => builder.build(spid, count, items, into),

@@ -9,12 +9,12 @@ use crate::keys::{ByName, ByPacket, BySpid};
 use first_rows::FirstRows;
 use mib_model::{PicRow, PidRow, PlfRow, Steps};
 use mib_tables::Book;
+use numbered_plans::StructureSet;
 use row_groups::RowGroups;
 use std::alloc::{AllocError, Global};
 use std::marker::{Brand, Model};
 use std::sync::ledger::{Blank, Ledger};
 use struct_plan::{Structure, Structures, TypeItem};
-use structure_set::StructureSet;
 
 /// The tables of a sound database by which packets are built, each row found by its key. Contracts see the database.
 pub struct PacketTables<'a> {

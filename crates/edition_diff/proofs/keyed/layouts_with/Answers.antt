@@ -1,7 +1,7 @@
 use Rattle.std.proofs.Common.{arith, ap, length, subst, sym}
 use Rattle.edition_diff.proofs.AlikeFacts.{on-ok}
-use Rattle.layout_set.proofs.AlikeFacts.{none-new}
-use Rattle.layout_set.specs.Sets.{AreLaidAlike}
+use Rattle.numbered_plans.proofs.LayoutFacts.{none-new}
+use Rattle.numbered_plans.specs.Layouts.{AreLaidAlike}
 use Rattle.mib_model.specs.declared.database.Database.{Database}
 use Rattle.edition_diff.proofs.keyed.layouts_with.Goals as goal
 

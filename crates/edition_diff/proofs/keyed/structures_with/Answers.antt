@@ -1,6 +1,6 @@
 use Rattle.std.proofs.Common.{arith, ap, length}
 use Rattle.edition_diff.proofs.AlikeFacts.{on-ok, same-parameters, structured-alike}
-use Rattle.structure_set.proofs.AlikeFacts.{none-new}
+use Rattle.numbered_plans.proofs.StructureFacts.{none-new}
 use Rattle.edition_diff.proofs.keyed.structures_with.Goals as goal
 
 pub kept-requires : goal.kept-requires

@@ -3,14 +3,14 @@ use Rattle.std.proofs.lemmas.List.{length-append, length-map}
 use Rattle.edition_diff.proofs.TouchedFacts.{keyed-touched}
 use Rattle.edition_diff.specs.Diffs.{keyed_plans, touched_among}
 use Rattle.edition_plans.specs.Params.{param_slices}
-use Rattle.layout_set.specs.Sets.{new_layouts}
+use Rattle.numbered_plans.specs.Layouts.{new_layouts}
 use Rattle.mib_model.specs.declared.database.Database.{Database}
 use Rattle.mib_model.specs.declared.plan.PlanName.{PlanName}
 use Rattle.mib_model.specs.declared.plan.PlanName.TheVariants as plan
 use Rattle.param_plan.specs.Slices.{ParamSlice}
 use Rattle.param_set.proofs.BesideFacts.{long-names}
 use Rattle.param_set.specs.Sharing.{is_new, new_names}
-use Rattle.structure_set.specs.Sets.{new_structures}
+use Rattle.numbered_plans.specs.Structures.{new_structures}
 use Rattle.edition_diff.proofs.keyed.KeyedPlans.beside.Goals as goal
 
 pub params_with-requires : goal.params_with-requires

@@ -1,6 +1,0 @@
-pub mod RowFacts
-pub mod SoundFacts
-pub mod NumberFacts
-pub mod BuildingFacts
-pub mod AlikeFacts
-pub mod KeptFacts

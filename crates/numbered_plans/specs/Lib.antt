@@ -1,0 +1,5 @@
+pub mod Numbered
+pub mod Layouts
+pub mod Kept
+pub mod Structures
+pub mod Apart

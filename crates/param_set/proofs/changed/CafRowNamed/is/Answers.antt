@@ -1,9 +1,0 @@
-use Rattle.std.proofs.Common.{◌∙◌, refl, sym}
-use Rattle.param_set.proofs.SameFacts.{equal-rows}
-use Rattle.mib_model.specs.CurveTables.{caf, caf_cells, caf_row}
-use Rattle.mib_model.specs.Sameness.{same_cells}
-use Rattle.param_set.proofs.changed.CafRowNamed.is.Goals as goal
-
-pub returns : goal.returns
-unfolding same_cells
-returns c = λ h. equal-rows caf caf_cells caf_row (λ x. refl) c.args.self.now c.args.other.now (sym c.eq.ensures ∙ h)

@@ -1,9 +1,0 @@
-use Rattle.std.proofs.Common.{◌∙◌, rules}
-use Rattle.mib_model.specs.Sameness.{same_cells}
-use Rattle.mib_model.specs.SameRows.{same_cur}
-use Rattle.param_set.proofs.SameFacts.{pointwise-same}
-use Rattle.param_set.proofs.same.same_curs.Goals as goal
-
-pub returns : goal.returns
-unfolding same_cells
-returns c = c.eq.ensures ∙ pointwise-same _ same_cur c.args.old.now c.args.new.now (λ x y. search rules)

@@ -1,4 +1,0 @@
-pub mod RowFacts
-pub mod NumberFacts
-pub mod BuildingFacts
-pub mod AlikeFacts
