@@ -1,0 +1,10 @@
+pub mod KeepsFacts
+pub mod OpeningFacts
+pub mod PipingFacts
+pub mod ReadingFacts
+pub mod StampFacts
+pub mod PrintFacts
+pub mod EndFacts
+pub mod FinishFacts
+pub mod FeedFacts
+pub mod SettleFacts

@@ -1,0 +1,12 @@
+pub mod Drawn
+pub mod Ending
+pub mod Feeding
+pub mod Piping
+pub mod Printing
+pub mod Reading
+pub mod Runs
+pub mod Stamped
+pub mod Stocks
+pub mod Tasks
+pub mod Told
+pub mod Turning

@@ -1,0 +1,17 @@
+ghost use Rattle.std.specs.Prelude.{◌≡◌};
+ghost use Rattle.std.specs.Arc.{arc_value};
+ghost use Rattle.edition_plans.specs.Params.{param_slices};
+ghost use Rattle.fold_state.specs.Boards.{plan_names};
+
+use fold_state::Board;
+use std::sync::Arc;
+use struct_plan::Structures;
+
+/// The edition in use: its number, a handle of it, and a board that was made for its parameters.
+#[derive(Drop)]
+pub struct InUse<P: Structures + Drop> {
+    pub edition: u32,
+    pub handle: Arc<P>,
+    pub board: Board,
+    ghost made: { board.names ≡ plan_names (param_slices (P.tables (arc_value handle))) },
+}

@@ -1,0 +1,82 @@
+//! What a run needs.
+ghost use Rattle.std.specs.Prelude.{◌≡◌, ◌≤◌, IfOk, vec_len};
+
+use crate::ends::ROOMS;
+use crate::job::Task;
+use crate::parts::{Crew, Pipeline};
+use crate::working::Decoding;
+use commit_order::Window;
+use decode_session::Home;
+use edition_plans::Plans;
+use param_plan::Params;
+use record_text::Lines;
+use std::alloc::{AllocError, Global};
+use struct_plan::Structures;
+use work_queue::{Pass, Queue};
+
+/// The most workers of a run.
+const MOST_WORKERS: u8 = 16;
+
+// How often a caller looks whether a worker has begun: for some seconds.
+const PATIENCE: u32 = 1_000_000;
+
+// The room of each queue, and of the window.
+const QUEUE_ROOM: u32 = 64;
+
+/// What a run needs, reserved before it begins: two queues with room for 64 packets each and for the passes of 16 workers, the window,
+/// the page for records, and rooms for 64 packets, whose buffers come from two regions.
+#[derive(Drop)]
+pub struct Stock<P: Structures + Drop> {
+    pub(crate) crew: Crew<P>,
+    pub(crate) pipeline: Pipeline<P>,
+    pub(crate) passes: Vec<Pass<Task<P>>>,
+    home: Home,
+}
+
+impl<P: Plans + Drop> Stock<P> {
+    ghost use Rattle.packet_run.specs.Stocks.{IsDealt, IsFresh, rooms_out};
+
+    /// What a run of so many workers needs, whose first edition has these parameters. An error is want of memory.
+    pub fn new(alloc: Global, params: &Params, workers: u8) -> Result<Stock<P>, AllocError>
+        ensures fresh { IfOk result (λ stock. IsFresh stock) }
+        ensures home { IfOk result (λ stock. rooms_out stock ≡ 0) }
+    {
+        let (jobs, first) = Queue::new(alloc, QUEUE_ROOM as usize)?;
+        let (results, second) = Queue::new(alloc, QUEUE_ROOM as usize)?;
+        let mut home = Home::with_rooms(alloc, ROOMS)?;
+        Ok(Stock {
+            crew: Crew {
+                jobs,
+                results,
+                decoding: Decoding::new(alloc, params, workers)?,
+            },
+            pipeline: Pipeline {
+                first,
+                second,
+                window: Window::new(alloc, QUEUE_ROOM)?,
+                rooms: home.take_rooms(alloc, ROOMS)?,
+                lines: Lines::new(alloc)?,
+                done: 0,
+                read: 0,
+                patience: PATIENCE,
+            },
+            passes: Vec::with_capacity(alloc, 2 * usize::from(MOST_WORKERS))?,
+            home,
+        })
+    }
+
+    // Splits two passes for each of so many workers.
+    pub(crate) fn deal(&mut self, workers: u8)
+        requires workers { workers ≤ MOST_WORKERS }
+        requires fresh { IsFresh self.old }
+        ensures dealt { IsDealt self.new workers }
+        ensures home { vec_len self.new.pipeline.rooms ≡ vec_len self.old.pipeline.rooms }
+    {
+        for _worker in 0..workers {
+            let taken = self.crew.jobs.split(&mut self.pipeline.first);
+            self.passes.push_reserved(taken);
+            let given = self.crew.results.split(&mut self.pipeline.second);
+            self.passes.push_reserved(given);
+        }
+    }
+}
