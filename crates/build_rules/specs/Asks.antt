@@ -52,10 +52,10 @@ asked_of (spid ∷ count ∷ words) =
 unfoldable pub asked_in : List ℕ → Option Asked
 asked_in line = if nat_lt most_octets (length line) then None else asked_of (words_of (strip_carriage_return line))
 
--- the packet that is asked for, or the first fault
+-- the packet that is asked for, or the first fault; a number above 4,294,967,295 is no packet's SPID
 abbrev pub answer_to : Database → Option Asked → Result (List ℕ) BuildFault
 answer_to db None = Err Ask
-answer_to db (Some asked) = built db asked.spid asked.count asked.items
+answer_to db (Some asked) = if nat_lt asked.spid (2 ^ 32) then built db asked.spid asked.count asked.items else Err NoSpid
 
 -- packets one after the other, and the line that ended them with its fault
 abbrev pub Answered : Type 0

@@ -1,0 +1,10 @@
+pub mod LaidFacts
+pub mod GoodFacts
+pub mod WalkedFacts
+pub mod FixedFacts
+pub mod PackedFacts
+pub mod MatchingFacts
+pub mod ApartFacts
+pub mod MatchedFacts
+pub mod OctetFacts
+pub mod BuiltFacts

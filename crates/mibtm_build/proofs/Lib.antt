@@ -1,0 +1,6 @@
+pub mod AnswerFacts
+pub mod GivenFacts
+pub mod OperandFacts
+pub mod RunFacts
+pub mod StopFacts
+pub mod TableFacts

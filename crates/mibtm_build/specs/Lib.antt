@@ -1,0 +1,5 @@
+pub mod Operands
+pub mod Codes
+pub mod Answers
+pub mod Runs
+pub mod Statement
