@@ -12,10 +12,19 @@ use std::alloc::{AllocError, Global};
 use std::marker::Model;
 
 /// The rows of checks and their limits. Contracts see the tables.
-#[derive(Drop)]
 pub struct CheckRows {
     checks: FirstRows<ByCheck>,
     limits: OrderedRows<ByLimit>,
+}
+
+/// By hand, so that whoever lets one go proves one call.
+impl Drop for CheckRows {
+    fn drop(self) {
+        let CheckRows {
+            checks: _checks,
+            limits: _limits,
+        } = self;
+    }
 }
 
 impl Model for CheckRows {

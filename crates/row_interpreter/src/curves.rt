@@ -1,4 +1,4 @@
-ghost use Rattle.std.specs.Prelude.{◌≡◌, filter};
+ghost use Rattle.std.specs.Prelude.{◌≡◌, filter, IfOk};
 ghost use Rattle.std.specs.List.{find};
 ghost use Rattle.std.specs.Option.{option_copied};
 ghost use Rattle.std.specs.Str.{bytes_eq};
@@ -11,10 +11,10 @@ use crate::ordered::OrderedRows;
 use first_rows::FirstRows;
 use mib_model::{CafRow, CapRow, CurRow, LgfRow, McfRow, Name, TxfRow, TxpRow};
 use row_groups::RowGroups;
+use std::alloc::{AllocError, Global};
 use std::marker::Model;
 
 /// The rows of curves and of their selections. Contracts see the tables.
-#[derive(Drop)]
 pub struct CurveRows {
     selections: OrderedRows<BySelection>,
     point_curves: FirstRows<ByPointCurve>,
@@ -23,6 +23,21 @@ pub struct CurveRows {
     texts: RowGroups<ByStatusText>,
     polynomials: FirstRows<ByPolynomial>,
     logarithms: FirstRows<ByLogarithm>,
+}
+
+/// By hand, so that whoever lets one go proves one call.
+impl Drop for CurveRows {
+    fn drop(self) {
+        let CurveRows {
+            selections: _selections,
+            point_curves: _point_curves,
+            points: _points,
+            text_curves: _text_curves,
+            texts: _texts,
+            polynomials: _polynomials,
+            logarithms: _logarithms,
+        } = self;
+    }
 }
 
 impl Model for CurveRows {
@@ -42,6 +57,30 @@ impl Model for CurveRows {
 }
 
 impl CurveRows {
+    /// The rows of cur, caf, cap, txf, txp, mcf and lgf. An error is want of memory.
+    pub fn new(
+        alloc: Global,
+        cur: &[CurRow],
+        caf: &[CafRow],
+        cap: &[CapRow],
+        txf: &[TxfRow],
+        txp: &[TxpRow],
+        mcf: &[McfRow],
+        lgf: &[LgfRow],
+    ) -> Result<CurveRows, AllocError>
+        ensures { IfOk result (λ rows. rows ≡ record { cur = cur.now; caf = caf.now; cap = cap.now; txf = txf.now; txp = txp.now; mcf = mcf.now; lgf = lgf.now }) }
+    {
+        Ok(CurveRows {
+            selections: OrderedRows::new(alloc, cur)?,
+            point_curves: FirstRows::new(alloc, caf)?,
+            points: RowGroups::new(alloc, cap)?,
+            text_curves: FirstRows::new(alloc, txf)?,
+            texts: RowGroups::new(alloc, txp)?,
+            polynomials: FirstRows::new(alloc, mcf)?,
+            logarithms: FirstRows::new(alloc, lgf)?,
+        })
+    }
+
     /// The selections of a parameter, by POS.
     pub fn selections(&self, name: &Name) -> &[CurRow]
         ensures { result.now ≡ sorted_by_number (λ row. row.pos) (filter (λ row. bytes_eq row.pname name.now) self.now.cur) }

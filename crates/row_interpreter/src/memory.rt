@@ -1,4 +1,4 @@
-ghost use Rattle.std.specs.Prelude.{◌≡◌, ℕ, List, OnOk, OnErr};
+ghost use Rattle.std.specs.Prelude.{◌≡◌, OnOk};
 ghost use Rattle.mib_model.specs.Kept as Spec;
 ghost use Rattle.row_interpreter.specs.Memories.{kept_as, memory_of};
 
@@ -8,15 +8,21 @@ use std::alloc::{AllocError, Global};
 use std::collections::HashMap;
 
 /// What is kept of each parameter from packet to packet. Contracts see what is kept of every name, by `memory_of`.
-#[derive(Drop)]
 pub struct Memory {
     kept: HashMap<Name, KeptOf>,
+}
+
+/// By hand, so that whoever lets one go proves one call.
+impl Drop for Memory {
+    fn drop(self) {
+        let Memory { kept: _kept } = self;
+    }
 }
 
 impl Memory {
     /// At the start nothing is kept.
     pub fn new(alloc: Global) -> Memory
-        ensures { (name : List ℕ) → memory_of result name ≡ Spec.nothing_kept }
+        ensures { memory_of result ≡ Spec.empty_memory }
     {
         Memory {
             kept: HashMap::new(alloc),
@@ -40,7 +46,7 @@ impl Memory {
 
     /// Keeps something else of one name. An error is want of memory.
     pub fn keep(&mut self, name: Name, kept: KeptOf) -> Result<(), AllocError>
-        ensures kept { OnOk result ((other : List ℕ) → memory_of self.new other ≡ Spec.keeping (memory_of self.old) name (kept_as kept) other) }
+        ensures kept { OnOk result (memory_of self.new ≡ Spec.keeping (memory_of self.old) name (kept_as kept)) }
     {
         self.kept.insert(name, kept)?;
         Ok(())

@@ -17,10 +17,19 @@ pub trait ByPlace: By {
 }
 
 /// The rows of each key by their places. Contracts see all the rows that it was made of, in the order of their file.
-#[derive(Drop)]
 pub struct OrderedRows<B: ByPlace> {
     groups: RowGroups<B>,
     rows: Seen<B::Row>,
+}
+
+/// By hand, so that whoever lets one go proves one call.
+impl<B: ByPlace> Drop for OrderedRows<B> {
+    fn drop(self) {
+        let OrderedRows {
+            groups: _groups,
+            rows: _rows,
+        } = self;
+    }
 }
 
 impl<B: ByPlace> Model for OrderedRows<B> {

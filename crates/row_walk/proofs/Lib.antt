@@ -1,0 +1,2 @@
+pub mod AheadFacts
+pub mod WalkFacts

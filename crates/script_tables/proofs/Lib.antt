@@ -1,0 +1,3 @@
+mod KeyFacts
+pub mod SavingFacts
+pub mod ScriptFacts
