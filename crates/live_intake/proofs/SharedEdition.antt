@@ -9,7 +9,7 @@ use Rattle.edition.specs.contracts.edition.Edition as Edition
 use Rattle.edition_diff.specs.contracts.keyed.KeyedPlans as KeyedPlans
 use Rattle.edition_diff.specs.contracts.plan_sets.PlanSets as PlanSets
 use Rattle.layout_plan.specs.contracts.layout.Layout as Layout
-use Rattle.layout_set.specs.contracts.set.LayoutSet as LayoutSet
+use Rattle.numbered_plans.specs.contracts.layout_set.LayoutSet as LayoutSet
 use Rattle.mib_model.specs.contracts.rows.CafRow as CafRow
 use Rattle.mib_model.specs.contracts.rows.CapRow as CapRow
 use Rattle.mib_model.specs.contracts.rows.CurRow as CurRow
@@ -29,7 +29,7 @@ use Rattle.mib_model.specs.declared.table_row.TableRow as TableRow
 use Rattle.mib_tables.specs.contracts.book.Book as Book
 use Rattle.mib_tables.specs.contracts.table.Table as Table
 use Rattle.struct_plan.specs.contracts.structure.Structure as Structure
-use Rattle.structure_set.specs.contracts.set.StructureSet as StructureSet
+use Rattle.numbered_plans.specs.contracts.structure_set.StructureSet as StructureSet
 
 -- values of a type may be read by several threads, and may go to another
 record Crosses (T : RattleType) : Type 0 where

@@ -1,16 +1,20 @@
 //! The monitoring half of a spacecraft control system in the manner of SCOS-2000, as a program: `main` hands the words of its
-//! command line, real files and standard streams to the call `tool` of `mibtm_tool`, which promises what is printed and with
-//! which status it ends. The line of that status goes to standard error. It stands on `tm_io` for files and streams.
+//! command line, real files and standard streams to the call `tool` of `mibtm_tool`, or to `build_tool` of `mibtm_build`, which
+//! promise what is printed and with which status they end. The line of that status goes to standard error. It stands on `tm_io`
+//! for files and streams.
 #![tactic(auto)]
 
 use mib_model::{Code, Line, Misuse};
+use mibtm_build::{BuildCode, build_tool};
 use mibtm_tool::tool;
 use record_text::code_line;
-use std::alloc::AllocError;
+use std::alloc::{AllocError, Global};
 use std::env;
 use std::io::{ErrorKind, Write};
 use std::process::ExitCode;
 use std::rt::{Stderr, Stdout};
+use std::sync::Wait;
+use std::thread::Threads;
 use tm_io::{FileShelf, NoGate, StdSink};
 
 // The words behind the program's name. Where one isn't UTF-8 none is known, so the command isn't either.
@@ -27,10 +31,37 @@ fn arguments(rt: HostRuntime) -> Result<Vec<String>, Code> {
     Ok(words)
 }
 
-// Tells on standard error how the call ended, unless all is well.
-fn tell(rt: HostRuntime, code: &Code) {
-    let mut line = Line::new();
-    code_line(code, &mut line);
+// How a call ended: its status, and the line that tells it.
+#[derive(Drop)]
+struct Ending {
+    status: u8,
+    line: Line,
+}
+
+impl From<Code> for Ending {
+    fn from(code: Code) -> Ending {
+        let mut line = Line::new();
+        code_line(&code, &mut line);
+        Ending {
+            status: code.number(),
+            line,
+        }
+    }
+}
+
+impl From<BuildCode> for Ending {
+    fn from(code: BuildCode) -> Ending {
+        let mut line = Line::new();
+        code.line(&mut line);
+        Ending {
+            status: code.number(),
+            line,
+        }
+    }
+}
+
+// Writes the line of an ending to standard error, unless all is well.
+fn tell(rt: HostRuntime, line: &mut Line) {
     if line.bytes().is_empty() {
         return;
     }
@@ -70,31 +101,33 @@ fn prepare(rt: HostRuntime) -> Result<(Vec<String>, Outside), Code> {
     }
 }
 
-fn main(rt: HostRuntime) -> ExitCode {
-    let code = match prepare(rt) {
-        Ok((words, mut outside)) => {
-            let Outside {
-                tables,
-                feed,
-                desk,
-                out,
-                replies,
-            } = &mut outside;
-            tool(
-                &rt,
-                rt.alloc(),
-                &words,
-                tables,
-                feed,
-                desk,
-                out,
-                replies,
-                &NoGate,
-            )
-            .code
+// Does what the words ask for: each call reads its command from the first of them.
+fn call<X: Threads + Wait + Sync>(
+    rt: &X,
+    alloc: Global,
+    words: &[String],
+    outside: &mut Outside,
+) -> Ending {
+    let Outside {
+        tables,
+        feed,
+        desk,
+        out,
+        replies,
+    } = outside;
+    match words {
+        [word, ..] if word.as_str() == "build" => {
+            Ending::from(build_tool(alloc, words, tables, desk, out))
         }
-        Err(code) => code,
+        _ => Ending::from(tool(rt, alloc, words, tables, feed, desk, out, replies, &NoGate).code),
+    }
+}
+
+fn main(rt: HostRuntime) -> ExitCode {
+    let Ending { status, mut line } = match prepare(rt) {
+        Ok((words, mut outside)) => call(&rt, rt.alloc(), &words, &mut outside),
+        Err(code) => Ending::from(code),
     };
-    tell(rt, &code);
-    ExitCode::from(code.number())
+    tell(rt, &mut line);
+    ExitCode::from(status)
 }

@@ -3,10 +3,10 @@ ghost use Rattle.std.specs.Prelude.{◌≡◌, IfOk};
 ghost use Rattle.mib_model.specs.Soundness.{IsSound};
 
 use crate::books::{book_of, name, packet, parameter, place};
-use layout_set::LayoutSet;
 use mib_keys::sound;
 use mib_model::Steps;
 use mib_tables::Book;
+use numbered_plans::LayoutSet;
 use std::alloc::{AllocError, Global};
 use std::marker::Brand;
 use std::process::Abort;

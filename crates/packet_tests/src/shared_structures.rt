@@ -4,12 +4,12 @@ ghost use Rattle.std.specs.Prelude.{◌≡◌, IfOk};
 use crate::books::{book_of, name, parameter, structure_row};
 use mib_model::Steps;
 use mib_tables::Book;
+use numbered_plans::StructureSet;
 use std::alloc::{AllocError, Global};
 use std::marker::Brand;
 use std::process::Abort;
 use std::sync::ledger::{Blank, Ledger};
 use std::test::Fail;
-use structure_set::StructureSet;
 
 // Structures 7 and 8 of two parameters, the second of this format.
 fn book<R: Abort>(rt: &R, alloc: Global, pfc: u16) -> Result<Book, AllocError> {

@@ -1,7 +1,7 @@
 // A standard stream as a sink. It tells no content.
 ghost use Rattle.std.specs.Prelude.{◌≡◌, ◌≤◌, ◌<◌, None, length, IfSome, IfOk};
 ghost use Rattle.std.specs.Io.{WritesAtMost};
-ghost use Rattle.tm_io.specs.Causes.{HasCause};
+ghost use Rattle.tm_io.specs.Causes.{HasCause, HasRisen};
 ghost use Rattle.tm_io.specs.Octets.{TakesSome};
 
 use crate::{Failed, Sink};
@@ -11,10 +11,12 @@ use std::io::{BufWriter, ErrorKind, Write};
 // How many octets are given to the system at once.
 const WRITE_BEHIND: usize = 65_536;
 
-/// Standard output or standard error, as `StdSink::new(rt.stdout(), rt.alloc())`.
+/// Standard output or standard error, as `StdSink::new(rt.stdout(), rt.alloc())`. Behind its first fault nothing more is asked of
+/// the stream: what was kept back is let go, and each call fails.
 #[derive(Drop)]
 pub struct StdSink<W: Write + Drop> {
-    stream: BufWriter<W>,
+    // None once it failed.
+    stream: Option<BufWriter<W>>,
     faults: u64,
 }
 
@@ -24,7 +26,10 @@ impl<W: Write + Drop> StdSink<W> {
         ensures { IfOk result (λ sink. ⟦<StdSink<W> as Sink>⟧.faults sink ≡ 0) }
     {
         match BufWriter::with_capacity(alloc, room, stream) {
-            Ok(stream) => Ok(StdSink { stream, faults: 0 }),
+            Ok(stream) => Ok(StdSink {
+                stream: Some(stream),
+                faults: 0,
+            }),
             Err(_) => Err(AllocError),
         }
     }
@@ -39,9 +44,23 @@ impl<W: Write + Drop> StdSink<W> {
     // Whether so many octets are kept back, with none of those that were before them given to the system.
     #[inline(always)]
     fn keeps_back(&self, octets: usize) -> bool {
-        let kept = self.stream.buffer().len();
-        let most = self.stream.capacity();
+        let Some(stream) = &self.stream else {
+            return false;
+        };
+        let kept = stream.buffer().len();
+        let most = stream.capacity();
         kept <= most && octets < most - kept
+    }
+
+    // Counts a fault, and lets the stream go without writing what it keeps back, as a `BufWriter` that is dropped would.
+    fn fail(&mut self) -> Failed
+        ensures rises { HasRisen self.old.faults self.new.faults }
+    {
+        if let Some(stream) = self.stream.take() {
+            let (_stream, _kept_back) = stream.into_parts();
+        }
+        self.faults = self.faults.saturating_add(1);
+        Failed
     }
 
     // Takes some first octets of a piece, where the system may be given some.
@@ -51,12 +70,13 @@ impl<W: Write + Drop> StdSink<W> {
         ensures some { TakesSome result piece.now }
         ensures cause { HasCause self.old.faults self.new.faults result }
     {
-        match write_some(&mut self.stream, piece) {
+        let written = match &mut self.stream {
+            Some(stream) => write_some(stream, piece),
+            None => None,
+        };
+        match written {
             Some(count) => Ok(count),
-            None => {
-                self.faults = self.faults.saturating_add(1);
-                Err(Failed)
-            }
+            None => Err(self.fail()),
         }
     }
 }
@@ -99,19 +119,21 @@ impl<W: Write + Drop> Sink for StdSink<W> {
     #[inline(always)]
     fn write(&mut self, piece: &[u8]) -> Result<usize, Failed> {
         if self.keeps_back(piece.len()) {
-            match self.stream.write(piece) {
-                Ok(count) if count > 0 || piece.is_empty() => return Ok(count),
-                _ => {}
+            if let Some(stream) = &mut self.stream {
+                match stream.write(piece) {
+                    Ok(count) if count > 0 || piece.is_empty() => return Ok(count),
+                    _ => {}
+                }
             }
         }
         self.write_through(piece)
     }
 
     fn flush(&mut self) -> Result<(), Failed> {
-        if flush_all(&mut self.stream) {
-            return Ok(());
-        }
-        self.faults = self.faults.saturating_add(1);
-        Err(Failed)
+        let is_done = match &mut self.stream {
+            Some(stream) => flush_all(stream),
+            None => false,
+        };
+        if is_done { Ok(()) } else { Err(self.fail()) }
     }
 }
