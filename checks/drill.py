@@ -123,4 +123,5 @@ def main():
     print(f"the summaries of {len(seeds)} generated runs agree (seed {seed})")
 
 
-main()
+if __name__ == "__main__":
+    main()

@@ -242,7 +242,7 @@ def value_at(packet, parameter, at):
     return None if number is None else Value(parameter, shape, number)
 
 
-def fixed_values(tables, spid, packet):
+def fixed_values(tables, spid, packet, value_at=value_at):
     values = []
     for row in tables["plf"]:
         parameter = first(tables["pcf"], name=row["name"])
@@ -266,7 +266,7 @@ def deduced(tables, pid):
     return next((p for p in tables["pcf"] if p["natur"] == "R" and p["ptc"] != 11 and p["pid"] == pid), None)
 
 
-def walk(tables, pid_row, packet):
+def walk(tables, pid_row, packet, value_at=value_at):
     """The walk over a structure: `rest` are the stretches of rows still to walk, the innermost last, with their repetitions."""
     values, cursor, reference = [], 8 * (6 + pid_row["dfhsize"]), 0
     rest = [[structure(tables, pid_row["tpsd"]), 0, 1]]

@@ -1,0 +1,20 @@
+#!/usr/bin/env bash
+# Checks that the completions of bash tell commands, the option and its numbers where they stand, and that the manual page has each status.
+set -u
+cd "$(dirname "$0")/.." || exit 2
+source tools/completions/mibtm.bash
+failed=0
+is() {
+    COMP_WORDS=("${@:2}"); COMP_CWORD=$(($# - 2)); COMPREPLY=()
+    _mibtm 2>/dev/null
+    [ "${COMPREPLY[*]}" = "$1" ] || { echo "mibtm ${*:3}: ${COMPREPLY[*]}"; failed=1; }
+}
+is "check" mibtm c
+is "check decode live drill" mibtm ""
+is "--workers" mibtm decode mib feed -
+is "1 16" mibtm live mib feed desk --workers 1
+is "samples" mibtm check sam
+is "" mibtm drill ""
+for status in 0 2 3 4 5 6 7 8 9 10 11 12; do grep -q "^$status  *[a-z1]" tools/mibtm.1 || { echo "status $status isn't in the manual page"; failed=1; }; done
+[ "$failed" -eq 0 ] && echo "completions and manual page are as the program's words"
+exit "$failed"
