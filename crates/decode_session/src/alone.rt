@@ -7,7 +7,7 @@ ghost use Rattle.edition_plans.specs.Params.{param_slices};
 ghost use Rattle.fold_state.specs.Boards.{memory_of, plan_names};
 ghost use Rattle.fold_state.specs.declared.finish.TheConstants.{TEXT_BEFORE};
 ghost use Rattle.mib_model.specs.Kept.{empty_memory};
-ghost use Rattle.packet_feed.specs.Feed.{source_of};
+ghost use Rattle.packet_feed.specs.Feed.{SourceStays, source_of};
 
 use crate::batch::{Filled, MOST_PACKETS};
 use crate::ending::{RunEnd, RunFault, Stop};
@@ -42,8 +42,7 @@ fn add_next<P: Plans, S: Source>(
         (λ why. AddsNothing why left new (memory_of board.old) (memory_of board.new) lines.old lines.new) }
     ensures cause { let before = S.faults (source_of feed.old) in let now = S.faults (source_of feed.new) in
         MatchOption result (now ≡ before) (λ why. HasFillCause why before now) }
-    ensures missed { S.missed (source_of feed.new) ≡ S.missed (source_of feed.old) }
-    ensures borrow { S.borrow (source_of feed.new) ≡ S.borrow (source_of feed.old) }
+    ensures kept { SourceStays S.holds S.missed S.borrow (source_of feed.old) (source_of feed.new) }
 {
     let Buffers {
         frame,
@@ -83,8 +82,7 @@ fn add_batch<P: Plans, S: Source>(
     ensures limit { result.0 ≤ most_packets + 1 }
     ensures below { result.1 ≢ Filled.Paused → result.0 ≤ most_packets }
     ensures cause { HasFillCause result.1 (S.faults (source_of feed.old)) (S.faults (source_of feed.new)) }
-    ensures missed { S.missed (source_of feed.new) ≡ S.missed (source_of feed.old) }
-    ensures borrow { S.borrow (source_of feed.new) ≡ S.borrow (source_of feed.old) }
+    ensures kept { SourceStays S.holds S.missed S.borrow (source_of feed.old) (source_of feed.new) }
 {
     lines.clear();
     let end = number + AT_ONCE;
@@ -118,8 +116,7 @@ fn run_in<P: Plans, S: Source, O: Sink>(
     ensures feed { HasFeedCause result (S.faults (source_of feed.old)) (S.faults (source_of feed.new)) }
     ensures out { HasOutCause result (O.faults out.old) (O.faults out.new) }
     ensures some { result ≢ Err (RunFault.Print Stop.Memory) }
-    ensures missed { S.missed (source_of feed.new) ≡ S.missed (source_of feed.old) }
-    ensures borrow { S.borrow (source_of feed.new) ≡ S.borrow (source_of feed.old) }
+    ensures kept { SourceStays S.holds S.missed S.borrow (source_of feed.old) (source_of feed.new) }
 {
     let mut number = 1;
     while number <= MOST_PACKETS {
@@ -164,8 +161,7 @@ pub(crate) fn run_alone<P: Plans, S: Source, O: Sink>(
     ensures cells { stock.new.cells ≡ stock.old.cells }
     ensures capacity { vec_capacity stock.old.rooms ≤ vec_capacity stock.new.rooms }
     ensures some { result ≢ Err (RunFault.Print Stop.Memory) }
-    ensures missed { S.missed (source_of feed.new) ≡ S.missed (source_of feed.old) }
-    ensures borrow { S.borrow (source_of feed.new) ≡ S.borrow (source_of feed.old) }
+    ensures kept { SourceStays S.holds S.missed S.borrow (source_of feed.old) (source_of feed.new) }
 {
     let Some(mut room) = stock.rooms.pop() else {
         unreachable!()

@@ -3,7 +3,7 @@ ghost use Rattle.std.specs.Prelude.{◌≡◌, ◌≢◌, ◌+◌, ◌<◌, ◌�
 ghost use Rattle.decode_session.specs.Batches.{IsRead, EndsFeed, Fills};
 ghost use Rattle.decode_session.specs.Causes.{HasFillCause};
 ghost use Rattle.decode_session.specs.Run.{most_packets};
-ghost use Rattle.packet_feed.specs.Feed.{source_of};
+ghost use Rattle.packet_feed.specs.Feed.{SourceStays, source_of};
 
 use crate::cell::Cell;
 use crate::room::Room;
@@ -44,8 +44,7 @@ pub fn read_packet<S: Source>(
     ensures unread { IfErr result (λ unread. EndsFeed unread.why (S.left (source_of feed.old)) (S.left (source_of feed.new))) }
     ensures ok { OnOk result (S.faults (source_of feed.new) ≡ S.faults (source_of feed.old)) }
     ensures cause { IfErr result (λ unread. HasFillCause unread.why (S.faults (source_of feed.old)) (S.faults (source_of feed.new))) }
-    ensures missed { S.missed (source_of feed.new) ≡ S.missed (source_of feed.old) }
-    ensures borrow { S.borrow (source_of feed.new) ≡ S.borrow (source_of feed.old) }
+    ensures kept { SourceStays S.holds S.missed S.borrow (source_of feed.old) (source_of feed.new) }
 {
     match feed.next(room.buffers.frame.slice_mut()) {
         Next::Packet { octets, header } => Ok(Cell::new(number, octets, header, room)),
@@ -83,8 +82,7 @@ pub(crate) fn fill<S: Source>(
     ensures all { vec_len rooms.new + vec_len cells.new ≡ vec_len rooms.old }
     ensures rooms { vec_capacity rooms.old ≤ vec_capacity rooms.new }
     ensures cells { vec_capacity cells.old ≤ vec_capacity cells.new }
-    ensures missed { S.missed (source_of feed.new) ≡ S.missed (source_of feed.old) }
-    ensures borrow { S.borrow (source_of feed.new) ≡ S.borrow (source_of feed.old) }
+    ensures kept { SourceStays S.holds S.missed S.borrow (source_of feed.old) (source_of feed.new) }
 {
     let mut next = number;
     while let Some(room) = rooms.pop() {

@@ -7,7 +7,7 @@ ghost use Rattle.edition_plans.specs.Params.{param_slices};
 ghost use Rattle.fold_state.specs.Boards.{memory_of, plan_names};
 ghost use Rattle.mib_model.specs.Kept.{empty_memory};
 ghost use Rattle.mib_model.specs.Texts.{cut_text};
-ghost use Rattle.packet_feed.specs.Feed.{BeginsWithPacket, source_of};
+ghost use Rattle.packet_feed.specs.Feed.{BeginsWithPacket, SourceStays, source_of};
 ghost use Rattle.tm_io.specs.Causes.{HasCause};
 ghost use Rattle.tm_io.specs.Octets.{AppendsPrefix};
 
@@ -70,8 +70,7 @@ fn run_batches<P: Plans + Sync, S: Source, O: Sink, R: Threads + Sync>(
     ensures all { vec_len stock.new.rooms + vec_len stock.new.cells ≡ vec_len stock.old.rooms }
     ensures rooms { vec_len stock.old.rooms ≤ vec_capacity stock.new.rooms }
     ensures some { result ≢ Err (RunFault.Print Stop.Memory) }
-    ensures missed { S.missed (source_of feed.new) ≡ S.missed (source_of feed.old) }
-    ensures borrow { S.borrow (source_of feed.new) ≡ S.borrow (source_of feed.old) }
+    ensures kept { SourceStays S.holds S.missed S.borrow (source_of feed.old) (source_of feed.new) }
 {
     if workers == 1 {
         return run_alone(plans, feed, stock, out);
@@ -121,6 +120,7 @@ pub fn decode_run<P: Plans + Sync, S: Source, O: Sink, R: Threads + Sync>(
     ensures feed { HasFeedCause result (S.faults source.old) (S.faults source.new) }
     ensures out { HasOutCause result (O.faults out.old) (O.faults out.new) }
     ensures handed { result ≢ Err (RunFault.Print Stop.Out) → O.handed out.old ≡ O.written out.old → O.handed out.new ≡ O.written out.new }
+    ensures holds { S.holds source.new ≡ S.holds source.old }
     ensures missed { S.missed source.new ≡ S.missed source.old }
     ensures untouched { result ≡ Err (RunFault.Print Stop.Memory) → (source.new ≡ source.old) × (out.new ≡ out.old) }
 {

@@ -14,6 +14,7 @@ ghost use Rattle.mib_model.specs.Desk.{Plain};
 ghost use Rattle.mib_model.specs.DeskLines.{request_of};
 ghost use Rattle.mib_model.specs.DeskRuns as Spec;
 ghost use Rattle.mib_model.specs.Replies.{desk_text, reply_text};
+ghost use Rattle.packet_feed.specs.Feed.{SourceStays};
 ghost use Rattle.tm_io.specs.Causes.{HasCause, RisesWhere};
 ghost use Rattle.tm_io.specs.Octets.{AppendsPrefix};
 ghost use Rattle.turn_cell.specs.Seats.{own_moves, seen_by};
@@ -142,8 +143,7 @@ pub(crate) fn next_line<L: Ledger, R: Wait, D: Source, P: Sink>(
     ensures replies { HasReplyCause result (P.faults replies.old) (P.faults replies.new) }
     ensures handed { HandsOn (fails_replying result) P.written P.handed replies.old replies.new }
     ensures buffer { length buffer.new ≡ LINE_ROOM }
-    ensures missed { D.missed (source_of reader.new) ≡ D.missed (source_of reader.old) }
-    ensures borrow { D.borrow (source_of reader.new) ≡ D.borrow (source_of reader.old) }
+    ensures kept { SourceStays D.holds D.missed D.borrow (source_of reader.old) (source_of reader.new) }
 {
     match reader.next(buffer) {
         NextLine::Line { octets } => {

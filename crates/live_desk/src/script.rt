@@ -8,6 +8,7 @@ ghost use Rattle.histories.specs.History.{StartsWith};
 ghost use Rattle.live_desk.specs.Lines.{HandsOn};
 ghost use Rattle.live_desk.specs.Scripts.{HasDeskCause, HasRepliesCause, Worked, fails_to_reply};
 ghost use Rattle.live_desk.specs.Standing.{standing_of};
+ghost use Rattle.packet_feed.specs.Feed.{SourceStays};
 ghost use Rattle.turn_cell.specs.Seats.{own_moves, seen_by};
 
 use crate::desk_end::DeskEnd;
@@ -59,8 +60,7 @@ pub fn work<L: Ledger, R: Wait, D: Source, P: Sink>(
     ensures replies { HasRepliesCause result (P.faults replies.old) (P.faults replies.new) }
     ensures handed { HandsOn (fails_to_reply result) P.written P.handed replies.old replies.new }
     ensures buffer { length buffer.new ≡ LINE_ROOM }
-    ensures missed { D.missed (source_of reader.new) ≡ D.missed (source_of reader.old) }
-    ensures borrow { D.borrow (source_of reader.new) ≡ D.borrow (source_of reader.old) }
+    ensures kept { SourceStays D.holds D.missed D.borrow (source_of reader.old) (source_of reader.new) }
 {
     loop {
         match next_line(

@@ -3,7 +3,7 @@ use denote.Param.Send.{IsSend, sendable}
 use Rattle.std.proofs.Crossing.{crosses}
 use Rattle.desk.specs.contracts.desk.Desk as Desk
 use Rattle.fold_state.specs.contracts.board.Board as Board
-use Rattle.live_intake.proofs.SharedEdition.{book-send, edition-send, edition-sync}
+use Rattle.live_session.proofs.SharedEdition.{book-send, edition-send, edition-sync}
 
 pub board_send : IsSend Board.the_row
 board_send = search (crosses, sendable) depth 60 fits 20000

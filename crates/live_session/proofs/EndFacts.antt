@@ -12,7 +12,7 @@ use Rattle.decode_session.specs.Causes.{HasOutCause}
 use Rattle.decode_session.specs.Run.{most_packets}
 use Rattle.live_desk.specs.declared.desk_end.DeskEnd.{DeskEnd}
 use Rattle.live_desk.specs.declared.desk_end.DeskEnd.TheVariants as desk_end
-use Rattle.live_intake.specs.Intake.{EndsIntake, IsFeedFailed, is_out_failed}
+use Rattle.packet_run.specs.Runs.{EndsRun, IsFeedFailed, is_out_failed}
 use Rattle.tm_io.specs.Causes.{RisesWhere}
 use Rattle.live_session.specs.Codes.{code_by, code_of_end, code_of_desk}
 use Rattle.live_session.specs.Live.{IsReadOut, ending_of, object}
@@ -29,7 +29,7 @@ out-counts (Err fault.Feed) before now cause = cause
 out-counts (Err (fault.Print stop.Out)) before now cause = cause
 out-counts (Err (fault.Print stop.Memory)) before now cause = cause
 
-pub few-packets : (ended : Result RunEnd RunFault) (packets : List (List ℕ)) (rest : List ℕ) (l0 l1 : Known) → EndsIntake ended packets rest l0 l1 → length packets ≤ most_packets
+pub few-packets : (ended : Result RunEnd RunFault) (packets : List (List ℕ)) (rest : List ℕ) (l0 l1 : Known) → EndsRun ended packets rest l0 l1 → length packets ≤ most_packets
 few-packets (Ok end.Whole) packets rest l0 l1 ends = let n = ends.2 in omega arith
 few-packets (Ok (end.Cut count)) packets rest l0 l1 ends = let n = ends.3 in omega arith
 few-packets (Ok end.Limit) packets rest l0 l1 ends = omega (arith, ends)
@@ -38,7 +38,7 @@ few-packets (Err (fault.Print stop.Out)) packets rest l0 l1 ends = ends
 few-packets (Err (fault.Print stop.Memory)) packets rest l0 l1 ends = absurd ends
 
 -- where neither the feed nor the output failed, the feed was read out
-pub read-out : (ended : Result RunEnd RunFault) (feed_failed : Bool) (packets : List (List ℕ)) (rest : List ℕ) (l0 l1 : Known) (before now : ℕ) → IsFeedFailed ended feed_failed → EndsIntake ended packets rest l0 l1
+pub read-out : (ended : Result RunEnd RunFault) (feed_failed : Bool) (packets : List (List ℕ)) (rest : List ℕ) (l0 l1 : Known) (before now : ℕ) → IsFeedFailed ended feed_failed → EndsRun ended packets rest l0 l1
     → is_out_failed ended ≡ false → feed_failed ≡ false → IsReadOut (object l0 l1 before now) packets
 read-out (Ok end.Whole) failed packets rest l0 l1 before now is ends out feed = inl ends.1
 read-out (Ok (end.Cut count)) failed packets rest l0 l1 before now is ends out feed = inl ends.2
@@ -64,7 +64,7 @@ is-same : (n k : ℕ) → n ≡ k → (n == k) ≡ true
 is-same n k same = grind (arith, nat_tests)
 
 -- the code of an intake that nothing hindered is that of its rest and of the number of its packets
-code-of-end : (e : RunEnd) (packets : List (List ℕ)) (rest : List ℕ) (l0 l1 : Known) → EndsIntake (Ok e) packets rest l0 l1 → (length packets ≡ most_packets → rest ≡ []) → code_of_end e ≡ code_of_rest (length packets == most_packets) (length rest)
+code-of-end : (e : RunEnd) (packets : List (List ℕ)) (rest : List ℕ) (l0 l1 : Known) → EndsRun (Ok e) packets rest l0 l1 → (length packets ≡ most_packets → rest ≡ []) → code_of_end e ≡ code_of_rest (length packets == most_packets) (length rest)
 code-of-end end.Whole packets rest l0 l1 ends limit =
     sym (rest-none (length packets == most_packets) (length rest) (ap (λ (l : List ℕ). length l) ends.0) ∙ ap (λ b. if b then code.Limit else code.Ok) (is-other (length packets) most_packets ends.2))
 code-of-end (end.Cut count) packets rest l0 l1 ends limit = sym (rest-some (length packets == most_packets) (length rest) count ends.0 ends.1)
@@ -90,7 +90,7 @@ unfolding code_of_ending
 code-unwritten failed desk packets rest = refl
 
 -- the code of a run is that of what happened
-pub code-is : (ended : Result RunEnd RunFault) (desk : DeskEnd) (feed_failed : Bool) (packets : List (List ℕ)) (rest : List ℕ) (l0 l1 : Known) → IsFeedFailed ended feed_failed → EndsIntake ended packets rest l0 l1 → (length packets ≡ most_packets → rest ≡ [])
+pub code-is : (ended : Result RunEnd RunFault) (desk : DeskEnd) (feed_failed : Bool) (packets : List (List ℕ)) (rest : List ℕ) (l0 l1 : Known) → IsFeedFailed ended feed_failed → EndsRun ended packets rest l0 l1 → (length packets ≡ most_packets → rest ≡ [])
     → code_by ended desk ≡ code_of_ending (ending_of (is_out_failed ended) feed_failed desk rest packets)
 code-is (Ok e) desk failed packets rest l0 l1 is ends limit =
     code-unhindered e desk packets rest (code-of-end e packets rest l0 l1 ends limit) ∙ ap (λ f. code_of_ending (ending_of false f desk rest packets)) (sym is)

@@ -2,4 +2,5 @@ mod PlanFacts
 mod StampFacts
 mod EndFacts
 mod LiveFacts
+pub mod SharedEdition
 mod Crossing

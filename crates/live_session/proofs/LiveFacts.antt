@@ -8,19 +8,20 @@ use Rattle.live_desk.specs.declared.desk_end.DeskEnd.{DeskEnd}
 use Rattle.live_desk.specs.Scripts.{Desked, DeskedBy, HasDeskCause, HasRepliesCause}
 use Rattle.live_desk.specs.Standing.{Standing}
 use Rattle.live_desk.proofs.DeskFacts.{starts-more}
-use Rattle.live_intake.specs.Intake.{Intakes, is_out_failed}
 use Rattle.mib_model.specs.Texts.{rest_unless}
 use Rattle.tm_io.specs.Octets.{WritesUnless}
 use Rattle.tm_io.specs.Causes.{RisesWhere}
 use Rattle.live_session.specs.Codes.{code_by}
 use Rattle.live_session.specs.Live.{Lives, Prints, object}
+use Rattle.live_session.specs.Sides.{Intakes}
 use Rattle.live_session.proofs.EndFacts.{Known, code-is, few-packets, out-counts, read-out}
 use Rattle.live_session.proofs.PlanFacts.{plans-of}
-use Rattle.live_session.proofs.StampFacts.{stamps-count, text-same}
+use Rattle.live_session.proofs.StampFacts.{reads-ahead, stamps-count, text-same}
 use Rattle.mib_model.specs.declared.code.Code.{Code}
 use Rattle.mib_model.specs.declared.database.Database.{Database}
 use Rattle.mib_model.specs.DeskRuns.{Calls, moves_by}
 use Rattle.mib_model.specs.RegisterHistories.{IsRegisterHistory, MayEnter, RegisterHistory}
+use Rattle.packet_run.specs.Runs.{is_out_failed}
 
 calls-back : (calls : Calls) → map (λ m. (m.entry, m.reply)) (moves_by calls) ≡ calls
 calls-back [] = refl
@@ -79,7 +80,8 @@ module _ (ended : Result RunEnd RunFault) (first : Database) (history own : Regi
     out_count = out-counts ended out_before out_now cause;
     feed_count = i.feed_count;
     whole = read-out ended i.feed_failed i.packets i.rest l0 l1 before now i.is_failed i.ends;
-    written = subst (WritesUnless (is_out_failed ended) w0 w1) (text-same first history own legal permits is i.packets (rest_unless i.feed_failed i.rest)) i.written;
+    written = subst (WritesUnless (is_out_failed ended) w0 w1) (text-same first history own legal permits is i.packets (rest_unless i.feed_failed i.rest)) i.text;
+    ahead = reads-ahead first history own legal permits is i.packets i.commits.count i.commits.more w0 w1 out_before out_now i.many i.commits.few i.commits.least;
   }
 
   -- a live run

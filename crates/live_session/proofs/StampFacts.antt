@@ -1,13 +1,15 @@
 -- The packets of a live run by the stamps of its history.
-use Rattle.std.proofs.Common.{◌≡◌, ℕ, zero, suc, ◌==◌, false, cond, List, [], ◌∷◌, ◌++◌, map, length, refl, sym, ap, ◌∙◌, subst, arith}
+use Rattle.std.proofs.Common.{◌≡◌, ℕ, zero, suc, ◌+◌, ◌≤◌, ◌==◌, false, cond, List, [], ◌∷◌, ◌++◌, map, length, take, drop, Option, refl, sym, ap, ◌∙◌, subst, append-nil, arith}
 use Rattle.std.proofs.lemmas.Bool.{false≢true}
+use Rattle.std.proofs.lemmas.List.{length-drop, take-append-drop}
+use Rattle.std.specs.Io.KnownBytes.{Appends}
 use Rattle.std.specs.List.{AllByRecursion, cons_option, filter_map, zip}
+use Rattle.decode_session.specs.Run.{most_in_flight}
 use Rattle.edition_register.specs.Shown.{HasItsTables}
 use Rattle.edition_register.proofs.RegisterFacts.{all-filter, tables-stay}
 use Rattle.histories.specs.declared.history.Move.{Move}
 use Rattle.histories.specs.History.{IsLegal, Permits, move, moves_of}
-use Rattle.live_intake.specs.Stamped as Intake
-use Rattle.live_intake.specs.Stamped.{stamped_with, text_of}
+use Rattle.live_session.specs.Live.{ReadsAhead, object}
 use Rattle.mib_laws.proofs.RegisterFacts.{seats-show}
 use Rattle.mib_model.specs.declared.database.Database.{Database}
 use Rattle.mib_model.specs.declared.register.Answer.{Answer}
@@ -20,6 +22,7 @@ use Rattle.mib_model.specs.Output as Output
 use Rattle.mib_model.specs.Output.{output, stamped_in}
 use Rattle.mib_model.specs.Register.{answer_to, after, opening}
 use Rattle.mib_model.specs.RegisterHistories.{IsRegisterHistory, MayEnter, RegisterHistory, register_after, stamp_in, stamps}
+use Rattle.packet_run.specs.Stamped.{stamped_by_moves, stamped_with, text_of}
 
 -- a reply is a stamp
 abbrev IsStamp : Answer → Type 0
@@ -67,9 +70,29 @@ zip-none : (xs : List (ℕ × ℕ)) (s : Register) → [] ≡ map (stamped_in s)
 zip-none [] s = refl
 zip-none (x ∷ xs) s = refl
 
+abbrev no-packets : List (List ℕ)
+no-packets = []
+
+zip-nil : (xs : List (ℕ × ℕ)) → zip xs no-packets ≡ []
+zip-nil [] = refl
+zip-nil (x ∷ xs) = refl
+
+-- the first of packets with their stamps
+taken : (f : (ℕ × ℕ) × List ℕ → StampedPacket) (n : ℕ) (xs : List (ℕ × ℕ)) (ps : List (List ℕ)) → take n (map f (zip xs ps)) ≡ map f (zip xs (take n ps))
+taken f zero xs ps = sym (ap (λ l. map f l) (zip-nil xs))
+taken f (suc n) [] ps = refl
+taken f (suc n) (x ∷ xs) [] = refl
+taken f (suc n) (x ∷ xs) (p ∷ ps) = ap (λ l. f (x, p) ∷ l) (taken f n xs ps)
+
+zipped-count : (f : (ℕ × ℕ) × List ℕ → StampedPacket) (xs : List (ℕ × ℕ)) (ps : List (List ℕ)) → length xs ≡ length ps → length (map f (zip xs ps)) ≡ length ps
+zipped-count f [] [] same = refl
+zipped-count f [] (p ∷ ps) same = absurd (omega (arith, same))
+zipped-count f (x ∷ xs) [] same = absurd (omega (arith, same))
+zipped-count f (x ∷ xs) (p ∷ ps) same = ap suc (zipped-count f xs ps (omega (arith, same)))
+
 -- the packets with their stamps, by the moves and by the register at the end
 abbrev by_moves : RegisterHistory → List (List ℕ) → List StampedPacket
-by_moves moves packets = Intake.stamped_by_moves moves packets
+by_moves moves packets = stamped_by_moves moves packets
 
 same-step : (s : Register) (a : Answer) (xs : List (ℕ × ℕ)) (p : List ℕ) (ps : List (List ℕ)) (rest : List StampedPacket) → IsStamp a → HasItsTables s.editions a → rest ≡ map (stamped_in s) (zip xs ps)
     → stamped_with a p ++ rest ≡ map (stamped_in s) (zip (cons_option (stamp_in a) xs) (p ∷ ps))
@@ -105,6 +128,32 @@ module _ (first : Database) (history own : RegisterHistory) (legal : IsRegisterH
   stamped-same packets = same-stamped (register_after first history) own packets own-stamps own-tables ∙ ap (λ xs. map (stamped_in (register_after first history)) (zip xs packets)) (sym stamps-shown)
 
   -- and their text is the output
-  pub text-same : (packets : List (List ℕ)) (tail : List ℕ) → text_of first own packets ++ tail ≡ output first packets history tail
+  pub text-same : (packets : List (List ℕ)) (tail : List ℕ) → text_of first (stamped_by_moves own packets) ++ tail ≡ output first packets history tail
   unfolding text_of output
   text-same packets tail = ap (λ l. records_text (interpret (start first) l) ++ tail) (stamped-same packets)
+
+  -- the packets of the first stamps
+  first-stamped : (n : ℕ) (packets : List (List ℕ)) → take n (by_moves own packets) ≡ by_moves own (take n packets)
+  unfolding Output.stamped_by
+  first-stamped n packets =
+      ap (λ ss. take n ss) (stamped-same packets) ∙ taken (stamped_in (register_after first history)) n (stamps history) packets ∙ sym (stamped-same (take n packets))
+
+  -- as many as the packets
+  stamped-count : (packets : List (List ℕ)) → length packets ≡ length own → length (by_moves own packets) ≡ length packets
+  unfolding Output.stamped_by
+  stamped-count packets many =
+      ap (λ (ss : List StampedPacket). length ss) (stamped-same packets) ∙ zipped-count (stamped_in (register_after first history)) (stamps history) packets (stamps-count ∙ sym many)
+
+  -- where so many records were written whole, and maybe more, no more packets were read behind them than may be in flight
+  pub reads-ahead : (packets : List (List ℕ)) (count : ℕ) (more : List ℕ) (old new : Option (List ℕ)) (before now : ℕ) → length packets ≡ length own
+      → length (by_moves own packets) ≤ count + most_in_flight → Appends old new (text_of first (take count (by_moves own packets)) ++ more)
+      → ReadsAhead first history packets (object old new before now)
+  reads-ahead packets count more old new before now many few least = record {
+    printed = take count packets;
+    others = drop count packets;
+    parted = sym (take-append-drop count packets);
+    few = (let l = length-drop count packets in let s = stamped-count packets many in omega (arith, l, s, few));
+    more = more;
+    least = subst (λ text. Appends old new (text ++ more))
+        (ap (λ ss. text_of first ss) (first-stamped count packets) ∙ sym (append-nil (text_of first (by_moves own (take count packets)))) ∙ text-same (take count packets) []) least;
+  }

@@ -1,7 +1,7 @@
 -- What a live run leaves. [This profile.]
-use Rattle.std.specs.Prelude.{◌≡◌, ◌⊎◌, ℕ, ◌≤◌, ◌<◌, ◌+◌, ◌^◌, ◌==◌, Bool, false, List, [], length, Option, IfSome}
-use Rattle.std.specs.Io.KnownBytes.{Consumes, IsAtEnd}
-use Rattle.decode_session.specs.Run.{most_packets}
+use Rattle.std.specs.Prelude.{◌≡◌, ◌⊎◌, ℕ, ◌≤◌, ◌<◌, ◌+◌, ◌^◌, ◌==◌, Bool, false, List, [], ◌++◌, length, Option, IfSome}
+use Rattle.std.specs.Io.KnownBytes.{Appends, Consumes, IsAtEnd}
+use Rattle.decode_session.specs.Run.{most_in_flight, most_packets}
 use Rattle.histories.specs.History.{IsOfSeatsBelow, Permits, calls_of, moves_of}
 use Rattle.live_desk.specs.declared.desk_end.DeskEnd.{DeskEnd}
 use Rattle.live_desk.specs.DeskEnds.{is_desk_fault, is_reply_fault}
@@ -43,8 +43,19 @@ pub record IsLiveHistory (first : Database) (history : RegisterHistory) : Type 0
 abbrev pub IsReadOut : Object → List (List ℕ) → Type 0
 IsReadOut feed packets = IfSome feed.old (λ octets. IsAtEnd feed.new) ⊎ (length packets ≡ most_packets)
 
+-- of the packets that were read the first ones were printed whole, by their stamps in the history, and maybe more was; no more packets
+-- were read behind those than may be in flight
+pub record ReadsAhead (first : Database) (history : RegisterHistory) (packets : List (List ℕ)) (out : Object) : Type 0 where
+  pub printed : List (List ℕ)
+  pub others : List (List ℕ)
+  pub parted : packets ≡ printed ++ others
+  pub few : length others ≤ most_in_flight
+  pub more : List ℕ
+  pub least : Appends out.old out.new (output first printed history [] ++ more)
+
 -- what was read of the feed is cut into packets and a rest; each packet was stamped, and the output got the text of all by their
--- stamps in the history, or a first part of it where it failed; where neither failed the feed was read out
+-- stamps in the history, or where it failed a first part of it, behind which few packets were read; where neither failed the feed was
+-- read out
 pub record Prints (first : Database) (history : RegisterHistory) (feed out : Object) : Type 0 where
   pub read : List ℕ
   pub packets : List (List ℕ)
@@ -61,6 +72,7 @@ pub record Prints (first : Database) (history : RegisterHistory) (feed out : Obj
   pub feed_count : RisesWhere feed_failed feed.before feed.now
   pub whole : out_failed ≡ false → feed_failed ≡ false → IsReadOut feed packets
   pub written : WritesUnless out_failed out.old out.new (output first packets history (rest_unless feed_failed rest))
+  pub ahead : ReadsAhead first history packets out
 
 -- what happened in a run, by the faults of its objects, the rest of the feed and the number of packets
 abbrev pub ending_of : Bool → Bool → DeskEnd → List ℕ → List (List ℕ) → Ending

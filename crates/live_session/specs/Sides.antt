@@ -1,21 +1,31 @@
--- What an intake begins with. [This profile.]
-use Rattle.std.specs.Prelude.{◌≡◌, ◌<◌, ◌≤◌, [], vec_len, vec_capacity}
-use Rattle.std.specs.Arc.{arc_value}
-use Rattle.decode_session.specs.declared.stock.Stock.{Stock}
-use Rattle.decode_session.specs.Run.{most_in_flight}
-use Rattle.edition_plans.specs.Params.{param_slices}
-use Rattle.fold_state.specs.Boards.{plan_names}
-use Rattle.live_intake.specs.declared.in_use.InUse.{InUse}
-use Rattle.live_intake.specs.Opening.{course_of}
+-- What an intake begins with, and what it leaves. [This profile.]
+use Rattle.std.specs.Prelude.{◌≡◌, ℕ, List, Option, IsSomeAnd, Result}
+use Rattle.decode_session.specs.declared.ending.RunEnd.{RunEnd}
+use Rattle.decode_session.specs.declared.ending.RunFault.{RunFault}
+use Rattle.edition_register.specs.declared.start.Start.{Start}
+use Rattle.edition_register.specs.Starts.{IsStart}
+use Rattle.fold_state.specs.Boards.{Slots, is_made_for, memory_of}
 use Rattle.mib_model.specs.declared.database.Database.{Database}
-use Rattle.mib_model.specs.Interpreter.{start}
+use Rattle.mib_model.specs.Kept.{empty_memory}
+use Rattle.mib_model.specs.RegisterHistories.{RegisterHistory}
+use Rattle.packet_run.specs.declared.stock.Stock.{Stock}
+use Rattle.packet_run.specs.declared.watch.NoWatch.{NoWatch}
+use Rattle.packet_run.specs.Runs.{Runs}
+use Rattle.packet_run.specs.Stocks.{IsFresh, rooms_out}
+use Rattle.packet_run.specs.Told.{begun}
+use Rattle.struct_plan.specs.declared.structure.Structures as Structures
 
--- it stands at the start with the first edition in use and a board for it; some rooms are free, not more than packets may be in flight,
--- and there is a place for each
-pub record IsFresh (first : Database) (in_use : InUse) (stock : Stock) : Type 0 where
-  pub course : course_of in_use stock.board ≡ start first
-  pub names : stock.board.names ≡ plan_names (param_slices (arc_value in_use.handle))
-  pub some : 0 < vec_len stock.rooms
-  pub few : vec_len stock.rooms ≤ most_in_flight
-  pub empty : stock.cells.items ≡ []
-  pub cells : vec_len stock.rooms ≤ vec_capacity stock.cells
+-- the first edition waits for its run with a board that keeps nothing, and no run was made with the stock
+pub record IsReady {plans : Structures.Ghosts Database} (first : Database) (start : Option (Start Database Slots)) (stock : Stock Database plans) : Type 0 where
+  pub begins : IsSomeAnd start (λ start. IsStart (λ edition. edition) is_made_for first start × (memory_of start.board ≡ empty_memory))
+  pub fresh : IsFresh stock
+  pub home : rooms_out stock ≡ 0
+
+-- nobody watches
+abbrev pub nobody : NoWatch
+nobody = record {}
+
+-- a run of which nobody was told: what it read of the feed, with these counts of faults, and what it wrote
+abbrev pub Intakes : Result RunEnd RunFault → Database → RegisterHistory → ℕ → ℕ → Option (List ℕ) → Option (List ℕ) → Option (List ℕ) → Option (List ℕ) → Type 0
+Intakes result first own before now start_left left old new =
+    Runs (λ (watch : NoWatch) told. Unit {0}) result (begun first nobody old) own before now start_left left nobody new

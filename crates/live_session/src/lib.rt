@@ -2,7 +2,7 @@
 //!
 //! `live_run` handles the lines up to the first `go`, and then the packets in one thread and the other lines in another. What
 //! it prints is the interpreter's text over the packets, each with the edition that its stamp in the register's history has;
-//! what it replies is what the definitions have for the lines and their entries in that history. It rests on `live_intake` for
+//! what it replies is what the definitions have for the lines and their entries in that history. It rests on `packet_run` for
 //! the packets, on `live_desk` for the lines, and on `edition_register` for the history.
 #![tactic(auto)]
 

@@ -5,8 +5,9 @@ ghost use Rattle.desk_lines.specs.Ahead.{reading_start};
 ghost use Rattle.desk_lines.specs.Reader.{reading_of, source_of};
 ghost use Rattle.edition_register.specs.Seats.{IsSeat, first_of, history_of};
 ghost use Rattle.live_session.specs.Live.{EndsAs, Lives, StaysHandedOn, object};
-ghost use Rattle.live_session.specs.Sides.{IsFresh};
+ghost use Rattle.live_session.specs.Sides.{IsReady};
 ghost use Rattle.mib_model.specs.Desk.{desk_start};
+ghost use Rattle.packet_feed.specs.Feed.{SourceStays};
 ghost use Rattle.turn_cell.specs.Seats.{own_moves};
 
 use crate::code::merged;
@@ -21,7 +22,7 @@ use mib_model::Code;
 use std::alloc::{AllocError, Global};
 use std::sync::Wait;
 use std::thread::Threads;
-use tm_io::{Sink, Source};
+use tm_io::{Gate, Sink, Source};
 
 /// How a live run ended: its code, and its register at the end.
 #[derive(Drop)]
@@ -31,7 +32,14 @@ pub struct Lived {
 }
 
 // Runs what was opened over the lines of a reader, and closes the register.
-fn run_opened<R: Threads + Wait + Sync, F: Source, D: Source + Send, O: Sink, P: Sink + Send>(
+fn run_opened<
+    R: Threads + Wait + Sync,
+    F: Source,
+    D: Source + Send,
+    O: Sink,
+    P: Sink + Send,
+    G: Gate + Sync,
+>(
     rt: &R,
     alloc: Global,
     opened: Opened,
@@ -39,9 +47,10 @@ fn run_opened<R: Threads + Wait + Sync, F: Source, D: Source + Send, O: Sink, P:
     feed: &mut F,
     out: &mut O,
     replies: &mut P,
+    gate: &G,
 ) -> Lived
     requires intake { IsSeat 0 opened.register opened.intake.seat × (own_moves opened.intake.seat ≡ []) }
-    requires fresh { IsFresh (first_of opened.register) opened.intake.in_use opened.intake.stock }
+    requires ready { IsReady (first_of opened.register) opened.intake.first opened.intake.stock }
     requires seat { IsSeat 1 opened.register opened.seat × (own_moves opened.seat ≡ []) }
     requires draft { desk_of opened.desk ≡ desk_start (first_of opened.register) }
     requires editions { editions_of opened.desk ≡ first_of opened.register ∷ [] }
@@ -51,12 +60,11 @@ fn run_opened<R: Threads + Wait + Sync, F: Source, D: Source + Send, O: Sink, P:
         (object (D.left (source_of reader.old)) (D.left (source_of reader.new)) (D.faults (source_of reader.old)) (D.faults (source_of reader.new)))
         (object (O.written out.old) (O.written out.new) (O.faults out.old) (O.faults out.new))
         (object (P.written replies.old) (P.written replies.new) (P.faults replies.old) (P.faults replies.new)) }
-    ensures handed { result.code ≢ Code.OutFault → O.handed out.old ≡ O.written out.old → O.handed out.new ≡ O.written out.new }
+    ensures handed { result.code ≢ Code.OutFault → O.handed out.new ≡ O.written out.new }
     ensures replied { StaysHandedOn (P.faults replies.old) (P.faults replies.new) P.written P.handed replies.old replies.new }
     ensures numbers { EndsAs (first_of opened.register) result.closed }
-    ensures feed_missed { F.missed feed.new ≡ F.missed feed.old }
-    ensures desk_missed { D.missed (source_of reader.new) ≡ D.missed (source_of reader.old) }
-    ensures borrow { D.borrow (source_of reader.new) ≡ D.borrow (source_of reader.old) }
+    ensures feed_kept { (F.holds feed.new ≡ F.holds feed.old) × (F.missed feed.new ≡ F.missed feed.old) }
+    ensures desk_kept { SourceStays D.holds D.missed D.borrow (source_of reader.old) (source_of reader.new) }
 {
     let Opened {
         register,
@@ -75,6 +83,7 @@ fn run_opened<R: Threads + Wait + Sync, F: Source, D: Source + Send, O: Sink, P:
         feed,
         out,
         replies,
+        gate,
     );
     let IntakeSide {
         seat: intake_seat,
@@ -88,9 +97,16 @@ fn run_opened<R: Threads + Wait + Sync, F: Source, D: Source + Send, O: Sink, P:
 
 /// A live run from this edition on. The lines of the desk up to the first `go` are handled before a packet is read; then the
 /// packets of the feed are printed, decoded by so many workers, while the other lines are handled in another thread. It reads at
-/// most 32 packets ahead of what it has printed, with one worker 16, and waits for its turn at the register. An error is want of
-/// memory, before anything is read or written.
-pub fn live_run<R: Threads + Wait + Sync, F: Source, D: Source + Send, O: Sink, P: Sink + Send>(
+/// most 32 packets ahead of what it has printed, and waits for its turn at the register; a worker calls the gate before it works on
+/// a packet. An error is want of memory, before anything is read or written.
+pub fn live_run<
+    R: Threads + Wait + Sync,
+    F: Source,
+    D: Source + Send,
+    O: Sink,
+    P: Sink + Send,
+    G: Gate + Sync,
+>(
     rt: &R,
     alloc: Global,
     first: Edition,
@@ -98,18 +114,20 @@ pub fn live_run<R: Threads + Wait + Sync, F: Source, D: Source + Send, O: Sink, 
     desk: &mut D,
     out: &mut O,
     replies: &mut P,
+    gate: &G,
     workers: u8,
 ) -> Result<Lived, AllocError>
-    requires workers { 1 ≤ workers }
+    requires workers { (1 ≤ workers) × (workers ≤ 16) }
     ensures lives { IfOk result (λ lived. Lives lived.code first (history_of lived.closed)
         (object (F.left feed.old) (F.left feed.new) (F.faults feed.old) (F.faults feed.new))
         (object (D.left desk.old) (D.left desk.new) (D.faults desk.old) (D.faults desk.new))
         (object (O.written out.old) (O.written out.new) (O.faults out.old) (O.faults out.new))
         (object (P.written replies.old) (P.written replies.new) (P.faults replies.old) (P.faults replies.new))) }
-    ensures handed { IfOk result (λ lived. lived.code ≢ Code.OutFault → O.handed out.old ≡ O.written out.old → O.handed out.new ≡ O.written out.new) }
+    ensures handed { IfOk result (λ lived. lived.code ≢ Code.OutFault → O.handed out.new ≡ O.written out.new) }
     ensures replied { IfOk result (λ lived. StaysHandedOn (P.faults replies.old) (P.faults replies.new) P.written P.handed replies.old replies.new) }
     ensures numbers { IfOk result (λ lived. EndsAs first lived.closed) }
-    ensures missed { (F.missed feed.new ≡ F.missed feed.old) × (D.missed desk.new ≡ D.missed desk.old) }
+    ensures feed_kept { (F.holds feed.new ≡ F.holds feed.old) × (F.missed feed.new ≡ F.missed feed.old) }
+    ensures desk_kept { (D.holds desk.new ≡ D.holds desk.old) × (D.missed desk.new ≡ D.missed desk.old) }
     ensures untouched { OnErr result ((feed.new ≡ feed.old) × (desk.new ≡ desk.old) × (out.new ≡ out.old) × (replies.new ≡ replies.old)) }
 {
     let opened = match open(alloc, first, workers) {
@@ -117,5 +135,5 @@ pub fn live_run<R: Threads + Wait + Sync, F: Source, D: Source + Send, O: Sink, 
         Err(want) => return Err(want),
     };
     let mut reader = DeskReader::new(desk);
-    Ok(run_opened(rt, alloc, opened, &mut reader, feed, out, replies))
+    Ok(run_opened(rt, alloc, opened, &mut reader, feed, out, replies, gate))
 }

@@ -10,9 +10,9 @@ ghost use Rattle.live_desk.specs.Lines.{HandsOn};
 ghost use Rattle.live_desk.specs.DeskEnds.{is_reply_fault};
 ghost use Rattle.live_desk.specs.Scripts.{DeskedBy, HasDeskCause, HasRepliesCause, Worked, fails_to_reply};
 ghost use Rattle.live_desk.specs.Standing.{standing_of};
-ghost use Rattle.live_intake.specs.Intake.{Intakes};
-ghost use Rattle.live_session.specs.Sides.{IsFresh};
+ghost use Rattle.live_session.specs.Sides.{Intakes, IsReady};
 ghost use Rattle.mib_model.specs.Desk.{desk_start};
+ghost use Rattle.packet_feed.specs.Feed.{SourceStays};
 ghost use Rattle.turn_cell.specs.Seats.{own_moves, seen_by};
 
 use crate::sides::{IntakeSide, run_desk, run_intake};
@@ -27,11 +27,18 @@ use std::alloc::Global;
 use std::sync::Wait;
 use std::thread;
 use std::thread::Threads;
-use tm_io::{Sink, Source};
+use tm_io::{Gate, Sink, Source};
 use turn_cell::Seat;
 
 // The packets of a feed in this thread beside the lines of a desk in another.
-fn run_both<R: Threads + Wait + Sync, F: Source, D: Source + Send, O: Sink, P: Sink + Send>(
+fn run_both<
+    R: Threads + Wait + Sync,
+    F: Source,
+    D: Source + Send,
+    O: Sink,
+    P: Sink + Send,
+    G: Gate + Sync,
+>(
     rt: &R,
     alloc: Global,
     register: &Register<Edition, Board>,
@@ -42,10 +49,11 @@ fn run_both<R: Threads + Wait + Sync, F: Source, D: Source + Send, O: Sink, P: S
     feed: &mut F,
     out: &mut O,
     replies: &mut P,
+    gate: &G,
 ) -> (Result<RunEnd, RunFault>, Option<DeskEnd>)
     requires intake { IsSeat 0 register.now intake.old.seat }
     requires unused { own_moves intake.old.seat ≡ [] }
-    requires fresh { IsFresh (first_of register.now) intake.old.in_use intake.old.stock }
+    requires ready { IsReady (first_of register.now) intake.old.first intake.old.stock }
     requires seat { IsSeat 1 register.now seat.old }
     requires room { length (own_moves seat.old) ≤ (reading_of reader.old).lines }
     requires editions { editions_of desk.old ≡ shown_in (first_of register.now) (own_moves seat.old) }
@@ -55,16 +63,15 @@ fn run_both<R: Threads + Wait + Sync, F: Source, D: Source + Send, O: Sink, P: S
         Intakes result.0 first (own_moves intake.new.seat) (F.faults feed.old) (F.faults feed.new) (F.left feed.old) (F.left feed.new)
         (O.written out.old) (O.written out.new) }
     ensures out { HasOutCause result.0 (O.faults out.old) (O.faults out.new) }
-    ensures handed { result.0 ≢ Err (RunFault.Print Stop.Out) → O.handed out.old ≡ O.written out.old → O.handed out.new ≡ O.written out.new }
-    ensures feed_missed { F.missed feed.new ≡ F.missed feed.old }
+    ensures handed { result.0 ≢ Err (RunFault.Print Stop.Out) → O.handed out.new ≡ O.written out.new }
+    ensures feed_kept { (F.holds feed.new ≡ F.holds feed.old) × (F.missed feed.new ≡ F.missed feed.old) }
     ensures seat { IsSeat 1 register.now seat.new }
     ensures worked { Worked false result.1 (standing_of D.left P.written reader.old desk.old seat.old replies.old)
         (standing_of D.left P.written reader.new desk.new seat.new replies.new) }
     ensures desk_cause { HasDeskCause result.1 (D.faults (source_of reader.old)) (D.faults (source_of reader.new)) }
     ensures replies { HasRepliesCause result.1 (P.faults replies.old) (P.faults replies.new) }
     ensures replied { HandsOn (fails_to_reply result.1) P.written P.handed replies.old replies.new }
-    ensures desk_missed { D.missed (source_of reader.new) ≡ D.missed (source_of reader.old) }
-    ensures borrow { D.borrow (source_of reader.new) ≡ D.borrow (source_of reader.old) }
+    ensures desk_kept { SourceStays D.holds D.missed D.borrow (source_of reader.old) (source_of reader.new) }
 {
     let (end, ended) = thread::join_mut(
         rt,
@@ -72,14 +79,21 @@ fn run_both<R: Threads + Wait + Sync, F: Source, D: Source + Send, O: Sink, P: S
         &mut || -> Result<RunEnd, RunFault>
             requires seat { IsSeat 0 register.now intake.now.seat }
             requires unused { own_moves intake.now.seat ≡ [] }
-            requires fresh { IsFresh (first_of register.now) intake.now.in_use intake.now.stock }
-        { run_intake(rt, alloc, register, intake, feed, out) },
+            requires ready { IsReady (first_of register.now) intake.now.first intake.now.stock }
+        { run_intake(rt, register, intake, feed, out, gate) },
     );
     (ended, end)
 }
 
 /// The lines of a desk up to the first `go`, and then the packets of a feed beside the other lines.
-pub(crate) fn run<R: Threads + Wait + Sync, F: Source, D: Source + Send, O: Sink, P: Sink + Send>(
+pub(crate) fn run<
+    R: Threads + Wait + Sync,
+    F: Source,
+    D: Source + Send,
+    O: Sink,
+    P: Sink + Send,
+    G: Gate + Sync,
+>(
     rt: &R,
     alloc: Global,
     register: &Register<Edition, Board>,
@@ -90,10 +104,11 @@ pub(crate) fn run<R: Threads + Wait + Sync, F: Source, D: Source + Send, O: Sink
     feed: &mut F,
     out: &mut O,
     replies: &mut P,
+    gate: &G,
 ) -> (Result<RunEnd, RunFault>, DeskEnd)
     requires intake { IsSeat 0 register.now intake.old.seat }
     requires unused { own_moves intake.old.seat ≡ [] }
-    requires fresh { IsFresh (first_of register.now) intake.old.in_use intake.old.stock }
+    requires ready { IsReady (first_of register.now) intake.old.first intake.old.stock }
     requires seat { IsSeat 1 register.now seat.old }
     requires seat_unused { own_moves seat.old ≡ [] }
     requires start { reading_of reader.old ≡ reading_start }
@@ -104,8 +119,8 @@ pub(crate) fn run<R: Threads + Wait + Sync, F: Source, D: Source + Send, O: Sink
         Intakes result.0 first (own_moves intake.new.seat) (F.faults feed.old) (F.faults feed.new) (F.left feed.old) (F.left feed.new)
         (O.written out.old) (O.written out.new) }
     ensures out { HasOutCause result.0 (O.faults out.old) (O.faults out.new) }
-    ensures handed { result.0 ≢ Err (RunFault.Print Stop.Out) → O.handed out.old ≡ O.written out.old → O.handed out.new ≡ O.written out.new }
-    ensures feed_missed { F.missed feed.new ≡ F.missed feed.old }
+    ensures handed { result.0 ≢ Err (RunFault.Print Stop.Out) → O.handed out.new ≡ O.written out.new }
+    ensures feed_kept { (F.holds feed.new ≡ F.holds feed.old) × (F.missed feed.new ≡ F.missed feed.old) }
     ensures seat { IsSeat 1 register.now seat.new }
     ensures desked { let first = first_of register.now in
         DeskedBy result.1 first (seen_by intake.new.seat) (standing_of D.left P.written reader.old desk.old seat.old replies.old)
@@ -113,19 +128,18 @@ pub(crate) fn run<R: Threads + Wait + Sync, F: Source, D: Source + Send, O: Sink
     ensures desk_cause { HasDeskCause (Some result.1) (D.faults (source_of reader.old)) (D.faults (source_of reader.new)) }
     ensures replies { HasRepliesCause (Some result.1) (P.faults replies.old) (P.faults replies.new) }
     ensures replied { HandsOn (is_reply_fault result.1) P.written P.handed replies.old replies.new }
-    ensures desk_missed { D.missed (source_of reader.new) ≡ D.missed (source_of reader.old) }
-    ensures borrow { D.borrow (source_of reader.new) ≡ D.borrow (source_of reader.old) }
+    ensures desk_kept { SourceStays D.holds D.missed D.borrow (source_of reader.old) (source_of reader.new) }
 {
     let begun = run_desk(rt, alloc, register, seat, desk, reader, replies, true);
     register.meet(&mut intake.seat, seat);
     match begun {
         Some(end) => {
-            let ended = run_intake(rt, alloc, register, intake, feed, out);
+            let ended = run_intake(rt, register, intake, feed, out, gate);
             return (ended, end);
         }
         None => {
             let (ended, rest) = run_both(
-                rt, alloc, register, intake, seat, desk, reader, feed, out, replies,
+                rt, alloc, register, intake, seat, desk, reader, feed, out, replies, gate,
             );
             let Some(end) = rest else { unreachable!() };
             return (ended, end);

@@ -8,70 +8,78 @@ ghost use Rattle.histories.specs.History.{StartsWith};
 ghost use Rattle.live_desk.specs.Lines.{HandsOn};
 ghost use Rattle.live_desk.specs.Scripts.{HasDeskCause, HasRepliesCause, Worked, fails_to_reply};
 ghost use Rattle.live_desk.specs.Standing.{standing_of};
-ghost use Rattle.live_intake.specs.Intake.{Intakes};
-ghost use Rattle.live_session.specs.Sides.{IsFresh};
+ghost use Rattle.live_session.specs.Sides.{Intakes, IsReady};
+ghost use Rattle.packet_feed.specs.Feed.{SourceStays};
 ghost use Rattle.turn_cell.specs.Seats.{own_moves, seen_by};
 
-use decode_ahead::Crew;
-use decode_session::{RunEnd, RunFault, Stock, Stop};
+use decode_session::{RunEnd, RunFault, Stop};
 use desk::Desk;
 use desk_lines::{DeskReader, LINE_ROOM};
 use edition::Edition;
-use edition_register::{Editions, Register};
+use edition_register::{Editions, Register, Start};
 use fold_state::Board;
 use live_desk::{DeskEnd, work};
-use live_intake::{InUse, take_in};
 use mib_model::Steps;
+use packet_run::{NoWatch, Stock, run_packets};
 use std::alloc::Global;
 use std::marker::Brand;
 use std::sync::Wait;
 use std::sync::ledger::{Blank, Ledger};
 use std::thread::Threads;
-use tm_io::{Sink, Source};
+use tm_io::{Gate, Sink, Source};
 use turn_cell::Seat;
 
-/// What the intake owns: its seat, the edition in use, its buffers, and how many workers decode.
+/// What the intake owns: its seat, the first edition until its run begins, what the run needs, and how many workers decode.
 #[derive(Drop)]
 pub(crate) struct IntakeSide {
     pub seat: Seat<Editions<Edition, Board>>,
-    pub in_use: InUse,
-    pub stock: Stock,
-    pub crew: Crew,
+    pub first: Option<Start<Edition, Board>>,
+    pub stock: Stock<Edition>,
     pub workers: u8,
-    ghost some: { 1 ≤ workers },
+    ghost many: { (1 ≤ workers) × (workers ≤ 16) },
 }
 
 /// Takes in the packets of a feed.
-pub(crate) fn run_intake<R: Threads + Wait + Sync, F: Source, O: Sink>(
+pub(crate) fn run_intake<F: Source, O: Sink, G: Gate + Sync, R: Threads + Wait + Sync>(
     rt: &R,
-    alloc: Global,
     register: &Register<Edition, Board>,
     side: &mut IntakeSide,
     feed: &mut F,
     out: &mut O,
+    gate: &G,
 ) -> Result<RunEnd, RunFault>
     requires seat { IsSeat 0 register.now side.old.seat }
     requires unused { own_moves side.old.seat ≡ [] }
-    requires fresh { IsFresh (first_of register.now) side.old.in_use side.old.stock }
+    requires ready { IsReady (first_of register.now) side.old.first side.old.stock }
     ensures seat { IsSeat 0 register.now side.new.seat }
     ensures seen { StartsWith (seen_by side.new.seat) (seen_by side.old.seat) }
     ensures intakes { let first = first_of register.now in
         Intakes result first (own_moves side.new.seat) (F.faults feed.old) (F.faults feed.new) (F.left feed.old) (F.left feed.new)
         (O.written out.old) (O.written out.new) }
     ensures out { HasOutCause result (O.faults out.old) (O.faults out.new) }
-    ensures handed { result ≢ Err (RunFault.Print Stop.Out) → O.handed out.old ≡ O.written out.old → O.handed out.new ≡ O.written out.new }
-    ensures missed { F.missed feed.new ≡ F.missed feed.old }
+    ensures handed { result ≢ Err (RunFault.Print Stop.Out) → O.handed out.new ≡ O.written out.new }
+    ensures kept { (F.holds feed.new ≡ F.holds feed.old) × (F.missed feed.new ≡ F.missed feed.old) }
 {
-    take_in(
+    let Some(
+        Start {
+            handle: first,
+            board,
+        },
+    ) = side.first.take()
+    else {
+        unreachable!();
+    };
+    run_packets(
         rt,
-        alloc,
+        &mut side.stock,
         register,
         &mut side.seat,
-        &mut side.in_use,
-        &mut side.stock,
-        &mut side.crew,
+        first,
+        board,
         feed,
         out,
+        gate,
+        &mut NoWatch,
         side.workers,
     )
 }
@@ -103,8 +111,7 @@ fn work_counted<L: Ledger, R: Wait, D: Source, P: Sink>(
     ensures desk { HasDeskCause result (D.faults (source_of reader.old)) (D.faults (source_of reader.new)) }
     ensures replies { HasRepliesCause result (P.faults replies.old) (P.faults replies.new) }
     ensures handed { HandsOn (fails_to_reply result) P.written P.handed replies.old replies.new }
-    ensures missed { D.missed (source_of reader.new) ≡ D.missed (source_of reader.old) }
-    ensures borrow { D.borrow (source_of reader.new) ≡ D.borrow (source_of reader.old) }
+    ensures kept { SourceStays D.holds D.missed D.borrow (source_of reader.old) (source_of reader.new) }
 {
     let mut steps = Steps::<L>::new(blank);
     let mut buffer = [0; LINE_ROOM];
@@ -145,8 +152,7 @@ pub(crate) fn run_desk<R: Wait, D: Source, P: Sink>(
     ensures desk { HasDeskCause result (D.faults (source_of reader.old)) (D.faults (source_of reader.new)) }
     ensures replies { HasRepliesCause result (P.faults replies.old) (P.faults replies.new) }
     ensures handed { HandsOn (fails_to_reply result) P.written P.handed replies.old replies.new }
-    ensures missed { D.missed (source_of reader.new) ≡ D.missed (source_of reader.old) }
-    ensures borrow { D.borrow (source_of reader.new) ≡ D.borrow (source_of reader.old) }
+    ensures kept { SourceStays D.holds D.missed D.borrow (source_of reader.old) (source_of reader.new) }
 {
     let blank = Blank::new(1);
     work_counted::<Brand, R, D, P>(

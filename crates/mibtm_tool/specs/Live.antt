@@ -93,7 +93,7 @@ pub record RanBeside {F D O P : Type 0} (c : Code) (history : RegisterHistory) (
     (feed : ShelfView F) (desk : ShelfView D) (out : SinkView O) (replies : SinkView P) : Type 0 where
   pub feed_turned : HasTurned feed
   pub desk_turned : HasTurned desk
-  pub handed : c ≢ code.OutFault → out.handed out.before ≡ out.written out.before → out.handed out.now ≡ out.written out.now
+  pub handed : c ≢ code.OutFault → out.handed out.now ≡ out.written out.now
   pub replied : StaysHandedOn (replies.faults replies.before) (replies.faults replies.now) replies.written replies.handed replies.before replies.now
   pub lines : Option (List ℕ)
   pub of_desk : StoodAt desk name lines

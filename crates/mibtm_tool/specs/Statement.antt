@@ -146,7 +146,7 @@ pub record Lived {T F D O P : Type 0} (c : Code) (history : RegisterHistory) (na
   pub tables_stood : HasStood s.tables
   pub feed_turned : HasTurned s.feed
   pub desk_turned : HasTurned s.desk
-  pub handed : c ≢ code.OutFault → out.handed out.before ≡ out.written out.before → out.handed out.now ≡ out.written out.now
+  pub handed : c ≢ code.OutFault → out.handed out.now ≡ out.written out.now
   pub replied : StaysHandedOn (replies.faults replies.before) (replies.faults replies.now) replies.written replies.handed replies.before replies.now
   pub first : Database
   pub octets : Option (List ℕ)

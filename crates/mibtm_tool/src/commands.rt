@@ -46,8 +46,9 @@ impl Status {
 /// Does what the words ask for, which stand behind the program's name. `check DIR` reads tables from `tables` and writes
 /// their summary to `out`; `decode DIR FEED` reads packets from `feed` too, and writes
 /// what is decoded of them, by as many workers as `--workers` says; `live DIR FEED DESK` does so while the lines of `desk` edit
-/// the tables, and writes their replies to `replies`; `drill SEED` writes the counts of a generated run. `gate` is not called,
-/// nor are `desk` and `replies` but by a live run, nor `feed` by a check, nor `tables` and `feed` by a drill.
+/// the tables, and writes their replies to `replies`; `drill SEED` writes the counts of a generated run. `gate`, `desk` and `replies`
+/// are called by a live run alone, `feed` not by a check, `tables` and `feed` not by a drill. A worker of a live run calls `gate` with
+/// the number of a packet before it works on it.
 pub fn tool<
     T: Shelf,
     F: Shelf + Send,
@@ -120,7 +121,7 @@ pub fn tool<
             },
         ) => {
             return live(
-                rt, alloc, folder, name, desk_name, workers, tables, feed, desk, out, replies,
+                rt, alloc, folder, name, desk_name, workers, tables, feed, desk, out, replies, gate,
             );
         }
         Ok(Request::Drill { seed }) => drill(rt, alloc, seed, out),

@@ -13,10 +13,20 @@ use mib_model::{Code, Input};
 use std::alloc::Global;
 use std::sync::Wait;
 use std::thread::Threads;
-use tm_io::{Shelf, Sink};
+use tm_io::{Gate, Shelf, Sink};
+
+// The most workers of a run.
+const MOST_WORKERS: u8 = 16;
 
 // The run from an edition on, where the feed is turned to.
-fn live_beside<F: Shelf, D: Shelf + Send, O: Sink, P: Sink + Send, X: Threads + Wait + Sync>(
+fn live_beside<
+    F: Shelf,
+    D: Shelf + Send,
+    O: Sink,
+    P: Sink + Send,
+    G: Gate + Sync,
+    X: Threads + Wait + Sync,
+>(
     rt: &X,
     alloc: Global,
     edition: Edition,
@@ -26,6 +36,7 @@ fn live_beside<F: Shelf, D: Shelf + Send, O: Sink, P: Sink + Send, X: Threads + 
     desk: &mut D,
     out: &mut O,
     replies: &mut P,
+    gate: &G,
 ) -> Status
     ensures lives { LivedBeside result.code (option_map history_of result.closed) edition desk_name.now
         (shelf feed.old feed.new F.holds F.left F.faults F.missed)
@@ -45,7 +56,8 @@ fn live_beside<F: Shelf, D: Shelf + Send, O: Sink, P: Sink + Send, X: Threads + 
             return Status::unopened(Code::DeskFault);
         }
     }
-    let lived = live_run(rt, alloc, edition, feed, desk, out, replies, workers.max(1));
+    let workers = workers.clamp(1, MOST_WORKERS);
+    let lived = live_run(rt, alloc, edition, feed, desk, out, replies, gate, workers);
     match lived {
         Ok(Lived { code, closed }) => Status {
             code,
@@ -63,6 +75,7 @@ pub(crate) fn live<
     D: Shelf + Send,
     O: Sink,
     P: Sink + Send,
+    G: Gate + Sync,
     X: Threads + Wait + Sync,
 >(
     rt: &X,
@@ -76,6 +89,7 @@ pub(crate) fn live<
     desk: &mut D,
     out: &mut O,
     replies: &mut P,
+    gate: &G,
 ) -> Status
     ensures lives { LivedBy result.code (option_map history_of result.closed) (names folder.now name.now desk_name.now)
         (shelves (shelf tables.old tables.new T.holds T.left T.faults T.missed)
@@ -91,7 +105,7 @@ pub(crate) fn live<
     };
     match feed.aim(name) {
         Ok(true) => live_beside(
-            rt, alloc, edition, desk_name, workers, feed, desk, out, replies,
+            rt, alloc, edition, desk_name, workers, feed, desk, out, replies, gate,
         ),
         Ok(false) => {
             let_go(edition);

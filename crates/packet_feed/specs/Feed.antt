@@ -12,6 +12,10 @@ use Rattle.packet_feed.specs.declared.next.Next.TheVariants as next
 abbrev pub source_of : {S : Type 0} → Feed S → S
 source_of feed = feed.source
 
+-- what reading leaves of a source: the files that it holds, how often it failed to turn to one, and which loan it is
+abbrev pub SourceStays : {S : Type 0} → (S → Option (List ℕ → Option (List ℕ))) → (S → ℕ) → (S → ℕ) → S → S → Type 0
+SourceStays holds missed borrow old new = (holds new ≡ holds old) × (missed new ≡ missed old) × (borrow new ≡ borrow old)
+
 -- a packet stands at the front of these octets
 abbrev pub BeginsWithPacket : List ℕ → Type 0
 BeginsWithPacket octets = (n : ℕ) × (n ≤ length octets) × IsPacket (take n octets)

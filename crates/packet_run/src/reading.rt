@@ -6,7 +6,7 @@ ghost use Rattle.decode_session.specs.Run.{most_packets};
 ghost use Rattle.edition_register.specs.Seats.{IsSeat, first_of};
 ghost use Rattle.edition_register.specs.Shown.{last_stamped};
 ghost use Rattle.histories.specs.History.{StartsWith};
-ghost use Rattle.packet_feed.specs.Feed.{source_of};
+ghost use Rattle.packet_feed.specs.Feed.{SourceStays, source_of};
 ghost use Rattle.packet_run.specs.Reading.{IsStamped};
 ghost use Rattle.turn_cell.specs.Seats.{own_moves, seen_by};
 
@@ -46,8 +46,7 @@ pub(crate) fn read_stamped<P: Plans + Rows + Drop, R: Wait, S: Source>(
         (own_moves seat.new ≡ own_moves seat.old)) }
     ensures ok { OnOk result (S.faults (source_of feed.new) ≡ S.faults (source_of feed.old)) }
     ensures cause { IfErr result (λ unread. HasFillCause unread.why (S.faults (source_of feed.old)) (S.faults (source_of feed.new))) }
-    ensures missed { S.missed (source_of feed.new) ≡ S.missed (source_of feed.old) }
-    ensures borrow { S.borrow (source_of feed.new) ≡ S.borrow (source_of feed.old) }
+    ensures kept { SourceStays S.holds S.missed S.borrow (source_of feed.old) (source_of feed.new) }
 {
     let mut cell = match read_packet(0, feed, room) {
         Ok(cell) => cell,

@@ -8,7 +8,7 @@ ghost use Rattle.fold_state.specs.Boards.{is_made_for};
 ghost use Rattle.histories.specs.History.{StartsWith};
 ghost use Rattle.mib_model.specs.declared.database.Database.{Database};
 ghost use Rattle.mib_model.specs.Interpreter.{StampedPacket};
-ghost use Rattle.packet_feed.specs.Feed.{BeginsWithPacket, source_of};
+ghost use Rattle.packet_feed.specs.Feed.{BeginsWithPacket, SourceStays, source_of};
 ghost use Rattle.packet_run.specs.Feeding.{Fed, HasUntilCause, HasWriteCause};
 ghost use Rattle.packet_run.specs.declared.job.Task.TheVariants as task;
 ghost use Rattle.packet_run.specs.Told.{From};
@@ -220,7 +220,7 @@ pub(crate) fn run_feed<P: Plans + Rows + Drop, S: Source, O: Sink, W: Watch, R: 
         (S.left (source_of feed.old)) (S.left (source_of feed.new)) (O.written out.new) }
     ensures feed { HasUntilCause result (S.faults (source_of feed.old)) (S.faults (source_of feed.new)) }
     ensures out { HasWriteCause result (O.faults out.old) (O.faults out.new) }
-    ensures kept { (S.missed (source_of feed.new) ≡ S.missed (source_of feed.old)) × (S.borrow (source_of feed.new) ≡ S.borrow (source_of feed.old)) }
+    ensures kept { SourceStays S.holds S.missed S.borrow (source_of feed.old) (source_of feed.new) }
 {
     let mut last_large = 0;
     for _ in rt.forever() {

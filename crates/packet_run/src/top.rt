@@ -7,7 +7,7 @@ ghost use Rattle.edition_register.specs.Seats.{IsSeat, first_of};
 ghost use Rattle.fold_state.specs.Boards.{is_made_for, memory_of};
 ghost use Rattle.histories.specs.History.{StartsWith};
 ghost use Rattle.mib_model.specs.Kept.{empty_memory};
-ghost use Rattle.packet_feed.specs.Feed.{source_of};
+ghost use Rattle.packet_feed.specs.Feed.{SourceStays, source_of};
 ghost use Rattle.packet_run.specs.Piping.{SharesStay};
 ghost use Rattle.packet_run.specs.Runs.{Drove, Runs};
 ghost use Rattle.packet_run.specs.Told.{begun};
@@ -62,8 +62,7 @@ fn drive_feed<P: Plans + Rows + Drop, S: Source, O: Sink, W: Watch, R: Wait>(
         (S.faults (source_of feed.old)) (S.faults (source_of feed.new)) (S.left (source_of feed.old)) (S.left (source_of feed.new)) pipeline.new watch.new (O.written out.new) }
     ensures out { HasOutCause result (O.faults out.old) (O.faults out.new) }
     ensures handed { result ≢ Err (RunFault.Print Stop.Out) → O.handed out.new ≡ O.written out.new }
-    ensures missed { S.missed (source_of feed.new) ≡ S.missed (source_of feed.old) }
-    ensures borrow { S.borrow (source_of feed.new) ≡ S.borrow (source_of feed.old) }
+    ensures kept { SourceStays S.holds S.missed S.borrow (source_of feed.old) (source_of feed.new) }
 {
     let until = run_feed(rt, crew, register, seat, pipeline, in_use, feed, out, watch);
     let ended = finish_run(rt, crew, pipeline, in_use, until, out, watch);
@@ -98,7 +97,7 @@ fn drive<P: Plans + Rows + Drop, S: Source, O: Sink, W: Watch, R: Wait>(
         (S.faults source.old) (S.faults source.new) (S.left source.old) (S.left source.new) pipeline.new watch.new (O.written out.new) }
     ensures out { HasOutCause result (O.faults out.old) (O.faults out.new) }
     ensures handed { result ≢ Err (RunFault.Print Stop.Out) → O.handed out.new ≡ O.written out.new }
-    ensures missed { S.missed source.new ≡ S.missed source.old }
+    ensures kept { (S.holds source.new ≡ S.holds source.old) × (S.missed source.new ≡ S.missed source.old) }
 {
     let mut feed = Feed::new(source);
     drive_feed(
@@ -144,7 +143,7 @@ fn run_beside<
         (F.faults feed.old) (F.faults feed.new) (F.left feed.old) (F.left feed.new) pipeline.new watch.new (O.written out.new) }
     ensures out { HasOutCause result (O.faults out.old) (O.faults out.new) }
     ensures handed { result ≢ Err (RunFault.Print Stop.Out) → O.handed out.new ≡ O.written out.new }
-    ensures missed { F.missed feed.new ≡ F.missed feed.old }
+    ensures kept { (F.holds feed.new ≡ F.holds feed.old) × (F.missed feed.new ≡ F.missed feed.old) }
 {
     beside(
         rt,
@@ -201,7 +200,7 @@ pub fn run_packets<
         (F.left feed.old) (F.left feed.new) watch.new (O.written out.new) }
     ensures out { HasOutCause result (O.faults out.old) (O.faults out.new) }
     ensures handed { result ≢ Err (RunFault.Print Stop.Out) → O.handed out.new ≡ O.written out.new }
-    ensures missed { F.missed feed.new ≡ F.missed feed.old }
+    ensures kept { (F.holds feed.new ≡ F.holds feed.old) × (F.missed feed.new ≡ F.missed feed.old) }
     ensures home { rooms_out stock.new ≡ 0 }
 {
     stock.deal(workers);

@@ -75,7 +75,7 @@ fn a_feed_that_fails_leaves_the_records_before(rt: HostRuntime) -> Result<(), Fa
         if !is_tried(place, &[0, 11, 12, 23, 24, 35, 36]) {
             continue;
         }
-        for workers in ["1", "4"] {
+        for workers in ["1", "2", "4"] {
             let mut run = objects(alloc)?;
             run.feed = feed(alloc, &packets, &[place as u64], 25)?;
             let printed = &RECORDS[..TEXT_OF[place / 12]];
@@ -92,14 +92,14 @@ fn an_output_that_fails_holds_what_was_written(rt: HostRuntime) -> Result<(), Fa
         if !is_tried(place, &[0, 57, 58, 67, 68, 126, 127, 184]) {
             continue;
         }
-        for workers in ["1", "4"] {
+        for workers in ["1", "2", "4"] {
             let mut run = objects(alloc)?;
             run.out = sink(alloc, &[place as u64], 50)?;
             let printed = &RECORDS[..place];
             leaves(&rt, alloc, run, workers, Code::OutFault, printed, REPLIES)?;
         }
     }
-    for workers in ["1", "4"] {
+    for workers in ["1", "2", "4"] {
         let mut run = objects(alloc)?;
         run.out.fail_flush();
         leaves(&rt, alloc, run, workers, Code::OutFault, RECORDS, REPLIES)?;
@@ -114,7 +114,7 @@ fn replies_that_fail_end_the_desk(rt: HostRuntime) -> Result<(), Fail> {
         if !is_tried(place, &[0, 6, 21, 22, 36, 38]) {
             continue;
         }
-        for workers in ["1", "4"] {
+        for workers in ["1", "2", "4"] {
             let mut run = objects(alloc)?;
             run.replies = sink(alloc, &[place as u64], 7)?;
             let printed = if place < 22 { OLD_RECORDS } else { RECORDS };
@@ -133,7 +133,7 @@ fn a_desk_that_fails_has_handled_the_lines_before(rt: HostRuntime) -> Result<(),
         if !is_tried(place, &[0, 19, 20, 24, 37, 38, 40, 41]) {
             continue;
         }
-        for workers in ["1", "4"] {
+        for workers in ["1", "2", "4"] {
             let mut run = objects(alloc)?;
             let desk = file(alloc, "desk", script, &[place as u64])?;
             run.desk = MemShelf::new(vec![in alloc; desk]?, 5);

@@ -18,6 +18,8 @@ mod faults;
 #[cfg(test)]
 mod folders;
 #[cfg(test)]
+mod gates;
+#[cfg(test)]
 mod lives;
 #[cfg(test)]
 mod pieces;

@@ -1,4 +1,4 @@
-// Live runs over objects in memory, by one worker and by four.
+// Live runs over objects in memory, by one worker, by two and by four.
 use crate::checks::{Change, folder, text};
 use crate::folders::{PACKET, feed, file, sink, words};
 use mib_model::{Code, Misuse};
@@ -104,13 +104,13 @@ pub(crate) fn live<X: Threads + Wait + Sync>(
     Ok((status.code, closed))
 }
 
-// With one worker and with four a run ends well and leaves this.
+// With one worker, with two and with four a run ends well and leaves this.
 fn comes_to<X: Abort + Threads + Wait + Sync>(
     rt: &X,
     alloc: Global,
     case: &Case<'_>,
 ) -> Result<(), Fail> {
-    for workers in ["1", "4"] {
+    for workers in ["1", "2", "4"] {
         let mut objects = Objects::new(alloc, case.tables, case.packets, case.script)?;
         let (code, closed) = live(rt, alloc, &mut objects, workers)?;
         assert_eq!(rt; code, Code::Ok, "by {workers}");

@@ -57,21 +57,21 @@ impl Gate for Counts {
     }
 }
 
-const COUPLED: u64 = 40;
+pub(crate) const COUPLED: u64 = 40;
 
 // How often a cell looks for the one behind it.
 const TURNS: u32 = 1_000_000;
 
 // An odd cell waits until the even one behind it was called, so each two are inside the gate at once.
 #[derive(Drop)]
-struct Couples {
+pub(crate) struct Couples {
     called: Vec<AtomicBool>,
-    calls: AtomicU64,
-    is_late: AtomicBool,
+    pub calls: AtomicU64,
+    pub is_late: AtomicBool,
 }
 
 impl Couples {
-    fn new(alloc: Global) -> Result<Couples, AllocError> {
+    pub fn new(alloc: Global) -> Result<Couples, AllocError> {
         let mut called = Vec::new(alloc);
         for _ in 0..COUPLED + 1 {
             called.push(AtomicBool::new(false))?;

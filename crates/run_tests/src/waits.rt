@@ -103,7 +103,7 @@ impl Sink for Counted<'_> {
 #[test]
 fn a_desk_is_answered_while_the_feed_waits(rt: HostRuntime) -> Result<(), Fail> {
     let alloc = rt.alloc();
-    for workers in ["1", "4"] {
+    for workers in ["1", "2", "4"] {
         let replies_text = b"GO\nUSED 1 FROM 2\n";
         let (asked, told, replied) = (AtomicU64::new(0), AtomicU64::new(0), AtomicU64::new(0));
         let mut feed = Parts {

@@ -16,8 +16,7 @@ loop-next-init g c =
       ahead = λ some. absurd (omega (arith, some));
       room = omega (arith, ap (λ (l : List ℕ). length l) c.clear.ensures);
       faults = refl;
-      missed = refl;
-      borrow = refl;
+      stays = (refl, refl, refl);
     }
 
 pub returns-in-Some-clause-adds : goal.returns-in-Some-clause-adds
@@ -66,8 +65,7 @@ loop-next-preserved g c =
       ahead = λ some. c.is_next_at_hand.ensures c.if-not-is_next_at_hand.false;
       room = let n = c.if-bytes-gt-TEXT_BEFORE.false in omega (arith, ap (λ (l : List ℕ). length l) c.bytes.ensures);
       faults = c.in_default.ensures.cause ∙ inv.faults;
-      missed = c.add_next.ensures.missed ∙ inv.missed;
-      borrow = c.add_next.ensures.borrow ∙ inv.borrow;
+      stays = (c.add_next.ensures.kept.0 ∙ inv.stays.0, c.add_next.ensures.kept.1 ∙ inv.stays.1, c.add_next.ensures.kept.2 ∙ inv.stays.2);
     }
 
 pub returns-clause-adds : goal.returns-clause-adds

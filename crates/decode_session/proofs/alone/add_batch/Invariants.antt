@@ -5,7 +5,7 @@ use Rattle.decode_session.specs.Turns.{Adds}
 use Rattle.decode_session.proofs.alone.add_batch.Given as goal
 use Rattle.fold_state.specs.Boards.{memory_of}
 use Rattle.fold_state.specs.declared.finish.TheConstants.{TEXT_BEFORE}
-use Rattle.packet_feed.specs.Feed.{BeginsWithPacket, source_of}
+use Rattle.packet_feed.specs.Feed.{BeginsWithPacket, SourceStays, source_of}
 
 abbrev pub invariant-loop-next : goal.invariant-loop-next
 invariant-loop-next g l = record {
@@ -16,8 +16,7 @@ invariant-loop-next g l = record {
   ahead : l.number < l.next → IfSome (g.S.Source.left (source_of l.feed)) BeginsWithPacket;
   room : length l.lines ≤ TEXT_BEFORE;
   faults : g.S.Source.faults (source_of l.feed) ≡ g.S.Source.faults (source_of l.initial.feed);
-  missed : g.S.Source.missed (source_of l.feed) ≡ g.S.Source.missed (source_of l.initial.feed);
-  borrow : g.S.Source.borrow (source_of l.feed) ≡ g.S.Source.borrow (source_of l.initial.feed);
+  stays : SourceStays g.S.Source.holds g.S.Source.missed g.S.Source.borrow (source_of l.initial.feed) (source_of l.feed);
 }
 
 abbrev pub decreases-loop-next : goal.decreases-loop-next

@@ -17,8 +17,7 @@ loop-number-init g c = record {
   limit = omega arith;
   going = going-start (g.P.Structures.tables c.args.plans.now) (memory_of c.args.board.now) (g.S.Source.left (source_of c.args.feed.now)) (g.O.Sink.written c.args.out.now) c.requires.memory;
   feed = refl;
-  missed = refl;
-  borrow = refl;
+  stays = (refl, refl, refl);
   out = refl;
 }
 
@@ -50,8 +49,7 @@ loop-number-preserved g c =
           (going-same db c.loop-number.number (memory_of c.loop-number.board) _ _ _ _ _ c.hand_on_before_wait.ensures.written c.loop-number.invariant.going)
           (subst (Appends (g.O.Sink.written c.hand_on_before_wait.new.out) (g.O.Sink.written c.write_all.new.out)) c.bytes.ensures c.in-Ok-write_all.ensures.all));
       feed = subst (λ f. HasFillCause f (g.S.Source.faults (source_of c.loop-number.feed)) (g.S.Source.faults (source_of c.add_batch-next.new.feed))) c.in-Paused.is c.add_batch-next.ensures.cause ∙ c.loop-number.invariant.feed;
-      missed = c.add_batch-next.ensures.missed ∙ c.loop-number.invariant.missed;
-      borrow = c.add_batch-next.ensures.borrow ∙ c.loop-number.invariant.borrow;
+      stays = (c.add_batch-next.ensures.kept.0 ∙ c.loop-number.invariant.stays.0, c.add_batch-next.ensures.kept.1 ∙ c.loop-number.invariant.stays.1, c.add_batch-next.ensures.kept.2 ∙ c.loop-number.invariant.stays.2);
       out = c.in-Ok-write_all.ensures.cause.ok ∙ c.in-Ok.ensures.cause.ok ∙ c.loop-number.invariant.out;
     }
 

@@ -17,8 +17,7 @@ loop-room-init g c =
       rooms = omega arith;
       cells = omega arith;
       faults = refl;
-      missed = refl;
-      borrow = refl;
+      stays = (refl, refl, refl);
     }
 
 pub returns-in-Err-clause-fills : goal.returns-in-Err-clause-fills
@@ -53,6 +52,5 @@ loop-room-preserved g c =
       rooms = let n = c.pop.ensures.capacity in let m = inv.rooms in omega arith;
       cells = let n = c.push_reserved.ensures.capacity in let m = inv.cells in omega arith;
       faults = c.in-Ok.ensures.ok ∙ inv.faults;
-      missed = c.read_packet.ensures.missed ∙ inv.missed;
-      borrow = c.read_packet.ensures.borrow ∙ inv.borrow;
+      stays = (c.read_packet.ensures.kept.0 ∙ inv.stays.0, c.read_packet.ensures.kept.1 ∙ inv.stays.1, c.read_packet.ensures.kept.2 ∙ inv.stays.2);
     }

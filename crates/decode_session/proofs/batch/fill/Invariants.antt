@@ -3,7 +3,7 @@ use Rattle.std.specs.Prelude.{IfSome}
 use Rattle.decode_session.specs.Batches.{AreRead}
 use Rattle.decode_session.specs.Run.{most_packets}
 use Rattle.decode_session.proofs.batch.fill.Given as goal
-use Rattle.packet_feed.specs.Feed.{BeginsWithPacket, source_of}
+use Rattle.packet_feed.specs.Feed.{BeginsWithPacket, SourceStays, source_of}
 
 abbrev pub invariant-loop-room : goal.invariant-loop-room
 invariant-loop-room g l = record {
@@ -15,8 +15,7 @@ invariant-loop-room g l = record {
   rooms : vec_capacity l.initial.rooms ≤ vec_capacity l.rooms;
   cells : vec_capacity l.initial.cells ≤ vec_capacity l.cells;
   faults : g.S.Source.faults (source_of l.feed) ≡ g.S.Source.faults (source_of l.initial.feed);
-  missed : g.S.Source.missed (source_of l.feed) ≡ g.S.Source.missed (source_of l.initial.feed);
-  borrow : g.S.Source.borrow (source_of l.feed) ≡ g.S.Source.borrow (source_of l.initial.feed);
+  stays : SourceStays g.S.Source.holds g.S.Source.missed g.S.Source.borrow (source_of l.initial.feed) (source_of l.feed);
 }
 
 abbrev pub decreases-loop-room : goal.decreases-loop-room

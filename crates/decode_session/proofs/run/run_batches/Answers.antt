@@ -23,8 +23,7 @@ loop-number-init g c = record {
   limit = omega arith;
   going = going-start (g.P.Structures.tables c.args.plans.now) (memory_of c.args.stock.now.board) (g.S.Source.left (source_of c.args.feed.now)) (g.O.Sink.written c.args.out.now) c.requires.memory;
   feed = refl;
-  missed = refl;
-  borrow = refl;
+  stays = (refl, refl, refl);
   out = refl;
 }
 
@@ -76,8 +75,7 @@ loop-number-preserved g c =
           (going-same db c.loop-number.number (memory_of c.loop-number.stock.board) (g.S.Source.left (source_of c.args.feed.now)) (g.S.Source.left (source_of c.loop-number.feed))
           (g.O.Sink.written c.args.out.now) (g.O.Sink.written c.loop-number.out) (g.O.Sink.written c.hand_on_before_wait.new.out) c.hand_on_before_wait.ensures.written c.loop-number.invariant.going)));
       feed = c.in-Paused.ensures.cause ∙ c.loop-number.invariant.feed;
-      missed = c.fill-filled.ensures.missed ∙ c.loop-number.invariant.missed;
-      borrow = c.fill-filled.ensures.borrow ∙ c.loop-number.invariant.borrow;
+      stays = (c.fill-filled.ensures.kept.0 ∙ c.loop-number.invariant.stays.0, c.fill-filled.ensures.kept.1 ∙ c.loop-number.invariant.stays.1, c.fill-filled.ensures.kept.2 ∙ c.loop-number.invariant.stays.2);
       out = c.in-Ok-finish_batch.ensures.cause.ok ∙ c.in-Ok.ensures.cause.ok ∙ c.loop-number.invariant.out;
     }
 

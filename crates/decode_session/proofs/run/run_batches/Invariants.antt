@@ -4,7 +4,7 @@ use Rattle.decode_session.specs.Run.{most_in_flight, most_packets}
 use Rattle.decode_session.proofs.run.run_batches.Given as goal
 use Rattle.edition_plans.specs.Params.{param_slices}
 use Rattle.fold_state.specs.Boards.{memory_of, plan_names}
-use Rattle.packet_feed.specs.Feed.{source_of}
+use Rattle.packet_feed.specs.Feed.{SourceStays, source_of}
 
 abbrev pub invariant-loop-number : goal.invariant-loop-number
 invariant-loop-number g l = record {
@@ -18,8 +18,7 @@ invariant-loop-number g l = record {
   limit : l.number ≤ most_packets + 1;
   going : Going (g.P.Structures.tables l.plans) l.number (memory_of l.stock.board) (g.S.Source.left (source_of l.initial.feed)) (g.S.Source.left (source_of l.feed)) (g.O.Sink.written l.initial.out) (g.O.Sink.written l.out);
   feed : g.S.Source.faults (source_of l.feed) ≡ g.S.Source.faults (source_of l.initial.feed);
-  missed : g.S.Source.missed (source_of l.feed) ≡ g.S.Source.missed (source_of l.initial.feed);
-  borrow : g.S.Source.borrow (source_of l.feed) ≡ g.S.Source.borrow (source_of l.initial.feed);
+  stays : SourceStays g.S.Source.holds g.S.Source.missed g.S.Source.borrow (source_of l.initial.feed) (source_of l.feed);
   out : g.O.Sink.faults l.out ≡ g.O.Sink.faults l.initial.out;
 }
 

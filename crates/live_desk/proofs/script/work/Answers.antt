@@ -16,8 +16,7 @@ loop-go-init g c = record {
   script = refl;
   replies = refl;
   handed = λ all. all;
-  missed = refl;
-  borrow = refl;
+  stays = (refl, refl, refl);
 }
 
 pub returns-then-is_awaited-clause-worked : goal.returns-then-is_awaited-clause-worked
@@ -44,8 +43,7 @@ loop-go-preserved g c =
       script = c.in-Handled.ensures.script ∙ inv.script;
       replies = c.in-Handled.ensures.replies ∙ inv.replies;
       handed = λ all. c.in-Handled.ensures.handed refl (inv.handed all);
-      missed = c.next_line.ensures.missed ∙ inv.missed;
-      borrow = c.next_line.ensures.borrow ∙ inv.borrow;
+      stays = (c.next_line.ensures.kept.0 ∙ inv.stays.0, c.next_line.ensures.kept.1 ∙ inv.stays.1, c.next_line.ensures.kept.2 ∙ inv.stays.2);
     }
 
 pub returns-in-Ended-clause-worked : goal.returns-in-Ended-clause-worked

@@ -7,6 +7,7 @@ use Rattle.histories.specs.History.{StartsWith}
 use Rattle.live_desk.specs.Scripts.{Working}
 use Rattle.live_desk.specs.Standing.{standing_of}
 use Rattle.live_desk.proofs.script.work.Given as goal
+use Rattle.packet_feed.specs.Feed.{SourceStays}
 use Rattle.turn_cell.specs.Seats.{own_moves, seen_by}
 
 abbrev pub invariant-loop-go : goal.invariant-loop-go
@@ -20,8 +21,7 @@ invariant-loop-go g l = record {
   script : g.D.Source.faults (source_of l.reader) ≡ g.D.Source.faults (source_of l.initial.reader);
   replies : g.P.Sink.faults l.replies ≡ g.P.Sink.faults l.initial.replies;
   handed : g.P.Sink.handed l.initial.replies ≡ g.P.Sink.written l.initial.replies → g.P.Sink.handed l.replies ≡ g.P.Sink.written l.replies;
-  missed : g.D.Source.missed (source_of l.reader) ≡ g.D.Source.missed (source_of l.initial.reader);
-  borrow : g.D.Source.borrow (source_of l.reader) ≡ g.D.Source.borrow (source_of l.initial.reader);
+  stays : SourceStays g.D.Source.holds g.D.Source.missed g.D.Source.borrow (source_of l.initial.reader) (source_of l.reader);
 }
 
 abbrev pub decreases-loop-go : goal.decreases-loop-go

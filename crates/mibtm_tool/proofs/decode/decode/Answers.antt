@@ -3,7 +3,7 @@ use Rattle.mibtm_tool.specs.Objects.{shelf, sink}
 use Rattle.decode_session.specs.Run.{Ran, EndsBy}
 use Rattle.mibtm_tool.proofs.DecodeSteps.{fed}
 use Rattle.mibtm_tool.proofs.StatementSteps.{missing_decoded, ran_decoded, refused_decoded}
-use Rattle.live_intake.proofs.SharedEdition.{compiled-sync}
+use Rattle.live_session.proofs.SharedEdition.{compiled-sync}
 use denote.Param.Send.{sendable}
 use Rattle.mibtm_tool.proofs.decode.decode.Goals as goal
 

@@ -1,4 +1,4 @@
-use Rattle.live_intake.proofs.SharedEdition.{compiled-sync}
+use Rattle.live_session.proofs.SharedEdition.{compiled-sync}
 use denote.Param.Send.{sendable}
 use Rattle.mibtm_tool.proofs.drill.drill_text.Goals as goal
 

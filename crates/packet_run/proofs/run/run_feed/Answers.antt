@@ -27,8 +27,7 @@ loop-init g c =
           feeding_start g.P.Structures.tables g.P.Rows.tables g.W.Watch.stands from c.args.pipeline.now c.args.in_use.now c.args.watch.now _ _ (own_moves c.args.seat.now) own c.requires.in_use.0 (c.requires.in_use.1 ∙ sym is) pp;
       feed = refl;
       out = refl;
-      missed = refl;
-      borrow = refl;
+      stays = (refl, refl, refl);
     }
 
 pub returns-then-pipeline-ge-MOST_PACKETS-clause-fed : goal.returns-then-pipeline-ge-MOST_PACKETS-clause-fed
@@ -62,8 +61,7 @@ loop-preserved-in_default-pop g c =
           (piping_keeps g.P.Structures.tables g.W.Watch.stands from f.stamped q _ c.make_way.new.in_use c.make_way.new.watch _ (keeps_less g.P.Structures.tables q _ refl refl (less_same q.window)) refl refl refl (ok.piping from f.stamped f.piping));
       feed = i.feed;
       out = ok.cause.ok ∙ i.out;
-      missed = i.missed;
-      borrow = i.borrow;
+      stays = i.stays;
     }
 
 pub returns-in-Err-clause-keeps : goal.returns-in-Err-clause-keeps
@@ -108,8 +106,7 @@ loop-preserved g c =
           (done.piping from on.stamped s.shown (comes_behind g.P.Structures.tables g.P.Rows.tables (last_stamped (1, from.first) (own_moves c.loop.seat)) c.make_way.new.in_use read (own_moves c.loop.seat) (own_moves c.read_stamped.new.seat) _ _ on.last s) (omega (arith, many, k, n, r)) on.piping);
       feed = c.in-Ok-read_stamped.ensures.ok ∙ i.feed;
       out = done.cause.ok ∙ ok.cause.ok ∙ i.out;
-      missed = rs.missed ∙ i.missed;
-      borrow = rs.borrow ∙ i.borrow;
+      stays = (rs.kept.0 ∙ i.stays.0, rs.kept.1 ∙ i.stays.1, rs.kept.2 ∙ i.stays.2);
     }
 
 pub returns-in_default-take_packet-clause-keeps : goal.returns-in_default-take_packet-clause-keeps

@@ -3,7 +3,7 @@ use Rattle.commit_order.specs.Windows.{next_of}
 use Rattle.decode_session.specs.Run.{most_packets}
 use Rattle.edition_register.specs.Seats.{IsSeat, first_of}
 use Rattle.histories.specs.History.{StartsWith}
-use Rattle.packet_feed.specs.Feed.{source_of}
+use Rattle.packet_feed.specs.Feed.{SourceStays, source_of}
 use Rattle.turn_cell.specs.Seats.{own_moves, seen_by}
 use Rattle.work_queue.specs.Passes.{IsOf}
 use Rattle.packet_run.specs.Piping.{Keeps, Piping}
@@ -26,6 +26,5 @@ invariant-loop g l = record {
       → Feeding g.P.Structures.tables g.P.Rows.tables g.W.Watch.stands from (own_moves l.seat) l.pipeline l.in_use l.watch (g.S.Source.left (source_of l.initial.feed)) (g.S.Source.left (source_of l.feed)) (g.O.Sink.written l.out);
   feed : g.S.Source.faults (source_of l.feed) ≡ g.S.Source.faults (source_of l.initial.feed);
   out : g.O.Sink.faults l.out ≡ g.O.Sink.faults l.initial.out;
-  missed : g.S.Source.missed (source_of l.feed) ≡ g.S.Source.missed (source_of l.initial.feed);
-  borrow : g.S.Source.borrow (source_of l.feed) ≡ g.S.Source.borrow (source_of l.initial.feed);
+  stays : SourceStays g.S.Source.holds g.S.Source.missed g.S.Source.borrow (source_of l.initial.feed) (source_of l.feed);
 }

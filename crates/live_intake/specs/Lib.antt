@@ -1,6 +1,0 @@
-pub mod Stamped
-pub mod Reading
-pub mod Stretches
-pub mod Ahead
-pub mod Opening
-pub mod Intake
