@@ -1,3 +1,4 @@
+pub mod PartFacts
 pub mod SetFacts
 pub mod FindFacts
 pub mod OctetFacts

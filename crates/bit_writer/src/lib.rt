@@ -7,6 +7,7 @@
 
 mod clash;
 mod laws;
+mod part;
 mod set;
 mod write;
 mod writing;

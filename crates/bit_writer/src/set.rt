@@ -1,40 +1,45 @@
 // Bits that are set to 1 just where a write sets a bit to 1, or to 0.
-ghost use Rattle.std.specs.Prelude.{◌≡◌, ◌<◌, ◌≤◌, ◌+◌, ◌*◌, ◌^◌, ◌==◌, ℕ, length, if◌then◌else◌};
+ghost use Rattle.std.specs.Prelude.{◌≡◌, ◌<◌, ◌≤◌, ◌+◌, ◌*◌, ◌/◌, ◌%◌, ◌^◌, ◌-◌, ◌==◌, ℕ, length, max, if◌then◌else◌};
 ghost use Rattle.std.specs.List.{All};
-ghost use Rattle.mib_model.specs.Bits as Bits;
 ghost use Rattle.mib_model.specs.Bits.{bit};
 ghost use Rattle.bit_writer.specs.Writes.{is_set, sets};
 
 use crate::write::Write;
 
-// A bit is 1 afterwards, and no other is changed.
-fn set_bit(octets: &mut [u8], at: u64)
-    requires { at < 8 * length octets.old }
-    ensures { (j : ℕ) → bit octets.new j ≡ (if j == at then 1 else bit octets.old j) }
+// Bits of an octet are 1 afterwards where they are 1 in another, and no other is changed.
+fn add_ones(octets: &mut [u8], octet: usize, ones: u8)
+    requires { octet < length octets.old }
+    ensures { (j : ℕ) → bit octets.new j ≡ (if j / 8 == octet then max (bit octets.old j) (ones / 2 ^ (7 - j % 8) % 2) else bit octets.old j) }
 {
-    octets[(at / 8) as usize] |= 1 << (7 - at % 8);
+    octets[octet] |= ones;
 }
 
-// Bits are 1 afterwards where a write sets a bit to this one, and no other is changed.
-fn mark(write: &Write, bit: u8, octets: &mut [u8])
-    requires few { length octets.old < 2 ^ 32 }
-    requires inside { write.now.at + write.now.width ≤ 8 * length octets.old }
-    ensures { (j : ℕ) → Bits.bit octets.new j ≡ (if sets bit j write.now then 1 else Bits.bit octets.old j) }
+// Bits of `ones` are 1 afterwards where a write sets a bit to 1, and those of `zeros` where it sets one to 0; no other is
+// changed.
+fn mark(write: &Write, ones: &mut [u8], zeros: &mut [u8])
+    requires few { length ones.old < 2 ^ 32 }
+    requires beside { length zeros.old ≡ length ones.old }
+    requires inside { write.now.at + write.now.width ≤ 8 * length ones.old }
+    ensures ones { (j : ℕ) → bit ones.new j ≡ (if sets 1 j write.now then 1 else bit ones.old j) }
+    ensures zeros { (j : ℕ) → bit zeros.new j ≡ (if sets 0 j write.now then 1 else bit zeros.old j) }
 {
-    for behind in 0..write.width {
-        if write.bit_behind(behind) == bit {
-            set_bit(octets, write.at + u64::from(behind));
-        }
+    for octet in write.at / 8..write.octets_to() {
+        let part = write.part(octet);
+        add_ones(ones, octet as usize, part.ones);
+        add_ones(zeros, octet as usize, part.zeros);
     }
 }
 
-/// Bits are 1 afterwards where one of some writes sets a bit to this one, and no other is changed.
-pub fn mark_all(writes: &[Write], bit: u8, octets: &mut [u8])
-    requires few { length octets.old < 2 ^ 32 }
-    requires inside { All (λ w. w.at + w.width ≤ 8 * length octets.old) writes.now }
-    ensures { (j : ℕ) → Bits.bit octets.new j ≡ (if is_set bit writes.now j then 1 else Bits.bit octets.old j) }
+/// Bits of `ones` are 1 afterwards where one of some writes sets a bit to 1, and those of `zeros` where one sets it to 0; no
+/// other is changed.
+pub fn mark_all(writes: &[Write], ones: &mut [u8], zeros: &mut [u8])
+    requires few { length ones.old < 2 ^ 32 }
+    requires beside { length zeros.old ≡ length ones.old }
+    requires inside { All (λ w. w.at + w.width ≤ 8 * length ones.old) writes.now }
+    ensures ones { (j : ℕ) → bit ones.new j ≡ (if is_set 1 writes.now j then 1 else bit ones.old j) }
+    ensures zeros { (j : ℕ) → bit zeros.new j ≡ (if is_set 0 writes.now j then 1 else bit zeros.old j) }
 {
     for write in writes {
-        mark(write, bit, octets);
+        mark(write, ones, zeros);
     }
 }

@@ -66,7 +66,8 @@ impl From<SoundFault> for BuildCode {
 // Appends the words of a fault.
 fn add_words(fault: &BuildFault, out: &mut Line)
     requires { length out.old ≤ 100 }
-    ensures { out.new ≡ out.old ++ fault_words fault.now }
+    ensures text { out.new ≡ out.old ++ fault_words fault.now }
+    ensures room { length out.new ≤ length out.old + 50 }
 {
     match fault {
         BuildFault::NoSpid => out.add(b"NOSPID"),
@@ -100,7 +101,8 @@ fn add_number(n: u32, out: &mut Line)
 // Writes the line of a refusal into an empty line.
 fn refused_line(line: u32, fault: &BuildFault, out: &mut Line)
     requires { out.old ≡ [] }
-    ensures { out.new ≡ Asks.refused_line line fault.now }
+    ensures text { out.new ≡ Asks.refused_line line fault.now }
+    ensures room { length out.new ≤ 150 }
 {
     out.add(b"REFUSED ");
     add_number(line, out);
@@ -142,7 +144,8 @@ impl BuildCode {
     /// Writes the line of a code, without its line feed, into an empty line. It stays empty where all is well.
     pub fn line(&self, out: &mut Line)
         requires { out.old ≡ [] }
-        ensures { out.new ≡ build_line self.now }
+        ensures text { out.new ≡ build_line self.now }
+        ensures room { length out.new ≤ 150 }
     {
         match self {
             BuildCode::Refused { line, fault } => refused_line(*line, fault, out),

@@ -4,3 +4,4 @@ pub mod FitFacts
 pub mod LaidFacts
 pub mod OctetFacts
 pub mod BuiltFacts
+pub mod RightFacts

@@ -6,7 +6,7 @@ use Rattle.mib_model.specs.declared.rows.PidRow.{PidRow}
 use Rattle.mib_model.specs.declared.database.Database.{Database}
 use Rattle.mib_model.specs.Attempts.{◌>>=◌}
 use Rattle.bit_writer.specs.declared.write.Write.{Write}
-use Rattle.build_rules.specs.Building.{both_discriminants, header_writes, packet_size, value_write, with_length}
+use Rattle.build_rules.specs.Building.{both_discriminants, built, header_writes, packet_size, value_write, with_length}
 use Rattle.build_rules.specs.declared.fault.BuildFault.{BuildFault}
 use Rattle.build_rules.specs.declared.fault.BuildFault.TheVariants.{Memory}
 use Rattle.build_rules.specs.declared.item.Item.{Item}
@@ -28,3 +28,14 @@ packed_with row criterion count values = with_length (writes_with row criterion 
 -- the packet of items of a row with this criterion
 abbrev pub built_row : Database → PidRow → Option PicRow → ℕ → List Item → Result (List ℕ) BuildFault
 built_row db row criterion count items = laid db row items >>= packed_with row criterion count
+
+-- so many octets at the front are this packet, or memory was wanting
+abbrev pub GivesOrLacksMemory : Result ℕ BuildFault → List ℕ → List ℕ → Type 0
+GivesOrLacksMemory (Ok octets) packet into = take octets into ≡ packet
+GivesOrLacksMemory (Err fault) packet into = fault ≡ Memory
+
+-- where nothing is wrong with what is asked for a call gives the packet, or memory is wanting
+abbrev pub BuildsWhatIsRight : Type 0
+BuildsWhatIsRight =
+    (db : Database) (spid count : ℕ) (items : List Item) (packet : List ℕ) (result : Result ℕ BuildFault) (into : List ℕ) → built db spid count items ≡ Ok packet
+    → Builds result (built db spid count items) into → GivesOrLacksMemory result packet into

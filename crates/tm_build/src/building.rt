@@ -1,13 +1,14 @@
-ghost use Rattle.std.specs.Prelude.{◌≡◌, ◌<◌, ◌≤◌, ◌^◌, ◌++◌, ◌∷◌, [], length, IfOk, OnOk};
+ghost use Rattle.std.specs.Prelude.{◌≡◌, ◌<◌, ◌≤◌, ◌^◌, ◌++◌, ◌∷◌, [], length, take, IfOk, OnOk};
 ghost use Rattle.std.specs.Option.{option_copied};
 ghost use Rattle.mib_model.specs.Soundness.{IsSound};
+ghost use Rattle.build_laws.specs.Laws.{GivesBack};
 ghost use Rattle.build_rules.specs.Building as Spec;
 ghost use Rattle.build_rules.specs.Building.{built, octets_most};
 ghost use Rattle.tm_build.specs.Builds.{Builds, built_row};
 
 use crate::laying::lay_items;
 use crate::tables::PacketTables;
-use crate::writes::{big, packet_writes};
+use crate::writes::{big, put_writes};
 use bit_field::{MOST_VALUES, shape_of};
 use bit_writer::{Write, octets_for, write_all};
 use build_rules::{BuildFault, Item};
@@ -61,27 +62,28 @@ fn add_length(writes: &mut Vec<Write>, octets: u64) -> Result<(), AllocError>
 
 // The packet of a row that writes leave with its length, at the front of octets: how many there are.
 fn pack(
-    alloc: Global,
     row: &PidRow,
-    mut writes: Vec<Write>,
+    writes: &mut Vec<Write>,
+    room: &mut [u8],
     into: &mut [u8],
 ) -> Result<u32, BuildFault>
-    requires { length into.old ≡ octets_most }
-    ensures built { Builds result (Spec.with_length writes.items (Spec.packet_size row.now writes.items)) into.new }
+    requires room { length room.old ≡ octets_most }
+    requires into { length into.old ≡ octets_most }
+    ensures built { Builds result (Spec.with_length writes.old.items (Spec.packet_size row.now writes.old.items)) into.new }
     ensures few { IfOk result (λ octets. octets ≤ octets_most) }
 {
     let least = (6 + u64::from(row.dfhsize)).max(9);
-    let octets = octets_for(least, &writes);
+    let octets = octets_for(least, writes);
     if octets > OCTETS_MOST {
         return Err(BuildFault::Long);
     }
-    let Ok(()) = add_length(&mut writes, octets) else {
+    let Ok(()) = add_length(writes, octets) else {
         return Err(BuildFault::Memory);
     };
-    match write_all(alloc, &writes, &mut into[..octets as usize]) {
-        Ok(Some(bit)) => Err(BuildFault::Clash { bit }),
-        Ok(None) => Ok(octets as u32),
-        Err(AllocError) => Err(BuildFault::Memory),
+    let size = octets as usize;
+    match write_all(writes, &mut into[..size], &mut room[..size]) {
+        Some(bit) => Err(BuildFault::Clash { bit }),
+        None => Ok(octets as u32),
     }
 }
 
@@ -112,20 +114,29 @@ fn unused() -> Value {
     }
 }
 
+// The types of a row in memory are octets.
+fn types_are_octets(row: PidRow)
+    ensures { (row.service < 2 ^ 8) × (row.subtype < 2 ^ 8) }
+{
+    let _types = (row.service, row.subtype);
+}
+
 /// Builds packets of a sound database, one after the other. Contracts see the database.
 pub struct Builder<'a> {
-    alloc: Global,
     tables: PacketTables<'a>,
     slots: Vec<Value>,
+    writes: Vec<Write>,
+    room: Vec<u8>,
 }
 
 /// By hand, so that whoever lets one go proves one call.
 impl Drop for Builder<'_> {
     fn drop(self) {
         let Builder {
-            alloc: _,
             tables: _tables,
             slots: _slots,
+            writes: _writes,
+            room: _room,
         } = self;
     }
 }
@@ -134,12 +145,13 @@ impl<'a> Model for Builder<'a> {
     ghost use Rattle.std.specs.Prelude.{◌≡◌, length};
     ghost use Rattle.mib_model.specs.declared.database.Database.{Database};
     ghost use Rattle.mib_model.specs.Fixed.{most_values};
+    ghost use Rattle.build_rules.specs.Building.{octets_most};
 
     ghost Value = { Database };
 
     ghost view = { λ builder. builder.tables };
 
-    ghost invariant = { λ builder. length builder.slots.items ≡ most_values };
+    ghost invariant = { λ builder. (length builder.slots.items ≡ most_values) × (length builder.room.items ≡ octets_most) };
 }
 
 impl<'a> Builder<'a> {
@@ -149,9 +161,10 @@ impl<'a> Builder<'a> {
         ensures { IfOk result (λ builder. builder ≡ book.now) }
     {
         Ok(Builder {
-            alloc,
             tables: PacketTables::new(alloc, book)?,
             slots: vec![in alloc; unused(); MOST_VALUES as usize]?,
+            writes: Vec::new(alloc),
+            room: vec![in alloc; 0; OCTETS_MOST as usize]?,
         })
     }
 
@@ -174,14 +187,15 @@ impl<'a> Builder<'a> {
             Err(fault) => return Err(fault),
         };
         let laid = &self.slots[..used as usize];
-        match packet_writes(self.alloc, row, criterion, count, laid) {
-            Ok(writes) => pack(self.alloc, row, writes, into),
+        match put_writes(&mut self.writes, row, criterion, count, laid) {
+            Ok(()) => pack(row, &mut self.writes, &mut self.room, into),
             Err(AllocError) => Err(BuildFault::Memory),
         }
     }
 
     /// Builds the packet of a SPID with a sequence count and items at the front of octets, and tells how many there are; else it
-    /// tells the first fault. Any call may tell `Memory`.
+    /// tells the first fault. By its identification the packet is of this SPID, and its layout or structure ends whole with the
+    /// items. Any call may tell `Memory`.
     pub fn build(
         &mut self,
         spid: u32,
@@ -192,6 +206,7 @@ impl<'a> Builder<'a> {
         requires count { count < 2 ^ 14 }
         requires room { length into.old ≡ octets_most }
         ensures built { Builds result (built self.old spid count items.now) into.new }
+        ensures gives_back { IfOk result (λ octets. GivesBack self.old spid items.now (take octets into.new)) }
         ensures few { IfOk result (λ octets. octets ≤ octets_most) }
         ensures kept { self.new ≡ self.old }
     {
@@ -205,6 +220,7 @@ impl<'a> Builder<'a> {
         if let Some(which) = lacking(&row, criterion.as_ref()) {
             return Err(BuildFault::Discriminant { which });
         }
+        types_are_octets(row);
         self.build_row(&row, criterion.as_ref(), count, items, into)
     }
 }
@@ -222,6 +238,7 @@ pub fn build(
     requires count { count < 2 ^ 14 }
     requires room { length into.old ≡ octets_most }
     ensures built { Builds result (built book.now spid count items.now) into.new }
+    ensures gives_back { IfOk result (λ octets. GivesBack book.now spid items.now (take octets into.new)) }
     ensures few { IfOk result (λ octets. octets ≤ octets_most) }
 {
     match Builder::new(alloc, book) {

@@ -18,6 +18,10 @@ impl By for BySpid {
     fn key(row: &PidRow) -> Option<u32> {
         Some(row.spid)
     }
+
+    fn number(spid: &u32) -> u64 {
+        u64::from(*spid)
+    }
 }
 
 /// Places by the SPID of their packet.
@@ -53,5 +57,10 @@ impl By for ByName {
 
     fn key(row: &PcfRow) -> Option<Name> {
         Some(row.name)
+    }
+
+    fn number(name: &Name) -> u64 {
+        let [a, b, c, d, e, f, g, h, ..] = *name.room();
+        u64::from_le_bytes([a, b, c, d, e, f, g, h])
     }
 }

@@ -7,6 +7,7 @@
 
 mod building;
 mod keys;
+mod laws;
 mod laying;
 mod layout;
 mod numbers;
@@ -15,3 +16,4 @@ mod writes;
 
 pub use build_rules::{BuildFault, Item};
 pub use building::{Builder, OCTETS_MOST, build};
+pub use laws::builds_what_is_right;

@@ -90,17 +90,18 @@ impl<'a> PacketTables<'a> {
         ensures { IfOk result (λ tables. tables ≡ book.now) }
     {
         Ok(PacketTables {
-            pids: FirstRows::new(alloc, book.pid())?,
+            pids: FirstRows::with_near(alloc, book.pid())?,
             pics: book.pic(),
             plfs: RowGroups::new(alloc, book.plf())?,
-            parameters: FirstRows::new(alloc, book.pcf())?,
+            parameters: FirstRows::with_near(alloc, book.pcf())?,
             structures: structures_of(alloc, book)?,
         })
     }
 
     /// The first row of pid with a SPID.
     pub fn packet(&self, spid: u32) -> Option<&PidRow>
-        ensures { option_copied result ≡ find (λ row. row.spid == spid) self.now.pid }
+        ensures row { option_copied result ≡ find (λ row. row.spid == spid) self.now.pid }
+        ensures sound { IsSound self.now }
     {
         self.pids.find(&spid)
     }

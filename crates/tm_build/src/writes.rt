@@ -1,5 +1,5 @@
 // What is written into a packet.
-ghost use Rattle.std.specs.Prelude.{◌≡◌, ◌≤◌, ◌^◌, ◌≤ℤ◌, ◌<ℤ◌, ◌++◌, neg_ℤ, pos, true, IfOk, OnOk, map};
+ghost use Rattle.std.specs.Prelude.{◌≡◌, ◌≤◌, ◌^◌, ◌≤ℤ◌, ◌<ℤ◌, ◌++◌, neg_ℤ, pos, true, OnOk, map};
 ghost use Rattle.std.specs.Option.{option_copied};
 ghost use Rattle.std.specs.List.{AllByRecursion};
 ghost use Rattle.build_rules.specs.Building as Spec;
@@ -7,7 +7,7 @@ ghost use Rattle.build_rules.specs.Laying.{fits};
 
 use bit_writer::Write;
 use mib_model::{DiscriminantWidth, Order, PicRow, PidRow, Shape, Value};
-use std::alloc::{AllocError, Global};
+use std::alloc::AllocError;
 
 /// A number in so many bits from a place on, the most significant octet first.
 pub fn big(at: u64, width: u16, number: u64) -> Write
@@ -101,10 +101,10 @@ fn add_values(writes: &mut Vec<Write>, values: &[Value]) -> Result<(), AllocErro
 
 // The headers but for the length: version 0, telemetry, a secondary header, the APID, unsegmented, the count; then 10 in
 // hexadecimal, the service type and the subtype (CCSDS 133.0-B, packet primary header; ECSS-E-70-41A, data field header).
-fn header_writes(alloc: Global, row: &PidRow, count: u16) -> Result<Vec<Write>, AllocError>
-    ensures { IfOk result (λ writes. writes.items ≡ Spec.header_writes row.now count) }
+fn header_writes(row: &PidRow, count: u16) -> [Write; 9]
+    ensures { result ≡ Spec.header_writes row.now count }
 {
-    Ok(vec![in alloc;
+    [
         big(0, 3, 0),
         big(3, 1, 0),
         big(4, 1, 1),
@@ -114,23 +114,25 @@ fn header_writes(alloc: Global, row: &PidRow, count: u16) -> Result<Vec<Write>, 
         big(48, 8, 0x10),
         big(56, 8, u64::from(row.service)),
         big(64, 8, u64::from(row.subtype)),
-    ]?)
+    ]
 }
 
-/// All that is written into a packet of a row with these values, but for its length. An error is want of memory.
-pub fn packet_writes(
-    alloc: Global,
+/// Puts all that is written into a packet of a row with these values, but for its length, in the place of the writes that stand.
+/// An error is want of memory.
+pub fn put_writes(
+    writes: &mut Vec<Write>,
     row: &PidRow,
     criterion: Option<&PicRow>,
     count: u16,
     values: &[Value],
-) -> Result<Vec<Write>, AllocError>
+) -> Result<(), AllocError>
     requires { AllByRecursion (λ v. fits v.shape v.raw ≡ true) values.now }
-    ensures { IfOk result (λ writes. writes.items ≡ Spec.header_writes row.now count
+    ensures { OnOk result (writes.new.items ≡ Spec.header_writes row.now count
         ++ Spec.both_discriminants row.now (option_copied criterion.entry) ++ map Spec.value_write values.now) }
 {
-    let mut writes = header_writes(alloc, row, count)?;
-    add_discriminants(&mut writes, row, criterion)?;
-    add_values(&mut writes, values)?;
-    Ok(writes)
+    writes.clear();
+    writes.extend_from_slice(&header_writes(row, count))?;
+    add_discriminants(writes, row, criterion)?;
+    add_values(writes, values)?;
+    Ok(())
 }

@@ -14,9 +14,9 @@ add_length-requires c =
 pub write_all-requires-clause-inside : goal.write_all-requires-clause-inside
 write_all-requires-clause-inside c =
     let n : ℕ = c.octets_for-octets.result in
-    let old : List Write = c.args.writes.items in
+    let old : List Write = c.args.writes.now.items in
     let more = least-octets c.max-least.result c.deref.result.now in
-    let long : length (take n c.args.into.now) ≡ n = length-take-le n c.args.into.now (omega (arith, c.requires, c.if-octets-gt-OCTETS_MOST.false)) in
+    let long : length (take n c.args.into.now) ≡ n = length-take-le n c.args.into.now (omega (arith, c.requires.into, c.if-octets-gt-OCTETS_MOST.false)) in
     let items : c.deref-2.result.now ≡ old ++ length_write n ∷ [] = c.deref-2.ensures.value ∙ c.in-Ok.ensures in
     let size : n ≡ octets_for c.max-least.result old = c.octets_for-octets.ensures ∙ ap (octets_for c.max-least.result) c.deref.ensures.value in
     let first : All (λ w. w.at + w.width ≤ 8 * n) old = subst (λ (m : ℕ). All (λ w. w.at + w.width ≤ 8 * m) old) (sym size) (all-inside c.max-least.result old) in
