@@ -1,10 +1,13 @@
 //! The monitoring half of a spacecraft control system in the manner of SCOS-2000, as a program: `main` hands the words of its
-//! command line, real files and standard streams to the call `tool` of `mibtm_tool`, or to `build_tool` of `mibtm_build`, which
-//! promise what is printed and with which status they end. The line of that status goes to standard error. It stands on `tm_io`
+//! command line, real files and standard streams to the call `tool` of `mibtm_tool`, to `build_tool` of `mibtm_build` or to `audit_tool` of
+//! `mibtm_audit`, which promise what is printed and with which status they end. The line of that status goes to standard error. It stands on `tm_io`
 //! for files and streams.
 #![tactic(auto)]
 
+ghost use Rattle.std.specs.Prelude.{◌≤◌, length};
+
 use mib_model::{Code, Line, Misuse};
+use mibtm_audit::audit_tool;
 use mibtm_build::{BuildCode, build_tool};
 use mibtm_tool::tool;
 use record_text::code_line;
@@ -15,6 +18,7 @@ use std::process::ExitCode;
 use std::rt::{Stderr, Stdout};
 use std::sync::Wait;
 use std::thread::Threads;
+use tm_audit::AuditCode;
 use tm_io::{FileShelf, NoGate, StdSink};
 
 // The words behind the program's name. Where one isn't UTF-8 none is known, so the command isn't either.
@@ -31,11 +35,12 @@ fn arguments(rt: HostRuntime) -> Result<Vec<String>, Code> {
     Ok(words)
 }
 
-// How a call ended: its status, and the line that tells it.
+// How a call ended: its status, and the line that tells it, with room for its line feed.
 #[derive(Drop)]
 struct Ending {
     status: u8,
     line: Line,
+    ghost short: { length line ≤ 150 },
 }
 
 impl From<Code> for Ending {
@@ -60,8 +65,21 @@ impl From<BuildCode> for Ending {
     }
 }
 
+impl From<AuditCode> for Ending {
+    fn from(code: AuditCode) -> Ending {
+        let mut line = Line::new();
+        code.line(&mut line);
+        Ending {
+            status: code.number(),
+            line,
+        }
+    }
+}
+
 // Writes the line of an ending to standard error, unless all is well.
-fn tell(rt: HostRuntime, line: &mut Line) {
+fn tell(rt: HostRuntime, mut line: Line)
+    requires { length line ≤ 150 }
+{
     if line.bytes().is_empty() {
         return;
     }
@@ -76,6 +94,7 @@ struct Outside {
     tables: FileShelf<HostRuntime>,
     feed: FileShelf<HostRuntime>,
     desk: FileShelf<HostRuntime>,
+    text: FileShelf<HostRuntime>,
     out: StdSink<Stdout>,
     replies: StdSink<Stderr>,
 }
@@ -86,6 +105,7 @@ impl Outside {
             tables: FileShelf::new(rt, rt.alloc())?,
             feed: FileShelf::new(rt, rt.alloc())?,
             desk: FileShelf::new(rt, rt.alloc())?,
+            text: FileShelf::new(rt, rt.alloc())?,
             out: StdSink::new(rt.stdout(), rt.alloc())?,
             replies: StdSink::new(rt.stderr(), rt.alloc())?,
         })
@@ -112,6 +132,7 @@ fn call<X: Threads + Wait + Sync>(
         tables,
         feed,
         desk,
+        text,
         out,
         replies,
     } = outside;
@@ -119,15 +140,18 @@ fn call<X: Threads + Wait + Sync>(
         [word, ..] if word.as_str() == "build" => {
             Ending::from(build_tool(alloc, words, tables, desk, out))
         }
+        [word, ..] if word.as_str() == "audit" => {
+            Ending::from(audit_tool(alloc, words, tables, feed, desk, text, out))
+        }
         _ => Ending::from(tool(rt, alloc, words, tables, feed, desk, out, replies, &NoGate).code),
     }
 }
 
 fn main(rt: HostRuntime) -> ExitCode {
-    let Ending { status, mut line } = match prepare(rt) {
+    let Ending { status, line } = match prepare(rt) {
         Ok((words, mut outside)) => call(&rt, rt.alloc(), &words, &mut outside),
         Err(code) => Ending::from(code),
     };
-    tell(rt, &mut line);
+    tell(rt, line);
     ExitCode::from(status)
 }

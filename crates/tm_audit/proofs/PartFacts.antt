@@ -120,3 +120,11 @@ part-none number (octet ∷ rest) (another ∷ others) e =
 
 pub alone_is_same : AloneIsSame
 alone_is_same text other e = part-none 1 text other (sym (parts 1 text other) ∙ e)
+
+-- a text doesn't part from itself
+pub parts-itself : (number : ℕ) (text : List ℕ) → parting number text text ≡ None
+unfolding parting
+parts-itself number [] = refl
+parts-itself number (octet ∷ rest) =
+    ap (λ (b : Bool). cond b (parting (cond (is_feed octet) (suc number) number) rest rest) (Some number)) (eq-eqb octet octet refl)
+    ∙ parts-itself (cond (is_feed octet) (suc number) number) rest

@@ -19,6 +19,8 @@ plain_code code.TablesFault = Some plain.TablesFault
 plain_code code.FeedFault = Some plain.FeedFault
 plain_code code.DeskFault = Some plain.DeskFault
 plain_code code.OutFault = Some plain.OutFault
+plain_code code.ReplyFault = Some plain.ReplyFault
+plain_code code.Limit = Some plain.Limit
 plain_code code.Want = Some plain.Want
 plain_code other = None
 

@@ -11,7 +11,7 @@ pub enum AuditInput {
     Text,
 }
 
-/// How an audit ends.
+/// How an audit ends. There are no replies and no packet is stamped, so `ReplyFault` and `Limit` never come.
 #[derive(Clone, Copy, Debug, PartialEq, Eq)]
 pub enum AuditCode {
     /// The text is the one that is expected.
@@ -26,6 +26,8 @@ pub enum AuditCode {
     FeedFault,
     DeskFault,
     OutFault,
+    ReplyFault,
+    Limit,
     /// Want of memory.
     Want,
     /// The text isn't the one that is expected, and this line of it, counted from 1, is the first that differs.

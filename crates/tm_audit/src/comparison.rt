@@ -1,4 +1,4 @@
-ghost use Rattle.std.specs.Prelude.{◌≡◌, ◌≢◌, ◌≤◌, ◌<◌, true, ◌+◌, ◌++◌, [], ℕ, List, drop, length, slice_index, take};
+ghost use Rattle.std.specs.Prelude.{◌≡◌, ◌≢◌, ◌≤◌, ◌<◌, true, false, None, ◌+◌, ◌++◌, [], ℕ, List, drop, length, slice_index, take};
 ghost use Rattle.std.specs.List.{count_by};
 ghost use Rattle.mib_model.specs.Lines.{is_feed};
 ghost use Rattle.tm_audit.specs.Comparing.{parting_with};
@@ -88,7 +88,8 @@ impl<'a> Comparison<'a> {
 
     /// Whether the text parts already from what is expected.
     pub fn is_apart(&self) -> bool
-        ensures { (more : List ℕ) → result ≡ true → parting_with self.now more ≡ parting_with self.now [] }
+        ensures apart { (more : List ℕ) → result ≡ true → parting_with self.now more ≡ parting_with self.now [] }
+        ensures together { result ≡ false → (more : List ℕ) × (parting_with self.now more ≡ None) }
     {
         self.is_apart
     }

@@ -30,6 +30,8 @@ impl AuditCode {
             AuditCode::FeedFault => Code::FeedFault,
             AuditCode::DeskFault => Code::DeskFault,
             AuditCode::OutFault => Code::OutFault,
+            AuditCode::ReplyFault => Code::ReplyFault,
+            AuditCode::Limit => Code::Limit,
             AuditCode::Want => Code::Want,
             _ => return None,
         })
@@ -63,7 +65,8 @@ impl AuditCode {
     // Writes the line of an end that an audit alone has and that is no finding into an empty line.
     fn own_line(&self, out: &mut Line)
         requires { out.old ≡ [] }
-        ensures { out.new ≡ Spec.own_line self.now }
+        ensures text { out.new ≡ Spec.own_line self.now }
+        ensures room { length out.new ≤ 150 }
     {
         match self {
             AuditCode::NoFile(_) => out.add(b"NOFILE TEXT"),
@@ -76,7 +79,8 @@ impl AuditCode {
     #[tactic(auto, unfolding(crate::specs::Codes::audit_line))]
     pub fn line(&self, out: &mut Line)
         requires { out.old ≡ [] }
-        ensures { out.new ≡ Spec.audit_line self.now }
+        ensures text { out.new ≡ Spec.audit_line self.now }
+        ensures room { length out.new ≤ 150 }
     {
         match self.plain() {
             Some(code) => code_line(&code, out),
