@@ -10,11 +10,18 @@ is() {
     [ "${COMPREPLY[*]}" = "$1" ] || { echo "mibtm ${*:3}: ${COMPREPLY[*]}"; failed=1; }
 }
 is "check" mibtm c
-is "check decode live drill" mibtm ""
+is "check decode live build audit drill" mibtm ""
 is "--workers" mibtm decode mib feed -
 is "1 16" mibtm live mib feed desk --workers 1
 is "samples" mibtm check sam
+is "README.md" mibtm build samples READ
+is "" mibtm build samples README.md ""
+is "README.md" mibtm audit samples feed desk READ
 is "" mibtm drill ""
-for status in 0 2 3 4 5 6 7 8 9 10 11 12; do grep -q "^$status  *[a-z1]" tools/mibtm.1 || { echo "status $status isn't in the manual page"; failed=1; }; done
+for status in 0 2 3 4 5 6 7 8 9 10 11 12 13 14 15 16; do grep -q "^$status  *[a-z1]" tools/mibtm.1 || { echo "status $status isn't in the manual page"; failed=1; }; done
+for command in check decode live build audit drill; do
+    grep -q "^\.B mibtm $command$" tools/mibtm.1 || { echo "$command isn't in the manual page"; failed=1; }
+    grep -q "'$command:" tools/completions/_mibtm || { echo "$command isn't in the completions of zsh"; failed=1; }
+done
 [ "$failed" -eq 0 ] && echo "completions and manual page are as the program's words"
 exit "$failed"

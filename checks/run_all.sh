@@ -3,7 +3,7 @@
 #
 #     checks/run_all.sh PROGRAM [SEED]
 #
-# Debian's packages python3-bitstruct, tshark, python3-matplotlib, parallel, socat, netcat-openbsd and xxd are used; a check whose package isn't
+# Debian's packages python3-bitstruct, tshark, python3-matplotlib, parallel, socat, netcat-openbsd, mawk and xxd are used; a check whose package isn't
 # there fails. Some 20 minutes on 4 processors.
 set -u
 program=$(readlink -f "$1"); seed=${2:-1}
@@ -25,11 +25,13 @@ run python3 checks/drill.py "$program" "$seed" 10
 run python3 checks/random_decodes.py "$program" 300 "$seed"
 run python3 checks/random_lives.py "$program" 300 "$seed"
 run python3 checks/random_saves.py "$program" 500 "$seed"
+run python3 checks/audits.py "$program" 200 "$seed" 30
 run python3 checks/failing_objects.py "$program" 1 2 4
 run python3 checks/malicious.py "$program"
 run python3 checks/refused_memory.py "$program"
 run python3 checks/lints.py "$program" 2000 "$seed"
 run python3 checks/replays.py "$program" 100 "$seed"
+run python3 checks/helpers.py "$program"
 run python3 checks/operating.py "$program"
 run /usr/bin/python3 checks/tutorial.py "$program"
 run python3 checks/archives.py "$program" parallel

@@ -4,7 +4,8 @@
     checks/tutorial.py PROGRAM
 
 Each runs in a copy of the samples, tools and checks with the program where `rt run` leaves it. A line of a block of text has to stand in
-what was printed or written, and a line `command   # words` has to print these words where they are a fault's.
+what was printed or written, and a line `command   # words` has to print these words where they are a fault's. The files that are left are those that the page
+takes away. The helpers run by the python3 that runs this check, which needs Debian's matplotlib: /usr/bin/python3 has it.
 """
 import os
 import re
@@ -15,6 +16,7 @@ import tempfile
 
 TOP = os.path.dirname(os.path.dirname(os.path.abspath(__file__)))
 SECONDS = 300
+COPIED = ("samples", "tools", "checks", "docs")
 
 
 def main():
@@ -24,16 +26,17 @@ def main():
     shown = [it.strip() for block in re.findall(r"^ *```text\n(.*?)^ *```", text, re.M | re.S) for it in block.splitlines() if it.strip() not in ("", "..")]
     shown += re.findall(r"# (BADMIB .*)$|# (TEMP .*)$", text, re.M) and [a or b for a, b in re.findall(r"# (BADMIB .*)$|# (TEMP .*)$", text, re.M)]
     wrong = 0
+    environment = {**os.environ, "PATH": f"{os.path.dirname(sys.executable)}:{os.environ['PATH']}"}
     for shell in ("sh", "dash", "bash"):
         with tempfile.TemporaryDirectory() as folder:
-            for name in ("samples", "tools", "checks", "docs"):
+            for name in COPIED:
                 shutil.copytree(f"{TOP}/{name}", f"{folder}/{name}")
             os.makedirs(f"{folder}/crates/mibtm/out")
             shutil.copy(sys.argv[1], f"{folder}/crates/mibtm/out/mibtm")
             with open(f"{folder}/script", "w", encoding="utf-8") as file:
                 file.write(script)
             before = {os.path.join(at, it) for at, _, files in os.walk(folder) for it in files}
-            done = subprocess.run([shell, "script"], cwd=folder, stdout=subprocess.PIPE, stderr=subprocess.STDOUT, stdin=subprocess.DEVNULL, timeout=SECONDS)
+            done = subprocess.run([shell, "script"], cwd=folder, env=environment, stdout=subprocess.PIPE, stderr=subprocess.STDOUT, stdin=subprocess.DEVNULL, timeout=SECONDS)
             found = done.stdout.decode("latin-1")
             for at, _, files in os.walk(folder):
                 for it in files:
@@ -42,7 +45,10 @@ def main():
                             found += file.read().decode("latin-1")
             lines = {it.strip() for it in found.splitlines()}
             missing = [it for it in shown if it not in lines]
-            wrong += len(missing) + ("differ" in found)
+            left = {it for it in os.listdir(folder) if it not in (*COPIED, "crates", "script")}
+            if left != set(re.search(r"`rm -r ([^`]*)`", text)[1].split()):
+                missing.append(f"files that are left: {' '.join(sorted(left))}")
+            wrong += len(missing) + ("differ" in found) + ("Traceback" in found)
             print(f"{shell}: {len(shown)} lines are shown, {len(missing)} of them missing", *missing, sep="\n  ")
     return 1 if wrong else 0
 

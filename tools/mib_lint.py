@@ -1,15 +1,16 @@
 #!/usr/bin/env python3
-"""Tells all faults of a folder of tables at once, and warns of what is accepted and probably meant otherwise.
+"""Tells the faults of a folder of tables, and warns of what is accepted and probably meant otherwise.
 
     tools/mib_lint.py MIB
 
-A fault has the table, the row, the word and the column as `mibtm check` tells the first of them, then the line of the file, the
-column's name, its value and a hint. Warnings come behind, each begins with `warning`. The status is 1 where there is a fault.
+All faults of form are told at once; once there is none, all others and the warnings. A fault has the table, the row, the word and
+the column as `mibtm check` tells the first of them, then the line of the file, the column's name, its value and a hint. Warnings
+come behind, each begins with `warning`. The status is 1 where there is a fault, or no row at all.
 Not part of what is proved: `mibtm check` decides what is accepted.
 """
-import sys
 from fractions import Fraction
 
+import helper_words
 import mib_tables
 from mib_tables import KEYS, MOST_ROW, MOST_ROWS, MOST_TEXT, TABLES, number
 
@@ -364,9 +365,12 @@ class Lint:
         return 1 if self.faults else 0
 
 
-def main():
-    lint = Lint(sys.argv[1])
+def main(given):
+    lint = Lint(given.mib)
     lint.read()
+    if not lint.faults and not any(lint.rows.values()):
+        print(f"0 rows: is {given.mib} the folder? Tables are files named pcf.dat and so on, in lower case")
+        return 1
     if not lint.faults:
         lint.sound()
         lint.warn_all()
@@ -374,4 +378,6 @@ def main():
 
 
 if __name__ == "__main__":
-    sys.exit(main())
+    words = helper_words.reader(__doc__)
+    words.add_argument("mib", metavar="MIB", help="a folder of tables")
+    helper_words.run(words, main)

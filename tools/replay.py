@@ -9,6 +9,8 @@ activations may be to come at once, so a run with more is refused here, with sta
 """
 import sys
 
+import helper_words
+
 MOST = 16
 
 
@@ -35,8 +37,8 @@ def replayed(script, replies):
     return kept, sorted(schedule.items())
 
 
-def main():
-    with open(sys.argv[1], "rb") as script, open(sys.argv[2], "rb") as replies:
+def main(given):
+    with open(given.desk, "rb") as script, open(given.replies, "rb") as replies:
         kept, schedule = replayed(script.read(), replies.read())
     if len(schedule) > MOST:
         sys.exit(f"{len(schedule)} activations took effect, and at most {MOST} can be to come at once")
@@ -45,4 +47,7 @@ def main():
 
 
 if __name__ == "__main__":
-    main()
+    words = helper_words.reader(__doc__)
+    words.add_argument("desk", metavar="DESK", help="the script of the live run")
+    words.add_argument("replies", metavar="REPLIES", help="what stood on its standard error")
+    helper_words.run(words, main)

@@ -10,9 +10,10 @@
 RANGES has lines of FROM, TO and a folder of tables, parted by spaces; a recording belongs to the first line whose FROM is not after
 its name and whose TO is after it, as texts (so names begin with their time, as 2026-11-30T07). OUT is on a disk that all machines
 share. A job writes NAME.records and, once that is whole, NAME.done with the checksums of recording, tables and records; one whose
-NAME.done fits is not done again, so any call may be repeated. The program is `mibtm` of the path, or MIBTM. None of this is part of
+NAME.done fits is not done again, so any call may be repeated. A bar with the time left is shown on a terminal alone. The program is `mibtm` of the path, or MIBTM. None of this is part of
 what is proved; each recording is one run of `mibtm decode`, with no memory of the one before.
 """
+import argparse
 import hashlib
 import json
 import os
@@ -20,6 +21,8 @@ import shutil
 import subprocess
 import sys
 import time
+
+import helper_words
 
 
 def sum_of_file(path):
@@ -112,9 +115,15 @@ def counts_of(records):
     return packets, alarms, unknown
 
 
+def engine(name):
+    """The engine's program, or an end with the name of its package."""
+    return shutil.which(name) or sys.exit(f"{name} isn't on the path (Debian: {'parallel' if name == 'parallel' else 'slurm-wlm'})")
+
+
 def parallel(out, *words):
-    number = len(jobs_of(out))
-    call = [shutil.which("parallel") or "parallel", "--will-cite", "--bar", "--eta", "--joblog", f"{out}/log", "--resume-failed", "--retries", "2", *words,
+    """Each job is called at each call: which of them are done already is known to `one` alone."""
+    number, shown = len(jobs_of(out)), ["--bar", "--eta"] if sys.stderr.isatty() else []
+    call = [engine("parallel"), "--will-cite", *shown, "--joblog", f"{out}/log", "--retries", "2", *words,
             sys.executable, os.path.abspath(__file__), "one", os.path.abspath(out), "{}"]
     done = subprocess.run(call, input="".join(f"{it}\n" for it in range(1, number + 1)).encode())
     return max(summary(out), min(done.returncode, 1))
@@ -124,15 +133,17 @@ def slurm(out, *words):
     """One array of jobs; waits for its end with a line that tells how far it is."""
     number, begun = len(jobs_of(out)), time.time()
     step = f"{sys.executable} {os.path.abspath(__file__)} one {os.path.abspath(out)} $SLURM_ARRAY_TASK_ID"
-    call = ["sbatch", "--parsable", f"--array=1-{number}", "--requeue", f"--output={out}/slurm.%a", *words, "--wrap", step]
+    call = [engine("sbatch"), "--parsable", f"--array=1-{number}", "--requeue", f"--output={out}/slurm.%a", *words, "--wrap", step]
     array = subprocess.run(call, check=True, stdout=subprocess.PIPE, text=True).stdout.strip().split(";")[0]
     while subprocess.run(["squeue", "-h", "-j", array], stdout=subprocess.PIPE, stderr=subprocess.DEVNULL).stdout.strip():
         done = sum(it.endswith(".done") for it in os.listdir(out))
         rate = done / max(time.time() - begun, 1)
         left = f"{(number - done) / rate / 60:.0f} minutes left" if rate else ""
-        print(f"\r{done} of {number} [{'#' * (40 * done // number):40}] {rate:.1f} a second {left}", end="", file=sys.stderr, flush=True)
+        if sys.stderr.isatty():
+            print(f"\r{done} of {number} [{'#' * (40 * done // number):40}] {rate:.1f} a second {left}", end="", file=sys.stderr, flush=True)
         time.sleep(1)
-    print(file=sys.stderr)
+    if sys.stderr.isatty():
+        print(file=sys.stderr)
     return summary(out)
 
 
@@ -155,9 +166,21 @@ def summary(out):
     return 1 if left else 0
 
 
-CALLS = {"plan": plan, "one": one, "parallel": parallel, "slurm": slurm, "summary": summary}
+CALLS = {"plan": (plan, "RECORDINGS", "RANGES", "OUT"), "one": (one, "OUT", "NUMBER"), "parallel": (parallel, "OUT"), "slurm": (slurm, "OUT"), "summary": (summary, "OUT")}
+
+
+def reader():
+    words = helper_words.reader(__doc__)
+    calls = words.add_subparsers(required=True, metavar="|".join(CALLS))
+    for name, (call, *places) in CALLS.items():
+        it = calls.add_parser(name)
+        for place in places:
+            it.add_argument(place.lower(), metavar=place, **({"type": int} if place == "NUMBER" else {}))
+        if call in (parallel, slurm):
+            it.add_argument("words", metavar="WORD", nargs=argparse.REMAINDER)
+        it.set_defaults(run=lambda given, call=call, places=places: call(*[getattr(given, at.lower()) for at in places], *getattr(given, "words", [])))
+    return words
+
 
 if __name__ == "__main__":
-    if len(sys.argv) < 3 or sys.argv[1] not in CALLS:
-        sys.exit(__doc__)
-    sys.exit(CALLS[sys.argv[1]](*sys.argv[2:]))
+    helper_words.run(reader(), lambda given: given.run(given))

@@ -9,7 +9,7 @@ _mibtm() {
         esac
     done
     if [ "$COMP_CWORD" -eq 1 ]; then
-        COMPREPLY=($(compgen -W "check decode live drill" -- "$word"))
+        COMPREPLY=($(compgen -W "check decode live build audit drill" -- "$word"))
     elif [ "$before" = --workers ]; then
         COMPREPLY=($(compgen -W "1 2 4 8 16" -- "$word"))
     elif [[ $word == -* && ${COMP_WORDS[1]} =~ ^(decode|live)$ ]]; then
@@ -17,7 +17,8 @@ _mibtm() {
     elif [ "${COMP_WORDS[1]}" != drill ] && [ "$at" -eq 0 ]; then
         compopt -o filenames 2>/dev/null
         COMPREPLY=($(compgen -d -- "$word"))
-    elif [ "${COMP_WORDS[1]}" = decode ] && [ "$at" -eq 1 ] || [ "${COMP_WORDS[1]}" = live ] && [ "$at" -le 2 ]; then
+    elif [[ ${COMP_WORDS[1]} =~ ^(decode|build)$ ]] && [ "$at" -eq 1 ] || [ "${COMP_WORDS[1]}" = live ] && [ "$at" -le 2 ] ||
+        [ "${COMP_WORDS[1]}" = audit ] && [ "$at" -le 3 ]; then
         compopt -o filenames 2>/dev/null
         COMPREPLY=($(compgen -f -- "$word"))
     fi
