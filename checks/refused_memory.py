@@ -131,7 +131,8 @@ def counts(tries, mib):
                 tries.is_so(f"{command} of {packets} packets", (status, told), lambda it: it == (0, b""))
                 row.append(number)
             table.append((command, workers, row))
-            tries.is_so(f"{command}, {workers} workers: requests by packets {row}", row, lambda it: it[1] == it[3])
+            # a thread that begins once another has ended takes over what the C library asked for that one
+            tries.is_so(f"{command}, {workers} workers: requests by packets {row}", row, lambda it: abs(it[3] - it[1]) < int(workers))
     for command, workers, row in table:
         print(f"requests of {command}, {workers} workers, {os.path.basename(mib)}: of 0, 100, 1,000 and 100,000 packets {row}")
 

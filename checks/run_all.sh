@@ -25,6 +25,7 @@ run python3 checks/drill.py "$program" "$seed" 10
 run python3 checks/random_decodes.py "$program" 300 "$seed"
 run python3 checks/random_lives.py "$program" 300 "$seed"
 run python3 checks/random_saves.py "$program" 500 "$seed"
+run /usr/bin/python3 checks/builds.py "$program" 1000 "$seed" 2
 run python3 checks/audits.py "$program" 200 "$seed" 30
 run python3 checks/failing_objects.py "$program" 1 2 4
 run python3 checks/malicious.py "$program"
