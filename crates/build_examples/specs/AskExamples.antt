@@ -13,7 +13,7 @@ use Rattle.mib_examples.specs.Given.{database, given, nothing, packet_a, shared,
 unfoldable pub plain : Database
 plain = database shared
 
--- the same with another text for a table
+-- one parameter of 16 bits in one packet, but with another text for a table
 abbrev pub plain_but : Kind → List ℕ → Database
 plain_but k text = database (given k (table text) shared)
 

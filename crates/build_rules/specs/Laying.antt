@@ -47,7 +47,7 @@ value_if_fit name shape at raw = if fits shape raw then Ok (record { name = name
 abbrev pub last_bit : ℕ
 last_bit = 2 ^ 64 - 1
 
--- the same at a cursor, which may not stand before the packet; behind the last bit it counts as that
+-- a raw number of an encoding as a value at a cursor, which may not stand before the packet; behind the last bit it counts as that
 abbrev pub value_laid : List ℕ → Encoding → ℤ → ℤ → Result Value WalkEnd
 value_laid name shape (negsuc n) raw = Err (Ended (Short name))
 value_laid name shape (pos at) raw = value_if_fit name shape (min at last_bit) raw

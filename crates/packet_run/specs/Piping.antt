@@ -29,13 +29,15 @@ module _ {W : Type 0} (stands : W → List Member → Type 0) where
     pub watched : (told : List Member) → stands from.watch told → stands watch (told ++ members_from (start from.first) (take done all))
 
 module _ {P : Type 0} {plans : Structures.Ghosts P} where
-  -- the jobs that the caller put, the tasks that it got back, and the results that it got
+  -- the tasks that the caller put into the queue of jobs
   abbrev pub put_by : Pipeline P plans → List (Task P plans)
   put_by pipeline = (account_of pipeline.first).put
 
+  -- the tasks that the caller got back from the queue of jobs, to work them itself
   abbrev pub got_by : Pipeline P plans → List (Task P plans)
   got_by pipeline = (account_of pipeline.first).got
 
+  -- the tasks that the caller got from the queue of results
   abbrev pub results_of : Pipeline P plans → List (Task P plans)
   results_of pipeline = (account_of pipeline.second).got
 

@@ -10,6 +10,7 @@ pub record Member : Type 0 where
   pub edition : ℕ
   pub memory : Memory
 
+-- a packet of this number and edition, with what is kept after it, as a watch is told of it
 abbrev pub member : ℕ → ℕ → Memory → Member
 member number edition memory = record { number = number; edition = edition; memory = memory }
 

@@ -71,7 +71,7 @@ fn drive_feed<P: Plans + Rows + Drop, S: Source, O: Sink, W: Watch, R: Wait>(
     ended
 }
 
-// The same over a source.
+// The caller's side of a run over the packets of a source.
 fn drive<P: Plans + Rows + Drop, S: Source, O: Sink, W: Watch, R: Wait>(
     rt: &R,
     crew: &Crew<P>,

@@ -15,7 +15,7 @@ bent_records =
     codes "PKT 3 APID 100 COUNT 0 TYPE 3/25 SPID 4001\n" ++
     codes "  T1 2000 = 100\n"
 
--- the same by the first tables
+-- the records of the second and the third packet by the first tables
 abbrev pub straight_records : List ℕ
 straight_records =
     codes "PKT 2 APID 100 COUNT 0 TYPE 3/25 SPID 4001\n" ++
