@@ -113,7 +113,12 @@ fn packets_are_built_of_lines(rt: HostRuntime) -> Result<(), Fail> {
         b"",
     )?;
     let counted = b"4002 0 N 2 V 1 V 2 V 3 V 4 V 5 V 6\n";
-    comes_to(&rt, alloc, BUILD, counted, COUNTED, 0, b"")?;
+    comes_to(&rt, alloc, BUILD, counted, COUNTED, 0, b"")
+}
+
+#[test]
+fn the_first_line_that_builds_no_packet_is_told(rt: HostRuntime) -> Result<(), Fail> {
+    let alloc = rt.alloc();
     comes_to(
         &rt,
         alloc,
