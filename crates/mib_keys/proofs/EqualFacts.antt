@@ -26,7 +26,7 @@ module _ {R : Type 0} (same : R → R → Bool) (equal : (x y : R) → same x y 
       λ i. first i ∷ rest i
 
   -- tables that were compared by a test that is this one
-  pub equal-tables : {a b xs ys : List R} {test : R → R → Bool} {r : Bool} → xs ≡ a → ys ≡ b → r ≡ pointwise test xs ys → ((x y : R) → test x y ≡ same x y) → r ≡ true → a ≡ b
+  equal-tables : {a b xs ys : List R} {test : R → R → Bool} {r : Bool} → xs ≡ a → ys ≡ b → r ≡ pointwise test xs ys → ((x y : R) → test x y ≡ same x y) → r ≡ true → a ≡ b
   equal-tables {a} {b} {xs} {ys} {test} {r} old new is each holds =
       sym old ∙ equal-lists xs ys ((λ i. pointwise (λ x y. sym (each x y) i) xs ys) ∙ sym is ∙ holds) ∙ new
 
@@ -48,7 +48,7 @@ module _ {R : Type 0} (columns : List Column) (cells : R → Cells columns) (row
   same_row x y = same_cells columns (cells x) (cells y)
 
   -- rows of which all columns are the same
-  pub equal-rows : ((x : R) → row (cells x) ≡ x) → (x y : R) → same_row x y ≡ true → x ≡ y
+  equal-rows : ((x : R) → row (cells x) ≡ x) → (x y : R) → same_row x y ≡ true → x ≡ y
   equal-rows again x y h = sym (again x) ∙ (ap row ((same_values-Decides columns (cells x) (cells y)).0 h) ∙ again y)
 
   -- two rows are equal exactly where all their columns are the same
@@ -56,8 +56,5 @@ module _ {R : Type 0} (columns : List Column) (cells : R → Cells columns) (row
   rows-decide again x y = (equal-rows again x y, λ e. (same_values-Decides columns (cells x) (cells y)).1 (ap cells e))
 
 -- limits that are the same
-pub equal-limits : (x y : OcpRow) → same_ocp x y ≡ true → x ≡ y
-equal-limits x y h = let states = is_of_states x.sort in equal-rows (ocp states) (ocp_cells states) (ocp_row states) (λ x. refl) x y h
-
 pub limits-decide : (x y : OcpRow) → Decides (same_ocp x y) (x ≡ y)
 limits-decide x y = let states = is_of_states x.sort in rows-decide (ocp states) (ocp_cells states) (ocp_row states) (λ x. refl) x y

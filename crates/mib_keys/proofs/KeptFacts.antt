@@ -1,28 +1,13 @@
 -- The flaws of a table depend on the tables alone that it reads: where these are the same, the flaws are.
-use Rattle.std.proofs.Common.{◌≡◌, ℕ, zero, suc, ◌<◌, Bool, true, false, ◌&&◌, List, [], ◌∷◌, ◌++◌, get_or, length, refl, ap, arith}
+use Rattle.std.proofs.Common.{◌≡◌, ◌∙◌, ℕ, zero, suc, ◌<◌, Bool, true, false, ◌&&◌, ◌||◌, not, List, [], ◌∷◌, ◌++◌, get_or, length, refl, sym, ap, arith}
 use Rattle.std.specs.List.{flat_map}
 use Rattle.mib_model.specs.declared.database.Database.{Database}
 use Rattle.mib_model.specs.declared.kind.Kind.{Kind}
 use Rattle.mib_model.specs.declared.kind.Kind.TheVariants as kind
-use Rattle.mib_model.specs.declared.rows.PcfRow.{PcfRow}
-use Rattle.mib_model.specs.declared.rows.PidRow.{PidRow}
-use Rattle.mib_model.specs.declared.rows.PicRow.{PicRow}
-use Rattle.mib_model.specs.declared.rows.TpcfRow.{TpcfRow}
-use Rattle.mib_model.specs.declared.rows.PlfRow.{PlfRow}
-use Rattle.mib_model.specs.declared.rows.VpdRow.{VpdRow}
-use Rattle.mib_model.specs.declared.rows.CurRow.{CurRow}
-use Rattle.mib_model.specs.declared.rows.CafRow.{CafRow}
-use Rattle.mib_model.specs.declared.rows.CapRow.{CapRow}
-use Rattle.mib_model.specs.declared.rows.TxfRow.{TxfRow}
-use Rattle.mib_model.specs.declared.rows.TxpRow.{TxpRow}
-use Rattle.mib_model.specs.declared.rows.McfRow.{McfRow}
-use Rattle.mib_model.specs.declared.rows.LgfRow.{LgfRow}
-use Rattle.mib_model.specs.declared.rows.OcfRow.{OcfRow}
-use Rattle.mib_model.specs.declared.rows.OcpRow.{OcpRow}
 use Rattle.mib_model.specs.Kinds.{kinds}
 use Rattle.mib_model.specs.Soundness.{IsSound, flaws, flaws_of}
 use Rattle.mib_model.specs.Structures.{structure}
-use Rattle.mib_keys.specs.Kept.{AreSameIn, covers}
+use Rattle.mib_keys.specs.Kept.{AreSameIn, contains, covers, tables_read}
 use Rattle.mib_tables.specs.declared.table_set.TableSet.{TableSet}
 use Rattle.mib_tables.specs.Parts.{if_kept, part_of}
 
@@ -31,118 +16,95 @@ both : (a b : Bool) → (a && b) ≡ true → (a ≡ true) × (b ≡ true)
 both true b h = (refl, h)
 both false b h = absurd (cc h)
 
-module _ (set : TableSet) (old new : Database) (same : AreSameIn set old new) where
-  abbrev tables : List PcfRow → List PidRow → List PicRow → List TpcfRow → List PlfRow → List VpdRow → List CurRow → List CafRow → List CapRow → List TxfRow → List TxpRow → List McfRow → List LgfRow → List OcfRow → List OcpRow → Database
-  tables pcf pid pic tpcf plf vpd cur caf cap txf txp mcf lgf ocf ocp = record { pcf = pcf; pid = pid; pic = pic; tpcf = tpcf; plf = plf; vpd = vpd; cur = cur; caf = caf; cap = cap; txf = txf; txp = txp; mcf = mcf; lgf = lgf; ocf = ocf; ocp = ocp }
+-- a table of a part of a set is one of the set
+in-set : (a b : Bool) → (a || not b) ≡ true → b ≡ true → a ≡ true
+in-set true b h is = refl
+in-set false b h is = absurd (cc (h, is))
 
-  -- the flaws of a table are the same where the set has all tables that it reads
-  pub flaws-same : (k : Kind) → covers set k ≡ true → flaws_of old k ≡ flaws_of new k
-  unfolding structure
-  flaws-same kind.Pcf h =
-      let h5 = both (set.pcf && set.cur && set.caf && set.txf && set.mcf) set.lgf h in
-      let h4 = both (set.pcf && set.cur && set.caf && set.txf) set.mcf h5.0 in
-      let h3 = both (set.pcf && set.cur && set.caf) set.txf h4.0 in
-      let h2 = both (set.pcf && set.cur) set.caf h3.0 in
-      let h1 = both (set.pcf) set.cur h2.0 in
-      let pcf : old.pcf ≡ new.pcf = same.pcf h1.0 in
-      let cur : old.cur ≡ new.cur = same.cur h1.1 in
-      let caf : old.caf ≡ new.caf = same.caf h2.1 in
-      let txf : old.txf ≡ new.txf = same.txf h3.1 in
-      let mcf : old.mcf ≡ new.mcf = same.mcf h4.1 in
-      let lgf : old.lgf ≡ new.lgf = same.lgf h5.1 in
-      λ i. flaws_of (tables (pcf i) old.pid old.pic old.tpcf old.plf old.vpd (cur i) (caf i) old.cap (txf i) old.txp (mcf i) (lgf i) old.ocf old.ocp) kind.Pcf
-  flaws-same kind.Pid h =
-      let h1 = both (set.pid) set.vpd h in
-      let pid : old.pid ≡ new.pid = same.pid h1.0 in
-      let vpd : old.vpd ≡ new.vpd = same.vpd h1.1 in
-      λ i. flaws_of (tables old.pcf (pid i) old.pic old.tpcf old.plf (vpd i) old.cur old.caf old.cap old.txf old.txp old.mcf old.lgf old.ocf old.ocp) kind.Pid
-  flaws-same kind.Pic h =
-      let pic : old.pic ≡ new.pic = same.pic h in
-      λ i. flaws_of (tables old.pcf old.pid (pic i) old.tpcf old.plf old.vpd old.cur old.caf old.cap old.txf old.txp old.mcf old.lgf old.ocf old.ocp) kind.Pic
-  flaws-same kind.Tpcf h =
-      let tpcf : old.tpcf ≡ new.tpcf = same.tpcf h in
-      λ i. flaws_of (tables old.pcf old.pid old.pic (tpcf i) old.plf old.vpd old.cur old.caf old.cap old.txf old.txp old.mcf old.lgf old.ocf old.ocp) kind.Tpcf
-  flaws-same kind.Plf h =
-      let h2 = both (set.plf && set.pcf) set.pid h in
-      let h1 = both (set.plf) set.pcf h2.0 in
-      let plf : old.plf ≡ new.plf = same.plf h1.0 in
-      let pcf : old.pcf ≡ new.pcf = same.pcf h1.1 in
-      let pid : old.pid ≡ new.pid = same.pid h2.1 in
-      λ i. flaws_of (tables (pcf i) (pid i) old.pic old.tpcf (plf i) old.vpd old.cur old.caf old.cap old.txf old.txp old.mcf old.lgf old.ocf old.ocp) kind.Plf
-  flaws-same kind.Vpd h =
-      let h1 = both (set.vpd) set.pcf h in
-      let vpd : old.vpd ≡ new.vpd = same.vpd h1.0 in
-      let pcf : old.pcf ≡ new.pcf = same.pcf h1.1 in
-      λ i. flaws_of (tables (pcf i) old.pid old.pic old.tpcf old.plf (vpd i) old.cur old.caf old.cap old.txf old.txp old.mcf old.lgf old.ocf old.ocp) kind.Vpd
-  flaws-same kind.Cur h =
-      let h5 = both (set.cur && set.pcf && set.caf && set.txf && set.mcf) set.lgf h in
-      let h4 = both (set.cur && set.pcf && set.caf && set.txf) set.mcf h5.0 in
-      let h3 = both (set.cur && set.pcf && set.caf) set.txf h4.0 in
-      let h2 = both (set.cur && set.pcf) set.caf h3.0 in
-      let h1 = both (set.cur) set.pcf h2.0 in
-      let cur : old.cur ≡ new.cur = same.cur h1.0 in
-      let pcf : old.pcf ≡ new.pcf = same.pcf h1.1 in
-      let caf : old.caf ≡ new.caf = same.caf h2.1 in
-      let txf : old.txf ≡ new.txf = same.txf h3.1 in
-      let mcf : old.mcf ≡ new.mcf = same.mcf h4.1 in
-      let lgf : old.lgf ≡ new.lgf = same.lgf h5.1 in
-      λ i. flaws_of (tables (pcf i) old.pid old.pic old.tpcf old.plf old.vpd (cur i) (caf i) old.cap (txf i) old.txp (mcf i) (lgf i) old.ocf old.ocp) kind.Cur
-  flaws-same kind.Caf h =
-      let h1 = both (set.caf) set.cap h in
-      let caf : old.caf ≡ new.caf = same.caf h1.0 in
-      let cap : old.cap ≡ new.cap = same.cap h1.1 in
-      λ i. flaws_of (tables old.pcf old.pid old.pic old.tpcf old.plf old.vpd old.cur (caf i) (cap i) old.txf old.txp old.mcf old.lgf old.ocf old.ocp) kind.Caf
-  flaws-same kind.Cap h =
-      let h1 = both (set.cap) set.caf h in
-      let cap : old.cap ≡ new.cap = same.cap h1.0 in
-      let caf : old.caf ≡ new.caf = same.caf h1.1 in
-      λ i. flaws_of (tables old.pcf old.pid old.pic old.tpcf old.plf old.vpd old.cur (caf i) (cap i) old.txf old.txp old.mcf old.lgf old.ocf old.ocp) kind.Cap
-  flaws-same kind.Txf h =
-      let txf : old.txf ≡ new.txf = same.txf h in
-      λ i. flaws_of (tables old.pcf old.pid old.pic old.tpcf old.plf old.vpd old.cur old.caf old.cap (txf i) old.txp old.mcf old.lgf old.ocf old.ocp) kind.Txf
-  flaws-same kind.Txp h =
-      let h1 = both (set.txp) set.txf h in
-      let txp : old.txp ≡ new.txp = same.txp h1.0 in
-      let txf : old.txf ≡ new.txf = same.txf h1.1 in
-      λ i. flaws_of (tables old.pcf old.pid old.pic old.tpcf old.plf old.vpd old.cur old.caf old.cap (txf i) (txp i) old.mcf old.lgf old.ocf old.ocp) kind.Txp
-  flaws-same kind.Mcf h =
-      let mcf : old.mcf ≡ new.mcf = same.mcf h in
-      λ i. flaws_of (tables old.pcf old.pid old.pic old.tpcf old.plf old.vpd old.cur old.caf old.cap old.txf old.txp (mcf i) old.lgf old.ocf old.ocp) kind.Mcf
-  flaws-same kind.Lgf h =
-      let lgf : old.lgf ≡ new.lgf = same.lgf h in
-      λ i. flaws_of (tables old.pcf old.pid old.pic old.tpcf old.plf old.vpd old.cur old.caf old.cap old.txf old.txp old.mcf (lgf i) old.ocf old.ocp) kind.Lgf
-  flaws-same kind.Ocf h =
-      let h1 = both (set.ocf) set.pcf h in
-      let ocf : old.ocf ≡ new.ocf = same.ocf h1.0 in
-      let pcf : old.pcf ≡ new.pcf = same.pcf h1.1 in
-      λ i. flaws_of (tables (pcf i) old.pid old.pic old.tpcf old.plf old.vpd old.cur old.caf old.cap old.txf old.txp old.mcf old.lgf (ocf i) old.ocp) kind.Ocf
-  flaws-same kind.Ocp h =
-      let h2 = both (set.ocp && set.ocf) set.pcf h in
-      let h1 = both (set.ocp) set.ocf h2.0 in
-      let ocp : old.ocp ≡ new.ocp = same.ocp h1.0 in
-      let ocf : old.ocf ≡ new.ocf = same.ocf h1.1 in
-      let pcf : old.pcf ≡ new.pcf = same.pcf h2.1 in
-      λ i. flaws_of (tables (pcf i) old.pid old.pic old.tpcf old.plf old.vpd old.cur old.caf old.cap old.txf old.txp old.mcf old.lgf (ocf i) (ocp i)) kind.Ocp
+-- databases that are the same in a set are the same in a part of it
+module _ (set part : TableSet) (old new : Database) (same : AreSameIn set old new) where
+  same-in-part : contains set part ≡ true → AreSameIn part old new
+  same-in-part h14 =
+      let b14 = both _ _ h14 in
+      let b13 = both _ _ b14.0 in
+      let b12 = both _ _ b13.0 in
+      let b11 = both _ _ b12.0 in
+      let b10 = both _ _ b11.0 in
+      let b9 = both _ _ b10.0 in
+      let b8 = both _ _ b9.0 in
+      let b7 = both _ _ b8.0 in
+      let b6 = both _ _ b7.0 in
+      let b5 = both _ _ b6.0 in
+      let b4 = both _ _ b5.0 in
+      let b3 = both _ _ b4.0 in
+      let b2 = both _ _ b3.0 in
+      let b1 = both _ _ b2.0 in
+      record {
+        pcf = λ h. same.pcf (in-set set.pcf part.pcf b1.0 h);
+        pid = λ h. same.pid (in-set set.pid part.pid b1.1 h);
+        pic = λ h. same.pic (in-set set.pic part.pic b2.1 h);
+        tpcf = λ h. same.tpcf (in-set set.tpcf part.tpcf b3.1 h);
+        plf = λ h. same.plf (in-set set.plf part.plf b4.1 h);
+        vpd = λ h. same.vpd (in-set set.vpd part.vpd b5.1 h);
+        cur = λ h. same.cur (in-set set.cur part.cur b6.1 h);
+        caf = λ h. same.caf (in-set set.caf part.caf b7.1 h);
+        cap = λ h. same.cap (in-set set.cap part.cap b8.1 h);
+        txf = λ h. same.txf (in-set set.txf part.txf b9.1 h);
+        txp = λ h. same.txp (in-set set.txp part.txp b10.1 h);
+        mcf = λ h. same.mcf (in-set set.mcf part.mcf b11.1 h);
+        lgf = λ h. same.lgf (in-set set.lgf part.lgf b12.1 h);
+        ocf = λ h. same.ocf (in-set set.ocf part.ocf b13.1 h);
+        ocp = λ h. same.ocp (in-set set.ocp part.ocp b14.1 h);
+      }
 
--- a part has the rows of the tables that are kept
-pub part-same : (set : TableSet) (db : Database) → AreSameIn set (part_of set db) db
-part-same set db = record {
-  pcf = λ h. ap (λ b. if_kept b db.pcf) h;
-  pid = λ h. ap (λ b. if_kept b db.pid) h;
-  pic = λ h. ap (λ b. if_kept b db.pic) h;
-  tpcf = λ h. ap (λ b. if_kept b db.tpcf) h;
-  plf = λ h. ap (λ b. if_kept b db.plf) h;
-  vpd = λ h. ap (λ b. if_kept b db.vpd) h;
-  cur = λ h. ap (λ b. if_kept b db.cur) h;
-  caf = λ h. ap (λ b. if_kept b db.caf) h;
-  cap = λ h. ap (λ b. if_kept b db.cap) h;
-  txf = λ h. ap (λ b. if_kept b db.txf) h;
-  txp = λ h. ap (λ b. if_kept b db.txp) h;
-  mcf = λ h. ap (λ b. if_kept b db.mcf) h;
-  lgf = λ h. ap (λ b. if_kept b db.lgf) h;
-  ocf = λ h. ap (λ b. if_kept b db.ocf) h;
-  ocp = λ h. ap (λ b. if_kept b db.ocp) h;
+-- rows of a table that is kept, where it has the same rows
+if-same : {R : Type 0} (kept : Bool) (xs ys : List R) → (kept ≡ true → xs ≡ ys) → if_kept kept xs ≡ if_kept kept ys
+if-same true xs ys same = same refl
+if-same false xs ys same = refl
+
+-- databases that are the same in a set have the same part
+part-alike : (set : TableSet) (old new : Database) → AreSameIn set old new → part_of set old ≡ part_of set new
+part-alike set old new same = λ i. record {
+  pcf = if-same set.pcf old.pcf new.pcf same.pcf i;
+  pid = if-same set.pid old.pid new.pid same.pid i;
+  pic = if-same set.pic old.pic new.pic same.pic i;
+  tpcf = if-same set.tpcf old.tpcf new.tpcf same.tpcf i;
+  plf = if-same set.plf old.plf new.plf same.plf i;
+  vpd = if-same set.vpd old.vpd new.vpd same.vpd i;
+  cur = if-same set.cur old.cur new.cur same.cur i;
+  caf = if-same set.caf old.caf new.caf same.caf i;
+  cap = if-same set.cap old.cap new.cap same.cap i;
+  txf = if-same set.txf old.txf new.txf same.txf i;
+  txp = if-same set.txp old.txp new.txp same.txp i;
+  mcf = if-same set.mcf old.mcf new.mcf same.mcf i;
+  lgf = if-same set.lgf old.lgf new.lgf same.lgf i;
+  ocf = if-same set.ocf old.ocf new.ocf same.ocf i;
+  ocp = if-same set.ocp old.ocp new.ocp same.ocp i;
 }
+
+-- the flaws of a table are those of the tables that it reads
+pub flaws-read-alone : (db : Database) (k : Kind) → flaws_of (part_of (tables_read k) db) k ≡ flaws_of db k
+unfolding structure
+flaws-read-alone db kind.Pcf = refl
+flaws-read-alone db kind.Pid = refl
+flaws-read-alone db kind.Pic = refl
+flaws-read-alone db kind.Tpcf = refl
+flaws-read-alone db kind.Plf = refl
+flaws-read-alone db kind.Vpd = refl
+flaws-read-alone db kind.Cur = refl
+flaws-read-alone db kind.Caf = refl
+flaws-read-alone db kind.Cap = refl
+flaws-read-alone db kind.Txf = refl
+flaws-read-alone db kind.Txp = refl
+flaws-read-alone db kind.Mcf = refl
+flaws-read-alone db kind.Lgf = refl
+flaws-read-alone db kind.Ocf = refl
+flaws-read-alone db kind.Ocp = refl
+
+-- the flaws of a table are the same where the set has all tables that it reads
+pub flaws-same : (set : TableSet) (old new : Database) → AreSameIn set old new → (k : Kind) → covers set k ≡ true → flaws_of old k ≡ flaws_of new k
+flaws-same set old new same k h =
+    sym (flaws-read-alone old k) ∙ ap (λ db. flaws_of db k) (part-alike (tables_read k) old new (same-in-part set (tables_read k) old new same h)) ∙ flaws-read-alone new k
 
 none-before : {X : Type 0} (xs ys : List X) → xs ++ ys ≡ [] → (xs ≡ []) × (ys ≡ [])
 none-before [] ys h = (refl, h)

@@ -1,5 +1,7 @@
 -- Which tables the flaws of a table depend on. [SCOS-2000 Database Import ICD, references between the tables; this profile.]
-use Rattle.std.specs.Prelude.{◌≡◌, Bool, true, ◌&&◌, not}
+use Rattle.std.specs.Prelude.{◌≡◌, Bool, true, ◌&&◌, ◌||◌, not, List, [], ◌∷◌}
+use Rattle.std.specs.List.{list_any}
+use Rattle.mib_model.specs.contracts.kind.KindPartialEq.TheImpl as eq
 use Rattle.mib_model.specs.declared.database.Database.{Database}
 use Rattle.mib_model.specs.declared.kind.Kind.{Kind}
 use Rattle.mib_model.specs.declared.kind.Kind.TheVariants as kind
@@ -42,23 +44,62 @@ pub record HasAllSame (set : TableSet) (old new : Database) : Type 0 where
   pub ocf : old.ocf ≡ new.ocf → set.ocf ≡ true
   pub ocp : old.ocp ≡ new.ocp → set.ocp ≡ true
 
--- whether a set has all tables that the flaws of a table depend on: its own, and those that its rows refer to
+-- `==` of tables
+abbrev pub kind_eq : Kind → Kind → Bool
+kind_eq = eq.ghosts.eq
+
+-- the tables that the flaws of a table depend on: its own, and those that its rows refer to
+abbrev pub read_by : Kind → List Kind
+read_by kind.Pcf = kind.Pcf ∷ kind.Cur ∷ kind.Caf ∷ kind.Txf ∷ kind.Mcf ∷ kind.Lgf ∷ []
+read_by kind.Pid = kind.Pid ∷ kind.Vpd ∷ []
+read_by kind.Pic = kind.Pic ∷ []
+read_by kind.Tpcf = kind.Tpcf ∷ []
+read_by kind.Plf = kind.Plf ∷ kind.Pcf ∷ kind.Pid ∷ []
+read_by kind.Vpd = kind.Vpd ∷ kind.Pcf ∷ []
+read_by kind.Cur = kind.Pcf ∷ kind.Cur ∷ kind.Caf ∷ kind.Txf ∷ kind.Mcf ∷ kind.Lgf ∷ []
+read_by kind.Caf = kind.Caf ∷ kind.Cap ∷ []
+read_by kind.Cap = kind.Caf ∷ kind.Cap ∷ []
+read_by kind.Txf = kind.Txf ∷ []
+read_by kind.Txp = kind.Txp ∷ kind.Txf ∷ []
+read_by kind.Mcf = kind.Mcf ∷ []
+read_by kind.Lgf = kind.Lgf ∷ []
+read_by kind.Ocf = kind.Ocf ∷ kind.Pcf ∷ []
+read_by kind.Ocp = kind.Ocp ∷ kind.Ocf ∷ kind.Pcf ∷ []
+
+-- the set of some tables
+abbrev pub set_of : List Kind → TableSet
+set_of tables = record {
+  pcf = list_any (λ table. kind_eq table kind.Pcf) tables;
+  pid = list_any (λ table. kind_eq table kind.Pid) tables;
+  pic = list_any (λ table. kind_eq table kind.Pic) tables;
+  tpcf = list_any (λ table. kind_eq table kind.Tpcf) tables;
+  plf = list_any (λ table. kind_eq table kind.Plf) tables;
+  vpd = list_any (λ table. kind_eq table kind.Vpd) tables;
+  cur = list_any (λ table. kind_eq table kind.Cur) tables;
+  caf = list_any (λ table. kind_eq table kind.Caf) tables;
+  cap = list_any (λ table. kind_eq table kind.Cap) tables;
+  txf = list_any (λ table. kind_eq table kind.Txf) tables;
+  txp = list_any (λ table. kind_eq table kind.Txp) tables;
+  mcf = list_any (λ table. kind_eq table kind.Mcf) tables;
+  lgf = list_any (λ table. kind_eq table kind.Lgf) tables;
+  ocf = list_any (λ table. kind_eq table kind.Ocf) tables;
+  ocp = list_any (λ table. kind_eq table kind.Ocp) tables;
+}
+
+-- the set of the tables that the flaws of a table depend on
+abbrev pub tables_read : Kind → TableSet
+tables_read table = set_of (read_by table)
+
+-- whether a set has all tables of another
+abbrev pub contains : TableSet → TableSet → Bool
+contains set part =
+    (set.pcf || not part.pcf) && (set.pid || not part.pid) && (set.pic || not part.pic) && (set.tpcf || not part.tpcf) && (set.plf || not part.plf) &&
+    (set.vpd || not part.vpd) && (set.cur || not part.cur) && (set.caf || not part.caf) && (set.cap || not part.cap) && (set.txf || not part.txf) &&
+    (set.txp || not part.txp) && (set.mcf || not part.mcf) && (set.lgf || not part.lgf) && (set.ocf || not part.ocf) && (set.ocp || not part.ocp)
+
+-- whether a set has all tables that the flaws of a table depend on
 abbrev pub covers : TableSet → Kind → Bool
-covers set kind.Pcf = set.pcf && set.cur && set.caf && set.txf && set.mcf && set.lgf
-covers set kind.Pid = set.pid && set.vpd
-covers set kind.Pic = set.pic
-covers set kind.Tpcf = set.tpcf
-covers set kind.Plf = set.plf && set.pcf && set.pid
-covers set kind.Vpd = set.vpd && set.pcf
-covers set kind.Cur = set.cur && set.pcf && set.caf && set.txf && set.mcf && set.lgf
-covers set kind.Caf = set.caf && set.cap
-covers set kind.Cap = set.cap && set.caf
-covers set kind.Txf = set.txf
-covers set kind.Txp = set.txp && set.txf
-covers set kind.Mcf = set.mcf
-covers set kind.Lgf = set.lgf
-covers set kind.Ocf = set.ocf && set.pcf
-covers set kind.Ocp = set.ocp && set.ocf && set.pcf
+covers set table = contains set (tables_read table)
 
 -- the tables that a set hasn't
 abbrev pub others : TableSet → TableSet

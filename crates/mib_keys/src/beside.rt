@@ -73,7 +73,7 @@ fn first_flaw_beside(
     requires same { AreSameIn same base.now book.now }
     ensures { IfOk result (λ flaw. flaw ≡ first_flaw book.now) }
 {
-    let alike = alike_tables(alloc, same, base, book)?;
+    let alike = alike_tables(same, base, book);
     if alike.pcf {
         new_flaw(alloc, base, alike, book)
     } else {

@@ -6,7 +6,7 @@ ghost use Rattle.mib_keys.specs.Alike.{AreKeyPlaces, key_eq};
 ghost use Rattle.mib_keys.specs.Indexes.{CountsOnce, has_by, first_place, some_if, count_with};
 ghost use Rattle.mib_model.specs.declared.limits.TheConstants.{HELD_MOST};
 
-use crate::keys::By;
+use first_rows::By;
 use mib_model::{Key, TableRow};
 use std::alloc::{AllocError, Global};
 use std::collections::HashMap;
@@ -31,17 +31,13 @@ pub fn note_key<K: Eq + Hash + Copy + Drop>(
 }
 
 /// The first place of each key of rows.
-pub fn places<B: By>(
-    alloc: Global,
-    by: &B,
-    rows: &[B::Row],
-) -> Result<HashMap<B::Key, u32>, AllocError>
+pub fn places<B: By>(alloc: Global, rows: &[B::Row]) -> Result<HashMap<B::Key, u32>, AllocError>
     requires { length rows.now ≤ HELD_MOST }
-    ensures { IfOk result (λ places. (q : B.Key) → get B.Key.eq places q ≡ first_place B.Key.eq (B.key by.now) rows.now q) }
+    ensures { IfOk result (λ places. (q : B.Key) → get B.Key.eq places q ≡ first_place B.Key.eq B.key_of rows.now q) }
 {
     let mut places = HashMap::with_capacity(alloc, rows.len())?;
     for (place, row) in rows.iter().enumerate() {
-        note_key(&mut places, by.key(row), place as u32)?;
+        note_key(&mut places, B::key(row), place as u32)?;
     }
     Ok(places)
 }
@@ -63,22 +59,19 @@ fn count_key<K: Eq + Hash + Copy + Drop>(
 }
 
 /// How many rows have each key.
-pub fn count<B: By>(
-    alloc: Global,
-    by: &B,
-    rows: &[B::Row],
-) -> Result<HashMap<B::Key, u32>, AllocError>
+pub fn count<B: By>(alloc: Global, rows: &[B::Row]) -> Result<HashMap<B::Key, u32>, AllocError>
     requires { length rows.now ≤ HELD_MOST }
-    ensures { IfOk result (λ counts. (q : B.Key) → unwrap_or (get B.Key.eq counts q) 0 ≡ count_with B.Key.eq (B.key by.now) rows.now q) }
+    ensures { IfOk result (λ counts. (q : B.Key) → unwrap_or (get B.Key.eq counts q) 0 ≡ count_with B.Key.eq B.key_of rows.now q) }
 {
     let mut counts = HashMap::new(alloc);
     for row in rows {
-        count_key(&mut counts, by.key(row))?;
+        count_key(&mut counts, B::key(row))?;
     }
     Ok(counts)
 }
 
 // Rows of one table by their keys.
+#[derive(Drop)]
 struct ByKey<R: TableRow> {
     of: PhantomData<R>,
 }
@@ -91,9 +84,9 @@ impl<R: TableRow> By for ByKey<R> {
 
     type Key = Key;
 
-    ghost key = { λ _ row. Some (key_in (R.as_row row)) };
+    ghost key_of = { λ row. Some (key_in (R.as_row row)) };
 
-    fn key(&self, row: &R) -> Option<Key> {
+    fn key(row: &R) -> Option<Key> {
         Some(row.to_row().key())
     }
 }
@@ -103,5 +96,5 @@ pub fn key_places<R: TableRow>(alloc: Global, rows: &[R]) -> Result<HashMap<Key,
     requires { length rows.now ≤ HELD_MOST }
     ensures { IfOk result (λ places. AreKeyPlaces R.as_row (get key_eq places) rows.now) }
 {
-    places(alloc, &ByKey { of: PhantomData }, rows)
+    places::<ByKey<R>>(alloc, rows)
 }

@@ -1,6 +1,6 @@
 // Which tables were kept, and which tables the flaws of a table depend on.
-ghost use Rattle.std.specs.Prelude.{◌≡◌, true};
-ghost use Rattle.mib_keys.specs.Kept.{AreSameIn, HasAllSame, covers};
+ghost use Rattle.std.specs.Prelude.{◌≡◌};
+ghost use Rattle.mib_keys.specs.Kept.{AreSameIn, HasAllSame, contains, covers, read_by, set_of, tables_read};
 
 use mib_model::Kind;
 use mib_tables::{Book, TableSet};
@@ -29,99 +29,88 @@ pub fn same_tables(old: &Book, new: &Book) -> TableSet
     }
 }
 
+// The tables that the flaws of a table depend on: its own, and those that its rows refer to.
+fn read_by(kind: Kind) -> &'static [Kind]
+    ensures { result.now ≡ read_by kind }
+{
+    match kind {
+        Kind::Pcf | Kind::Cur => &[
+            Kind::Pcf,
+            Kind::Cur,
+            Kind::Caf,
+            Kind::Txf,
+            Kind::Mcf,
+            Kind::Lgf,
+        ],
+        Kind::Pid => &[Kind::Pid, Kind::Vpd],
+        Kind::Pic => &[Kind::Pic],
+        Kind::Tpcf => &[Kind::Tpcf],
+        Kind::Plf => &[Kind::Plf, Kind::Pcf, Kind::Pid],
+        Kind::Vpd => &[Kind::Vpd, Kind::Pcf],
+        Kind::Caf | Kind::Cap => &[Kind::Caf, Kind::Cap],
+        Kind::Txf => &[Kind::Txf],
+        Kind::Txp => &[Kind::Txp, Kind::Txf],
+        Kind::Mcf => &[Kind::Mcf],
+        Kind::Lgf => &[Kind::Lgf],
+        Kind::Ocf => &[Kind::Ocf, Kind::Pcf],
+        Kind::Ocp => &[Kind::Ocp, Kind::Ocf, Kind::Pcf],
+    }
+}
+
+// The set of some tables.
+fn set_of(tables: &[Kind]) -> TableSet
+    ensures { result ≡ set_of tables.now }
+{
+    TableSet {
+        pcf: tables.contains(&Kind::Pcf),
+        pid: tables.contains(&Kind::Pid),
+        pic: tables.contains(&Kind::Pic),
+        tpcf: tables.contains(&Kind::Tpcf),
+        plf: tables.contains(&Kind::Plf),
+        vpd: tables.contains(&Kind::Vpd),
+        cur: tables.contains(&Kind::Cur),
+        caf: tables.contains(&Kind::Caf),
+        cap: tables.contains(&Kind::Cap),
+        txf: tables.contains(&Kind::Txf),
+        txp: tables.contains(&Kind::Txp),
+        mcf: tables.contains(&Kind::Mcf),
+        lgf: tables.contains(&Kind::Lgf),
+        ocf: tables.contains(&Kind::Ocf),
+        ocp: tables.contains(&Kind::Ocp),
+    }
+}
+
+// Whether a set has all tables of another.
+fn contains(set: TableSet, part: TableSet) -> bool
+    ensures { result ≡ contains set part }
+{
+    (set.pcf | !part.pcf)
+        & (set.pid | !part.pid)
+        & (set.pic | !part.pic)
+        & (set.tpcf | !part.tpcf)
+        & (set.plf | !part.plf)
+        & (set.vpd | !part.vpd)
+        & (set.cur | !part.cur)
+        & (set.caf | !part.caf)
+        & (set.cap | !part.cap)
+        & (set.txf | !part.txf)
+        & (set.txp | !part.txp)
+        & (set.mcf | !part.mcf)
+        & (set.lgf | !part.lgf)
+        & (set.ocf | !part.ocf)
+        & (set.ocp | !part.ocp)
+}
+
 /// The tables that the flaws of a table depend on.
 pub fn tables_read(kind: Kind) -> TableSet
-    ensures { covers result kind ≡ true }
+    ensures { result ≡ tables_read kind }
 {
-    let none = TableSet::NONE;
-    match kind {
-        Kind::Pcf => TableSet {
-            pcf: true,
-            cur: true,
-            caf: true,
-            txf: true,
-            mcf: true,
-            lgf: true,
-            ..none
-        },
-        Kind::Pid => TableSet {
-            pid: true,
-            vpd: true,
-            ..none
-        },
-        Kind::Pic => TableSet { pic: true, ..none },
-        Kind::Tpcf => TableSet { tpcf: true, ..none },
-        Kind::Plf => TableSet {
-            plf: true,
-            pcf: true,
-            pid: true,
-            ..none
-        },
-        Kind::Vpd => TableSet {
-            vpd: true,
-            pcf: true,
-            ..none
-        },
-        Kind::Cur => TableSet {
-            cur: true,
-            pcf: true,
-            caf: true,
-            txf: true,
-            mcf: true,
-            lgf: true,
-            ..none
-        },
-        Kind::Caf => TableSet {
-            caf: true,
-            cap: true,
-            ..none
-        },
-        Kind::Cap => TableSet {
-            cap: true,
-            caf: true,
-            ..none
-        },
-        Kind::Txf => TableSet { txf: true, ..none },
-        Kind::Txp => TableSet {
-            txp: true,
-            txf: true,
-            ..none
-        },
-        Kind::Mcf => TableSet { mcf: true, ..none },
-        Kind::Lgf => TableSet { lgf: true, ..none },
-        Kind::Ocf => TableSet {
-            ocf: true,
-            pcf: true,
-            ..none
-        },
-        Kind::Ocp => TableSet {
-            ocp: true,
-            ocf: true,
-            pcf: true,
-            ..none
-        },
-    }
+    set_of(read_by(kind))
 }
 
 /// Whether a set has all tables that the flaws of a table depend on.
 pub fn covers(set: TableSet, kind: Kind) -> bool
     ensures { result ≡ covers set kind }
 {
-    match kind {
-        Kind::Pcf => set.pcf && set.cur && set.caf && set.txf && set.mcf && set.lgf,
-        Kind::Pid => set.pid && set.vpd,
-        Kind::Pic => set.pic,
-        Kind::Tpcf => set.tpcf,
-        Kind::Plf => set.plf && set.pcf && set.pid,
-        Kind::Vpd => set.vpd && set.pcf,
-        Kind::Cur => set.cur && set.pcf && set.caf && set.txf && set.mcf && set.lgf,
-        Kind::Caf => set.caf && set.cap,
-        Kind::Cap => set.cap && set.caf,
-        Kind::Txf => set.txf,
-        Kind::Txp => set.txp && set.txf,
-        Kind::Mcf => set.mcf,
-        Kind::Lgf => set.lgf,
-        Kind::Ocf => set.ocf && set.pcf,
-        Kind::Ocp => set.ocp && set.ocf && set.pcf,
-    }
+    contains(set, tables_read(kind))
 }

@@ -1,24 +1,13 @@
 // The keys by which rows are looked up.
-ghost use Rattle.std.specs.Prelude.{◌≡◌, Option, Some};
+ghost use Rattle.std.specs.Prelude.{◌≡◌, ℕ, List};
 ghost use Rattle.mib_keys.specs.Packets.{packet_of};
 
+use first_rows::By;
 use mib_model::{
-    CafRow, CapRow, CurRow, LgfRow, McfRow, Name, OcfRow, PcfRow, PidRow, TxfRow, VpdRow,
+    CafRow, CapRow, CurRow, LgfRow, McfRow, Name, OcfRow, OcpRow, PcfRow, PidRow, TxfRow, TxpRow,
+    VpdRow,
 };
-use std::hash::Hash;
-
-/// A key by which rows are looked up; some rows may have none.
-pub trait By {
-    type Row: Drop;
-
-    type Key: Eq + Hash + Copy + Drop;
-
-    ghost key: { Self → Self.Row → Option Self.Key };
-
-    /// The key of a row.
-    fn key(&self, row: &Self::Row) -> Option<Self::Key>
-        ensures { result ≡ key self.now row.now };
-}
+use std::marker::PhantomData;
 
 /// What tells kinds of packets apart.
 #[derive(Clone, Copy, PartialEq, Eq, Hash)]
@@ -50,24 +39,117 @@ pub fn packet_key(row: &PidRow) -> PacketKey
     }
 }
 
-/// Parameters by their names.
-pub struct ByParameter;
+/// A row that is looked up by a name: of its parameter, or of its curve.
+pub trait Named: Copy + Drop {
+    ghost name_of: { Self → List ℕ };
 
-impl By for ByParameter {
+    /// Its name.
+    fn name(&self) -> Name
+        ensures { result ≡ name_of self.now };
+}
+
+impl Named for PcfRow {
+    ghost name_of = { λ row. row.name };
+
+    fn name(&self) -> Name {
+        self.name
+    }
+}
+
+impl Named for CurRow {
+    ghost name_of = { λ row. row.pname };
+
+    fn name(&self) -> Name {
+        self.pname
+    }
+}
+
+impl Named for CafRow {
+    ghost name_of = { λ row. row.numbr };
+
+    fn name(&self) -> Name {
+        self.numbr
+    }
+}
+
+impl Named for CapRow {
+    ghost name_of = { λ row. row.numbr };
+
+    fn name(&self) -> Name {
+        self.numbr
+    }
+}
+
+impl Named for TxfRow {
+    ghost name_of = { λ row. row.numbr };
+
+    fn name(&self) -> Name {
+        self.numbr
+    }
+}
+
+impl Named for TxpRow {
+    ghost name_of = { λ row. row.numbr };
+
+    fn name(&self) -> Name {
+        self.numbr
+    }
+}
+
+impl Named for McfRow {
+    ghost name_of = { λ row. row.ident };
+
+    fn name(&self) -> Name {
+        self.ident
+    }
+}
+
+impl Named for LgfRow {
+    ghost name_of = { λ row. row.ident };
+
+    fn name(&self) -> Name {
+        self.ident
+    }
+}
+
+impl Named for OcfRow {
+    ghost name_of = { λ row. row.name };
+
+    fn name(&self) -> Name {
+        self.name
+    }
+}
+
+impl Named for OcpRow {
+    ghost name_of = { λ row. row.name };
+
+    fn name(&self) -> Name {
+        self.name
+    }
+}
+
+/// Rows by their names.
+#[derive(Drop)]
+pub struct ByName<R: Named> {
+    of: PhantomData<R>,
+}
+
+impl<R: Named> By for ByName<R> {
     ghost use Rattle.std.specs.Prelude.{Some};
 
-    type Row = PcfRow;
+    type Row = R;
 
     type Key = Name;
 
-    ghost key = { λ _ row. Some row.name };
+    ghost key_of = { λ row. Some (R.name_of row) };
 
-    fn key(&self, row: &PcfRow) -> Option<Name> {
-        Some(row.name)
+    fn key(row: &R) -> Option<Name> {
+        Some(row.name())
     }
 }
 
 /// Packets by their numbers.
+#[derive(Drop)]
 pub struct BySpid;
 
 impl By for BySpid {
@@ -77,14 +159,15 @@ impl By for BySpid {
 
     type Key = u32;
 
-    ghost key = { λ _ row. Some row.spid };
+    ghost key_of = { λ row. Some row.spid };
 
-    fn key(&self, row: &PidRow) -> Option<u32> {
+    fn key(row: &PidRow) -> Option<u32> {
         Some(row.spid)
     }
 }
 
 /// Packets by their kinds.
+#[derive(Drop)]
 pub struct ByPacket;
 
 impl By for ByPacket {
@@ -94,116 +177,15 @@ impl By for ByPacket {
 
     type Key = PacketKey;
 
-    ghost key = { λ _ row. Some (packet_of row) };
+    ghost key_of = { λ row. Some (packet_of row) };
 
-    fn key(&self, row: &PidRow) -> Option<PacketKey> {
+    fn key(row: &PidRow) -> Option<PacketKey> {
         Some(packet_key(row))
     }
 }
 
-/// Curves by points by their names.
-pub struct ByCurve;
-
-impl By for ByCurve {
-    ghost use Rattle.std.specs.Prelude.{Some};
-
-    type Row = CafRow;
-
-    type Key = Name;
-
-    ghost key = { λ _ row. Some row.numbr };
-
-    fn key(&self, row: &CafRow) -> Option<Name> {
-        Some(row.numbr)
-    }
-}
-
-/// Curves by texts by their names.
-pub struct ByTexts;
-
-impl By for ByTexts {
-    ghost use Rattle.std.specs.Prelude.{Some};
-
-    type Row = TxfRow;
-
-    type Key = Name;
-
-    ghost key = { λ _ row. Some row.numbr };
-
-    fn key(&self, row: &TxfRow) -> Option<Name> {
-        Some(row.numbr)
-    }
-}
-
-/// Polynomials by their names.
-pub struct ByPolynomial;
-
-impl By for ByPolynomial {
-    ghost use Rattle.std.specs.Prelude.{Some};
-
-    type Row = McfRow;
-
-    type Key = Name;
-
-    ghost key = { λ _ row. Some row.ident };
-
-    fn key(&self, row: &McfRow) -> Option<Name> {
-        Some(row.ident)
-    }
-}
-
-/// Logarithmic curves by their names.
-pub struct ByLogarithm;
-
-impl By for ByLogarithm {
-    ghost use Rattle.std.specs.Prelude.{Some};
-
-    type Row = LgfRow;
-
-    type Key = Name;
-
-    ghost key = { λ _ row. Some row.ident };
-
-    fn key(&self, row: &LgfRow) -> Option<Name> {
-        Some(row.ident)
-    }
-}
-
-/// Checks by their parameters.
-pub struct ByCheck;
-
-impl By for ByCheck {
-    ghost use Rattle.std.specs.Prelude.{Some};
-
-    type Row = OcfRow;
-
-    type Key = Name;
-
-    ghost key = { λ _ row. Some row.name };
-
-    fn key(&self, row: &OcfRow) -> Option<Name> {
-        Some(row.name)
-    }
-}
-
-/// Selections by their parameters.
-pub struct BySelector;
-
-impl By for BySelector {
-    ghost use Rattle.std.specs.Prelude.{Some};
-
-    type Row = CurRow;
-
-    type Key = Name;
-
-    ghost key = { λ _ row. Some row.pname };
-
-    fn key(&self, row: &CurRow) -> Option<Name> {
-        Some(row.pname)
-    }
-}
-
 /// Rows of structures by their structures.
+#[derive(Drop)]
 pub struct ByStructure;
 
 impl By for ByStructure {
@@ -213,26 +195,9 @@ impl By for ByStructure {
 
     type Key = u32;
 
-    ghost key = { λ _ row. Some row.tpsd };
+    ghost key_of = { λ row. Some row.tpsd };
 
-    fn key(&self, row: &VpdRow) -> Option<u32> {
+    fn key(row: &VpdRow) -> Option<u32> {
         Some(row.tpsd)
-    }
-}
-
-/// Points by their curves.
-pub struct ByPointCurve;
-
-impl By for ByPointCurve {
-    ghost use Rattle.std.specs.Prelude.{Some};
-
-    type Row = CapRow;
-
-    type Key = Name;
-
-    ghost key = { λ _ row. Some row.numbr };
-
-    fn key(&self, row: &CapRow) -> Option<Name> {
-        Some(row.numbr)
     }
 }

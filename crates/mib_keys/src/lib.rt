@@ -2,8 +2,9 @@
 //!
 //! `sound` answers `Ok` exactly where no flaw stands, and else exactly the first. It looks keys up in hash maps that it
 //! makes in one pass over each table. `sound_beside` answers the same of a book beside a sound base, and tests the tables alone
-//! that read something new. It rests on the definitions of `mib_model`, on the `Book` of `mib_tables`, on the law of
-//! `row_laws` that rows that are the same are equal, on the numbers of `dec_num` and on the types of `bit_field`.
+//! that read something new. It rests on the definitions of `mib_model`, on the `Book` of `mib_tables`, on the ways to look up
+//! rows of `first_rows`, on `row_laws` and `row_sameness` for rows that are the same, on the numbers of `dec_num` and on the
+//! types of `bit_field`.
 #![tactic(auto)]
 
 mod beside;
@@ -26,5 +27,6 @@ mod types;
 pub use beside::{sound_beside, sound_with};
 pub use fault::SoundFault;
 pub use kept::same_tables;
+pub use keys::{ByName, Named};
 pub use known::{all_tables, same_beside, without};
 pub use soundness::sound;

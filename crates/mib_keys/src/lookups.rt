@@ -14,13 +14,10 @@ ghost use Rattle.mib_keys.specs.Indexes.{first_place};
 ghost use Rattle.mib_keys.specs.Points.{point_eq, point_in};
 
 use crate::index::{count, places};
-use crate::keys::{
-    ByCheck, ByCurve, ByLogarithm, ByPacket, ByParameter, ByPointCurve, ByPolynomial, BySelector,
-    BySpid, ByStructure, ByTexts, PacketKey, PointKey,
-};
+use crate::keys::{ByName, ByPacket, BySpid, ByStructure, PacketKey, PointKey};
 use crate::points::point_places;
 use crate::structures::{Structure, structures};
-use mib_model::{CafRow, Name, PcfRow, TxfRow};
+use mib_model::{CafRow, CapRow, CurRow, LgfRow, McfRow, Name, OcfRow, PcfRow, TxfRow};
 use mib_tables::Book;
 use std::alloc::{AllocError, Global};
 use std::collections::HashMap;
@@ -93,21 +90,21 @@ impl<'a> Lookups<'a> {
     pub fn new(alloc: Global, book: &'a Book) -> Result<Lookups<'a>, AllocError>
         ensures { IfOk result (λ lookups. lookups ≡ book.now) }
     {
-        let curves = places(alloc, &ByCurve, book.caf())?;
+        let curves = places::<ByName<CafRow>>(alloc, book.caf())?;
         let point_places = point_places(alloc, book, &curves)?;
         Ok(Lookups {
             book,
-            parameters: places(alloc, &ByParameter, book.pcf())?,
-            packets: places(alloc, &BySpid, book.pid())?,
-            packet_kinds: places(alloc, &ByPacket, book.pid())?,
+            parameters: places::<ByName<PcfRow>>(alloc, book.pcf())?,
+            packets: places::<BySpid>(alloc, book.pid())?,
+            packet_kinds: places::<ByPacket>(alloc, book.pid())?,
             curves,
-            texts: places(alloc, &ByTexts, book.txf())?,
-            polynomials: places(alloc, &ByPolynomial, book.mcf())?,
-            logarithms: places(alloc, &ByLogarithm, book.lgf())?,
-            checks: places(alloc, &ByCheck, book.ocf())?,
-            selections: count(alloc, &BySelector, book.cur())?,
-            structure_rows: count(alloc, &ByStructure, book.vpd())?,
-            points: count(alloc, &ByPointCurve, book.cap())?,
+            texts: places::<ByName<TxfRow>>(alloc, book.txf())?,
+            polynomials: places::<ByName<McfRow>>(alloc, book.mcf())?,
+            logarithms: places::<ByName<LgfRow>>(alloc, book.lgf())?,
+            checks: places::<ByName<OcfRow>>(alloc, book.ocf())?,
+            selections: count::<ByName<CurRow>>(alloc, book.cur())?,
+            structure_rows: count::<ByStructure>(alloc, book.vpd())?,
+            points: count::<ByName<CapRow>>(alloc, book.cap())?,
             point_places,
             structures: structures(alloc, book.vpd())?,
         })

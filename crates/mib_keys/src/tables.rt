@@ -30,9 +30,9 @@ pub trait Rules: TableRow {
 
     ghost alike: { Self → Self → Bool };
 
-    ghost rest: { Database → List (Rule Self) };
+    ghost rest: { Database → List (Rule Self) } = { λ _. [] };
 
-    ghost noted: { (Key → Option ℕ) → Database → Type 0 };
+    ghost noted: { (Key → Option ℕ) → Database → Type 0 } = { λ _ _. Unit {0} };
 
     /// The first row that is like this one.
     fn first_alike(&self, lookups: &Lookups<'_>, places: &HashMap<Key, u32>) -> Option<u32>
@@ -63,8 +63,6 @@ impl Rules for PcfRow {
 
     ghost rest = { λ db. drop 1 (pcf_rules db) };
 
-    ghost noted = { λ _ _. Unit {0} };
-
     fn first_alike(&self, lookups: &Lookups<'_>, places: &HashMap<Key, u32>) -> Option<u32> {
         lookups.parameter_place(self.name)
     }
@@ -80,8 +78,6 @@ impl Rules for PidRow {
     ghost alike = { is_like_packet };
 
     ghost rest = { λ db. drop 1 (pid_rules db) };
-
-    ghost noted = { λ _ _. Unit {0} };
 
     fn first_alike(&self, lookups: &Lookups<'_>, places: &HashMap<Key, u32>) -> Option<u32> {
         least(
@@ -100,8 +96,6 @@ impl Rules for PicRow {
 
     ghost alike = { has_its_key row.Pic };
 
-    ghost rest = { λ _. [] };
-
     ghost noted = { λ noted db. AreKeyPlaces row.Pic noted db.pic };
 
     fn first_alike(&self, lookups: &Lookups<'_>, places: &HashMap<Key, u32>) -> Option<u32> {
@@ -117,8 +111,6 @@ impl Rules for TpcfRow {
     ghost listed = { λ db. db.tpcf };
 
     ghost alike = { has_its_key row.Tpcf };
-
-    ghost rest = { λ _. [] };
 
     ghost noted = { λ noted db. AreKeyPlaces row.Tpcf noted db.tpcf };
 
@@ -192,8 +184,6 @@ impl Rules for CafRow {
 
     ghost rest = { λ db. drop 1 (caf_rules db) };
 
-    ghost noted = { λ _ _. Unit {0} };
-
     fn first_alike(&self, lookups: &Lookups<'_>, places: &HashMap<Key, u32>) -> Option<u32> {
         lookups.curve_place(self.numbr)
     }
@@ -225,10 +215,6 @@ impl Rules for TxfRow {
     ghost listed = { λ db. db.txf };
 
     ghost alike = { λ r other. bytes_eq other.numbr r.numbr };
-
-    ghost rest = { λ _. [] };
-
-    ghost noted = { λ _ _. Unit {0} };
 
     fn first_alike(&self, lookups: &Lookups<'_>, places: &HashMap<Key, u32>) -> Option<u32> {
         lookups.texts_place(self.numbr)
@@ -262,10 +248,6 @@ impl Rules for McfRow {
 
     ghost alike = { λ r other. bytes_eq other.ident r.ident };
 
-    ghost rest = { λ _. [] };
-
-    ghost noted = { λ _ _. Unit {0} };
-
     fn first_alike(&self, lookups: &Lookups<'_>, places: &HashMap<Key, u32>) -> Option<u32> {
         lookups.polynomial_place(self.ident)
     }
@@ -279,10 +261,6 @@ impl Rules for LgfRow {
     ghost listed = { λ db. db.lgf };
 
     ghost alike = { λ r other. bytes_eq other.ident r.ident };
-
-    ghost rest = { λ _. [] };
-
-    ghost noted = { λ _ _. Unit {0} };
 
     fn first_alike(&self, lookups: &Lookups<'_>, places: &HashMap<Key, u32>) -> Option<u32> {
         lookups.logarithm_place(self.ident)
@@ -299,8 +277,6 @@ impl Rules for OcfRow {
     ghost alike = { λ r other. bytes_eq other.name r.name };
 
     ghost rest = { λ db. drop 1 (ocf_rules db) };
-
-    ghost noted = { λ _ _. Unit {0} };
 
     fn first_alike(&self, lookups: &Lookups<'_>, places: &HashMap<Key, u32>) -> Option<u32> {
         lookups.check_place(self.name)

@@ -1,9 +1,0 @@
-use Rattle.std.proofs.Common.{refl, rules}
-use Rattle.mib_keys.proofs.EqualFacts.{equal-rows, equal-tables, same_row}
-use Rattle.mib_model.specs.CurveTables.{mcf, mcf_cells, mcf_row}
-use Rattle.mib_model.specs.Sameness.{same_cells}
-use Rattle.mib_keys.proofs.read.McfRowRead.are_same.Goals as goal
-
-pub returns : goal.returns
-unfolding same_cells
-returns c = equal-tables (same_row mcf mcf_cells mcf_row) (equal-rows mcf mcf_cells mcf_row (λ x. refl)) refl refl c.eq.ensures (λ x y. search rules)
