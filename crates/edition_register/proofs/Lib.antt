@@ -3,3 +3,5 @@ pub mod BoundedFacts
 pub mod KeptFacts
 pub mod StoredFacts
 pub mod SeatFacts
+pub mod ShownFacts
+pub mod PanelFacts

@@ -2,6 +2,7 @@
 use Rattle.std.proofs.Common.{◌≡◌, ◌≢◌, ℕ, ◌+◌, ◌<◌, Bool, true, false, cond, ◌||◌, List, [], ◌∷◌, ◌++◌, length, Option, Some, None, Result, MatchOption, IfSome, is_some, sym, refl, ap, subst, ◌∙◌, arith, nat_eq, ◌==◌, eq-eqb}
 use Rattle.std.proofs.lemmas.Bool.{false≢true, eqb-false}
 use Rattle.std.specs.List.{AllByRecursion, list_any}
+use Rattle.histories.specs.declared.history.Move.{Move}
 use Rattle.histories.specs.History.{IsLegal, IsOfSeatsBelow, Permits, StartsWith, move, moves_of, state_after}
 use Rattle.mib_model.specs.declared.database.Database.{Database}
 use Rattle.mib_model.specs.declared.register.Answer as seen_answer
@@ -20,7 +21,7 @@ use Rattle.edition_register.specs.Bounded.{bounded, bounded_after}
 use Rattle.edition_register.specs.declared.entry.Reply.{Reply}
 use Rattle.edition_register.specs.declared.entry.Reply.TheVariants as reply
 use Rattle.edition_register.specs.declared.outcome.UseFault.{UseFault}
-use Rattle.edition_register.specs.Seats.{IsUsed, Moves, RegisterSeat, StartFits, Uses, shown_in}
+use Rattle.edition_register.specs.Seats.{IsUsed, Moves, RegisterSeat, StartFits, UsesAt, shown_in}
 use Rattle.edition_register.specs.Shown.{HasItsTables, last_stamped}
 use Rattle.edition_register.specs.Starts.{IsStart}
 use Rattle.edition_register.specs.Stored.{FitsUse, GivesUse, answer_of, begins}
@@ -28,7 +29,7 @@ use Rattle.edition_register.proofs.BoundedFacts.{In, Below, bounded-serves, in-a
 use Rattle.edition_register.proofs.RegisterFacts.{all-filter, all-one, desk-shows, goes-on, intake-counts, tables-stay}
 
 -- THE HISTORY: what the turn tells of it, in the words of the register
-abbrev Turns : Register → RegisterHistory → Type 0
+abbrev pub Turns : Register → RegisterHistory → Type 0
 Turns s log = IsLegal answer_to bounded_after s log
 
 pub legal-of : (first : Database) (s : Register) (log : RegisterHistory) → s ≡ opening first → Turns s log → IsRegisterHistory first log
@@ -82,6 +83,10 @@ none-of n [] none = tt
 none-of n (q ∷ qs) none = none-by n q (q.from == n) (list_any (λ pair. pair.from == n) qs) (AllByRecursion (λ (pair : Scheduled). pair.from ≢ n) qs) refl none (λ h. none-of n qs h)
 
 -- MOVES
+below-more : (callers : ℕ) (log : RegisterHistory) (m : Move seen_entry.Entry seen_answer.Answer) → IsOfSeatsBelow callers log → m.seat < callers → IsOfSeatsBelow callers (log ++ m ∷ [])
+below-more callers [] m below low = (low, tt)
+below-more callers (first ∷ more) m below low = (below.0, below-more callers more m below.1 low)
+
 pub own-listed : (n : ℕ) (hs : List (Holding seen_entry.Entry seen_answer.Answer)) (ms : RegisterHistory) → hs ≡ holding n ms ∷ [] → listed (least hs) hs ≡ ms
 own-listed n hs ms is = ap (λ (l : List (Holding seen_entry.Entry seen_answer.Answer)). listed (least l) l) is ∙ ap (λ b. cond b ms []) (eq-eqb n n refl)
 
@@ -90,22 +95,29 @@ own-in n log hs ms is all = (subst (λ l. AreListed log l) is all).0
 
 abbrev pub moves-of : {P : Type 0} (number : ℕ) (first : Database) (s : Register) (old entered new : RegisterSeat P) (e : seen_entry.Entry) (a : seen_answer.Answer) (ms : RegisterHistory)
     → s ≡ opening first → holdings_of old ≡ holding number ms ∷ [] → holdings_of entered ≡ holdings_of old → StartsWith (seen_by entered) (seen_by old)
-    → Turns s (seen_by entered) → Permits MayEnter (seen_by entered) → IsOfSeatsBelow 2 (seen_by entered)
+    → Turns s (seen_by entered) → Permits MayEnter (seen_by entered)
     → a ≡ answer_to (state_after bounded_after s (seen_by entered)) e
     → seen_by new ≡ seen_by entered ++ move (number_of entered) e a ∷ [] → own_moves new ≡ own_moves entered ++ move (number_of entered) e a ∷ []
     → Moves number first old new e a
-moves-of number first s old entered new e a ms is holds same later legal permits below answers seen own =
+moves-of number first s old entered new e a ms is holds same later legal permits answers seen own =
     let n : number_of entered ≡ number = ap least (same ∙ holds) in
     record {
       before = seen_by entered;
       later = later;
       legal = legal-of first s (seen_by entered) is legal;
       permitted = permits;
-      seats = below;
       answers = answers ∙ answer-of first s (seen_by entered) e is;
       seen = seen ∙ ap (λ k. seen_by entered ++ move k e a ∷ []) n;
       own = own ∙ ap (λ (l : RegisterHistory). l ++ move (number_of entered) e a ∷ []) (ap (λ hs. listed (least hs) hs) same) ∙ ap (λ k. own_moves old ++ move k e a ∷ []) n;
     }
+
+-- each move that the seat has seen is of a seat below this number, that of its own entry too
+pub below-of : {P : Type 0} (number callers : ℕ) (entered new : RegisterSeat P) (e : seen_entry.Entry) (a : seen_answer.Answer) (ms : RegisterHistory)
+    → number < callers → holdings_of entered ≡ holding number ms ∷ [] → IsOfSeatsBelow callers (seen_by entered) → seen_by new ≡ seen_by entered ++ move (number_of entered) e a ∷ []
+    → IsOfSeatsBelow callers (seen_by new)
+below-of number callers entered new e a ms low holds below seen =
+    subst (IsOfSeatsBelow callers) (sym (seen ∙ ap (λ hs. seen_by entered ++ move (least hs) e a ∷ []) holds))
+    (below-more callers (seen_by entered) (move number e a) below low)
 
 -- STAMPS
 pub exactly-of : (first : Database) (s : Register) (log : RegisterHistory) (b : Bool) → s ≡ opening first → b ≡ begins (state_after bounded_after s log) → b ≡ begins (register_after first log)
@@ -134,15 +146,15 @@ throughout-of first log own a legal same answers =
 
 -- ACTIVATIONS: what the caller is given
 module _ {E B P : Type 0} (tables : E → Database) where
-  pub uses-of : (first : Database) (old new : RegisterSeat P) (e : seen_entry.Entry) (start : Option (Start E B)) (given : Reply E B) (result : Result ℕ (UseFault E B))
-      → IsUsed given result → GivesUse start given → Moves 1 first old new e (answer_of tables given) → Uses first old new e start result
-  uses-of first old new e start (reply.Used k) result is gives moves = subst (Uses first old new e start) (sym is) moves
-  uses-of first old new e start (reply.NoEdition count back) result is gives moves = subst (Uses first old new e start) (sym is) (moves, gives)
-  uses-of first old new e start (reply.Late next back) result is gives moves = subst (Uses first old new e start) (sym is) (moves, gives)
-  uses-of first old new e start (reply.Disorder last back) result is gives moves = subst (Uses first old new e start) (sym is) (moves, gives)
-  uses-of first old new e start (reply.FullPending back) result is gives moves = subst (Uses first old new e start) (sym is) (moves, gives)
-  uses-of first old new e start (reply.Stamped n edition t begun) result is gives moves = absurd is
-  uses-of first old new e start (reply.Added edition) result is gives moves = absurd is
-  uses-of first old new e start (reply.FullEditions payload) result is gives moves = absurd is
-  uses-of first old new e start (reply.Stale newest payload) result is gives moves = absurd is
-  uses-of first old new e start (reply.Drawn edition t handle) result is gives moves = absurd is
+  pub uses-of : (number : ℕ) (first : Database) (old new : RegisterSeat P) (e : seen_entry.Entry) (start : Option (Start E B)) (given : Reply E B) (result : Result ℕ (UseFault E B))
+      → IsUsed given result → GivesUse start given → Moves number first old new e (answer_of tables given) → UsesAt number first old new e start result
+  uses-of number first old new e start (reply.Used k) result is gives moves = subst (UsesAt number first old new e start) (sym is) moves
+  uses-of number first old new e start (reply.NoEdition count back) result is gives moves = subst (UsesAt number first old new e start) (sym is) (moves, gives)
+  uses-of number first old new e start (reply.Late next back) result is gives moves = subst (UsesAt number first old new e start) (sym is) (moves, gives)
+  uses-of number first old new e start (reply.Disorder last back) result is gives moves = subst (UsesAt number first old new e start) (sym is) (moves, gives)
+  uses-of number first old new e start (reply.FullPending back) result is gives moves = subst (UsesAt number first old new e start) (sym is) (moves, gives)
+  uses-of number first old new e start (reply.Stamped n edition t begun) result is gives moves = absurd is
+  uses-of number first old new e start (reply.Added edition) result is gives moves = absurd is
+  uses-of number first old new e start (reply.FullEditions payload) result is gives moves = absurd is
+  uses-of number first old new e start (reply.Stale newest payload) result is gives moves = absurd is
+  uses-of number first old new e start (reply.Drawn edition t handle) result is gives moves = absurd is

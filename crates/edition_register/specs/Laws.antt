@@ -7,7 +7,7 @@ use Rattle.mib_model.specs.declared.register.Answer.TheVariants.{Stamped}
 use Rattle.mib_model.specs.declared.register.Entry.TheVariants.{Stamp}
 use Rattle.mib_model.specs.Register.{answer_to}
 use Rattle.mib_model.specs.RegisterHistories.{RegisterHistory, IsRegisterHistory, MayEnter, register_after}
-use Rattle.edition_register.specs.Shown.{added_in, last_stamped, HasItsTables, NoneBegins}
+use Rattle.edition_register.specs.Shown.{added_in, editions_shown, last_stamped, HasItsTables, NoneBegins, Stands}
 
 -- the next packet's number is one more than the intake has moves
 abbrev pub IntakeCounts : Type 0
@@ -29,3 +29,8 @@ StampGoesOn = (first : Database) (history : RegisterHistory) (n e : ℕ) (tables
 abbrev pub TablesStay : Type 0
 TablesStay = (first : Database) (history : RegisterHistory) → IsRegisterHistory first history
     → AllByRecursion (λ m. HasItsTables (register_after first history).editions m.reply) history
+
+-- what the moves of a seat show stays: at the end of the history each edition that they show stands, with these tables
+abbrev pub ShownStays : Type 0
+ShownStays = (first : Database) (history : RegisterHistory) (seat : ℕ) → IsRegisterHistory first history
+    → AllByRecursion (Stands (register_after first history)) (editions_shown first (moves_of seat history))

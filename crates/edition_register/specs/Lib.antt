@@ -4,3 +4,4 @@ pub mod Bounded
 pub mod Starts
 pub mod Stored
 pub mod Seats
+pub mod Panels

@@ -1,9 +1,9 @@
 -- What contracts say of a register of editions and of its seats. [This profile.]
-use Rattle.std.specs.Prelude.{◌≡◌, ℕ, Bool, List, [], ◌∷◌, ◌++◌, Option, MatchOption, Result, Ok, Err, is_some}
+use Rattle.std.specs.Prelude.{◌≡◌, ◌<◌, ℕ, zero, suc, Bool, List, [], ◌∷◌, ◌++◌, Option, MatchOption, Result, Ok, Err, is_some}
 use Rattle.std.specs.declared.alloc.Global.{Global}
 use Rattle.std.specs.declared.sync.Arc.{Arc}
 use Rattle.std.specs.List.{AllByRecursion}
-use Rattle.histories.specs.History.{IsOfSeatsBelow, Permits, StartsWith, move, moves_of}
+use Rattle.histories.specs.History.{Permits, StartsWith, move, moves_of}
 use Rattle.mib_model.specs.declared.database.Database.{Database}
 use Rattle.mib_model.specs.declared.meaning.MadeFor as MadeFor
 use Rattle.mib_model.specs.declared.meaning.Rows as Rows
@@ -38,21 +38,30 @@ use Rattle.edition_register.specs.Stored.{FitsUse, begins, state_of}
 abbrev pub RegisterSeat : Type 0 → Type 0
 RegisterSeat P = Seat P (View Register seen_entry.Entry seen_answer.Answer)
 
+-- how many callers a register has of which a seat is told by its number alone: the intake's is of any register, a desk's of one with one desk
+abbrev pub HasCallers : ℕ → ℕ → Type 0
+HasCallers zero callers = 0 < callers
+HasCallers (suc desk) callers = callers ≡ 2
+
 module _ {E B P Q : Type 0} {rows : Rows.Ghosts E} {boards : MadeFor.Ghosts B} where
   -- the tables of edition 1
   abbrev pub first_of : Over (Lock P (View Register seen_entry.Entry seen_answer.Answer) (About (Editions E B rows boards)) Q) → Database
   first_of register = tables_of (state_of (first_state register.turn)) 1
 
-  -- the seat is this one of the register: it has no ticket, holds its number alone, and lists its moves
-  pub record IsSeat (number : ℕ) (register : Over (Lock P (View Register seen_entry.Entry seen_answer.Answer) (About (Editions E B rows boards)) Q))
+  -- the seat is this one of a register with so many callers: it has no ticket, holds its number alone, and lists its moves
+  pub record IsSeatWhere (Has : ℕ → Type 0) (number : ℕ) (register : Over (Lock P (View Register seen_entry.Entry seen_answer.Answer) (About (Editions E B rows boards)) Q))
       (seat : RegisterSeat P) : Type 0 where
     pub opens : state_of (first_state register.turn) ≡ opening (first_of register)
-    pub callers : callers_of register.turn ≡ 2
+    pub callers : Has (callers_of register.turn)
     pub of : IsSeatOf state_of register.turn seat
     pub idle : IsIdle seat
     pub moves : RegisterHistory
     pub holds : holdings_of seat ≡ holding number moves ∷ []
     pub listed : moves_of number (seen_by seat) ≡ moves
+
+  -- the seat of the intake of a register, or that of its one desk
+  abbrev pub IsSeat : ℕ → Over (Lock P (View Register seen_entry.Entry seen_answer.Answer) (About (Editions E B rows boards)) Q) → RegisterSeat P → Type 0
+  IsSeat number register seat = IsSeatWhere (HasCallers number) number register seat
 
 module _ {P : Type 0} where
   -- the seat made one move behind all that it had seen, and lists it; the reply is the register's at that place
@@ -61,7 +70,6 @@ module _ {P : Type 0} where
     pub later : StartsWith before (seen_by old)
     pub legal : IsRegisterHistory first before
     pub permitted : Permits MayEnter before
-    pub seats : IsOfSeatsBelow 2 before
     pub answers : reply ≡ answer_to (register_after first before) entry
     pub seen : seen_by new ≡ before ++ move number entry reply ∷ []
     pub own : own_moves new ≡ own_moves old ++ move number entry reply ∷ []
@@ -110,10 +118,14 @@ module _ {E B : Type 0} where
   IsUsed other given = ⊥
 
 module _ {E B P : Type 0} where
-  -- an edition is used, or the start comes back with the register's refusal
+  -- a seat used an edition, or the start comes back with the register's refusal
+  abbrev pub UsesAt : ℕ → Database → RegisterSeat P → RegisterSeat P → seen_entry.Entry → Option (Start E B) → Result ℕ (UseFault E B) → Type 0
+  UsesAt number first old new entry start (Ok from) = Moves number first old new entry (answer.Used from)
+  UsesAt number first old new entry start (Err refused) = Moves number first old new entry (refused_by refused).0 × ((refused_by refused).1 ≡ start)
+
+  -- the one desk used an edition, or the start comes back
   abbrev pub Uses : Database → RegisterSeat P → RegisterSeat P → seen_entry.Entry → Option (Start E B) → Result ℕ (UseFault E B) → Type 0
-  Uses first old new entry start (Ok from) = Moves 1 first old new entry (answer.Used from)
-  Uses first old new entry start (Err refused) = Moves 1 first old new entry (refused_by refused).0 × ((refused_by refused).1 ≡ start)
+  Uses first old new entry start given = UsesAt 1 first old new entry start given
 
 module _ {E B : Type 0} {rows : Rows.Ghosts E} {boards : MadeFor.Ghosts B} where
   -- the whole history of a closed register

@@ -1,5 +1,5 @@
 ghost use Rattle.edition_register.specs.Bounded.{BoundedServes, FewActivations, KeepsOneInUse, MovesKept};
-ghost use Rattle.edition_register.specs.Laws.{DeskShowsEditions, IntakeCounts, StampGoesOn, TablesStay};
+ghost use Rattle.edition_register.specs.Laws.{DeskShowsEditions, IntakeCounts, ShownStays, StampGoesOn, TablesStay};
 
 /// The number of the next packet is one more than the intake has moves.
 pub fn intake_counts()
@@ -39,4 +39,9 @@ pub fn keeps_one_in_use()
 /// What each entry does to the activation in use and to those that are pending.
 pub fn moves_kept()
     ensures { MovesKept }
+{}
+
+/// The editions that the moves of a desk among several show stand, with the tables that are shown.
+pub fn shown_stays()
+    ensures { ShownStays }
 {}

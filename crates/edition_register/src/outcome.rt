@@ -21,6 +21,31 @@ pub enum AddFault<E: Drop> {
     Full { payload: Arc<E> },
 }
 
+/// Why an edition isn't added on a base. The payload comes back.
+#[derive(Drop)]
+pub enum AddOnFault<E: Drop> {
+    /// The base isn't the newest edition; this is.
+    Stale { newer: u32, payload: Arc<E> },
+    /// All 64 editions stand.
+    Full { payload: Arc<E> },
+}
+
+/// An edition, with a handle of it.
+#[derive(Drop)]
+pub struct Drawn<E: Drop> {
+    pub edition: u32,
+    pub handle: Arc<E>,
+}
+
+/// Why an edition isn't handed out.
+#[derive(Drop)]
+pub enum LookFault {
+    /// There is no edition of this number; there are so many.
+    NoEdition { count: u32 },
+    /// Memory was wanting for the handle.
+    Memory,
+}
+
 /// Why an edition isn't used. The start comes back.
 #[derive(Drop)]
 pub enum UseFault<E: Drop, B: Drop> {

@@ -17,7 +17,7 @@ use turn_cell::{Seat, Turn};
 /// A register over its turn. Only as `Register` has it calls.
 #[derive(Drop)]
 pub struct Over<T> {
-    turn: T,
+    pub(crate) turn: T,
 }
 
 /// A register of editions that an intake and a desk share, each with its seat. It waits for its turn in `stamp`, `add`,
@@ -28,7 +28,7 @@ pub type Register<E, B> = Over<Turn<Editions<E, B>>>;
 const CALLERS: u8 = 2;
 
 impl<E: Rows + Drop, B: MadeFor + Drop> Register<E, B> {
-    ghost use Rattle.turn_cell.specs.Seats.{first_state, own_moves, seen_by, IsIdle, IsSeatOf};
+    ghost use Rattle.turn_cell.specs.Seats.{callers_of, first_state, own_moves, seen_by, IsIdle, IsSeatOf};
     ghost use Rattle.histories.specs.History.{StartsWith, Permits, IsOfSeatsBelow, moves_of};
     ghost use Rattle.mib_model.specs.declared.register.Entry.TheVariants as event;
     ghost use Rattle.mib_model.specs.Register.{count_of_editions};
@@ -57,6 +57,7 @@ impl<E: Rows + Drop, B: MadeFor + Drop> Register<E, B> {
         requires room { length (own_moves seat.old) < 1000000000 }
         ensures seat { IsSeat 0 self.now seat.new }
         ensures stamps { Stamps E.tables B.made_for (first_of self.now) seat.old seat.new result.number result.edition result.start }
+        ensures seats { IsOfSeatsBelow (callers_of self.now.turn) (seen_by seat.new) }
     {
         let mut held = self.turn.enter(rt, seat);
         let reply = self.turn.append(seat, &mut held, Entry::Stamp);
@@ -87,6 +88,7 @@ impl<E: Rows + Drop, B: MadeFor + Drop> Register<E, B> {
         requires room { length (own_moves seat.old) < 2 ^ 32 }
         ensures seat { IsSeat 1 self.now seat.new }
         ensures adds { Adds (first_of self.now) seat.old seat.new (E.tables (arc_value payload)) (E.plans (arc_value payload)) payload result }
+        ensures seats { IsOfSeatsBelow (callers_of self.now.turn) (seen_by seat.new) }
     {
         let mut held = self.turn.enter(rt, seat);
         let reply = self.turn.append(seat, &mut held, Entry::Add(payload));
@@ -111,6 +113,7 @@ impl<E: Rows + Drop, B: MadeFor + Drop> Register<E, B> {
         requires start { StartFits E.tables B.made_for (shown_in (first_of self.now) (own_moves seat.old)) edition start }
         ensures seat { IsSeat 1 self.now seat.new }
         ensures uses { Uses (first_of self.now) seat.old seat.new (event.Use edition) start result }
+        ensures seats { IsOfSeatsBelow (callers_of self.now.turn) (seen_by seat.new) }
     {
         let mut held = self.turn.enter(rt, seat);
         let entry = Entry::Use { edition, start };
@@ -133,6 +136,7 @@ impl<E: Rows + Drop, B: MadeFor + Drop> Register<E, B> {
         requires start { StartFits E.tables B.made_for (shown_in (first_of self.now) (own_moves seat.old)) edition start }
         ensures seat { IsSeat 1 self.now seat.new }
         ensures uses { Uses (first_of self.now) seat.old seat.new (event.UseFrom edition from) start result }
+        ensures seats { IsOfSeatsBelow (callers_of self.now.turn) (seen_by seat.new) }
     {
         let mut held = self.turn.enter(rt, seat);
         let entry = Entry::UseFrom {
@@ -187,7 +191,7 @@ impl<E: Rows + Drop, B: MadeFor + Drop> Register<E, B> {
 }
 
 // What an activation's reply says.
-fn used<E: Drop, B: Drop>(reply: Reply<E, B>) -> Result<u64, UseFault<E, B>>
+pub(crate) fn used<E: Drop, B: Drop>(reply: Reply<E, B>) -> Result<u64, UseFault<E, B>>
     requires { (start : _) × GivesUse start reply }
     ensures { IsUsed reply result }
 {
