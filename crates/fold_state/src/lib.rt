@@ -16,6 +16,7 @@ mod enter;
 mod finish;
 mod guesses;
 mod laws;
+mod shown;
 mod sketch;
 mod sketched;
 mod slot;

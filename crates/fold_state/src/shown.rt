@@ -1,0 +1,43 @@
+// What a board keeps of a name, for whoever shows it.
+ghost use Rattle.std.specs.Prelude.{◌≡◌, ◌-ℤ◌, ◌≤ℤ◌, ◌<ℤ◌, pos, IfSome};
+ghost use Rattle.fold_state.specs.Boards.{kept_as, memory_of};
+
+use crate::board::Board;
+use crate::slot::Slot;
+use mib_model::{Class, Name};
+
+// The latest raw number that a slot keeps.
+fn latest_in(slot: &Slot) -> Option<i128>
+    ensures latest { result ≡ (kept_as slot.now).latest }
+    ensures range { IfSome result (λ raw. ((pos 0 -ℤ pos 18446744073709551616) ≤ℤ raw) × (raw <ℤ pos 18446744073709551616)) }
+{
+    if !slot.has_latest {
+        return None;
+    }
+    let bits = i128::from(slot.latest);
+    Some(if slot.is_low { bits - (1 << 64) } else { bits })
+}
+
+impl Board {
+    /// The latest raw number of a name; none where no value of it was seen, or where the edition has no plan for it. It has
+    /// at most 64 bits beside its sign.
+    pub fn latest(&self, name: Name) -> Option<i128>
+        ensures latest { result ≡ (memory_of self.now name).latest }
+        ensures range { IfSome result (λ raw. ((pos 0 -ℤ pos 18446744073709551616) ≤ℤ raw) × (raw <ℤ pos 18446744073709551616)) }
+    {
+        match self.place(&name) {
+            Some(at) => latest_in(self.slot(at)),
+            None => None,
+        }
+    }
+
+    /// The class that is spoken of for a name; none where none is, or where the edition has no plan for the name.
+    pub fn spoken(&self, name: Name) -> Option<Class>
+        ensures { result ≡ (memory_of self.now name).spoken }
+    {
+        match self.place(&name) {
+            Some(at) => self.slot(at).alarm.spoken(),
+            None => None,
+        }
+    }
+}

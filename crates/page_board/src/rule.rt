@@ -1,0 +1,57 @@
+// The rule of a board, and its kinds of step.
+ghost use Rattle.std.specs.Prelude.{[]};
+ghost use Rattle.page_board.specs.Sheets.{page_in};
+ghost use Rattle.page_board.specs.Views.{Kept, Looks, Publishes, onlooker, publisher, told_of};
+
+use crate::sheet::Sheet;
+use crate::view::View;
+use atomic_table::{Join, Split};
+use crossbeam_utils::atomic::seq_cell::{Pass, RuledSeqCell};
+use crossbeam_utils::rule::{Outcome, Protocol};
+
+/// The rule: one end publishes, and each knows some of the pages.
+pub struct Pages;
+
+impl Protocol<Sheet, View> for Pages {
+    ghost holds = { λ sheet. Kept (page_in sheet) };
+
+    ghost first = { publisher };
+}
+
+/// Publishes a page.
+pub struct Publish;
+
+impl Outcome<Sheet, View> for Publish {
+    ghost then = { λ v x y w. Publishes v (page_in y) w };
+}
+
+/// Takes the last page.
+pub struct Look;
+
+impl Outcome<Sheet, View> for Look {
+    ghost then = { λ v x y w. Looks v (page_in x) w };
+}
+
+/// Makes an end that knows what was published.
+pub struct Tell;
+
+impl Split<View> for Tell {
+    ghost left = { λ v. v };
+
+    ghost right = { λ v. onlooker v.seen };
+}
+
+/// Takes in what another end knew.
+pub struct Learn;
+
+impl Join<View> for Learn {
+    ghost both = { told_of };
+
+    ghost spent = { onlooker [] };
+}
+
+/// The cell of a board.
+pub type BoardCell = RuledSeqCell<Sheet, View, Pages, 130>;
+
+/// What an end of a board holds of its cell.
+pub type BoardPass = Pass<Sheet, View>;

@@ -1,0 +1,2 @@
+pub mod StandingFacts
+pub mod LayFacts

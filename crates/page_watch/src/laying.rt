@@ -1,0 +1,26 @@
+// The cells of names in a sheet.
+ghost use Rattle.std.specs.Prelude.{◌≡◌, ◌≤◌, ◌++◌, drop, length, map, slice_index};
+ghost use Rattle.fold_state.specs.Boards.{memory_of};
+ghost use Rattle.display_pages.specs.Pages.{cell_of};
+ghost use Rattle.page_board.specs.Sheets.{cells_in};
+
+use display_pages::Cell;
+use fold_state::Board;
+use mib_model::Name;
+use page_board::{Sheet, lay_cell};
+
+/// Lays the cells of names, each at its place.
+pub fn lay_cells(sheet: &mut Sheet, names: &[Name], board: &Board)
+    requires { length names.now ≤ 64 }
+    ensures cells { cells_in sheet.new ≡ map (cell_of (memory_of board.now)) names.now ++ drop (length names.now) (cells_in sheet.old) }
+    ensures number { slice_index sheet.new 0 ≡ slice_index sheet.old 0 }
+    ensures edition { slice_index sheet.new 1 ≡ slice_index sheet.old 1 }
+{
+    for (place, name) in names.iter().enumerate() {
+        let cell = Cell {
+            raw: board.latest(*name),
+            spoken: board.spoken(*name),
+        };
+        lay_cell(sheet, place, cell);
+    }
+}

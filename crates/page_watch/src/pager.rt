@@ -1,0 +1,17 @@
+ghost use Rattle.std.specs.Prelude.{◌≡◌, ◌≤◌, ◌-◌, drop, length, replicate};
+ghost use Rattle.display_pages.specs.Pages.{no_cell};
+ghost use Rattle.page_board.specs.Sheets.{cells_in};
+
+use mib_model::Name;
+use page_board::{Publisher, Sheet};
+
+/// What is told of packets and publishes the pages of its names.
+#[derive(Drop)]
+pub struct Pager {
+    pub(crate) names: Vec<Name>,
+    // The page after the last packet.
+    pub(crate) sheet: Sheet,
+    pub(crate) publisher: Publisher,
+    ghost few: { length names.items ≤ 64 },
+    ghost blank: { drop (length names.items) (cells_in sheet) ≡ replicate (64 - length names.items) no_cell },
+}
