@@ -16,7 +16,7 @@ import time
 TOP = os.path.dirname(os.path.dirname(os.path.abspath(__file__)))
 SAMPLE, TOOLS = f"{TOP}/samples/suihtal_1", f"{TOP}/tools"
 MIB, FEED, DESK, REPLIES = (f"{SAMPLE}/{it}" for it in ("mib", "feed", "desk", "replies.txt"))
-HELPERS = ["mib_lint.py", "mib_row.py", "pace.py", "plot.py", "replay.py", "replay_archive.py"]
+HELPERS = ["asks.py", "mib_lint.py", "mib_row.py", "pace.py", "plot.py", "replay.py", "replay_archive.py"]
 # a helper's words, its status, and a piece of what it says
 CASES = [
     *[((it,), 2, b"usage: ") for it in HELPERS], *[((it, "--help"), 0, b"usage: ") for it in HELPERS], *[((it, "nosuch", "--never"), 2, b"usage: ") for it in HELPERS],
@@ -44,6 +44,20 @@ def words_are_told():
         if b"Traceback" in said or piece not in said or found != status and (status is not None or found == 0):
             wrong.append(f"{' '.join(words)}: {found}, {said.decode('latin-1')[:200]}")
     return wrong
+
+
+def asks_build_their_packets(folder, program):
+    """The packets that are built of the sample's printed records, but for those whose time lies on their header, have the printed numbers."""
+    status, lines = helper("asks.py", f"{SAMPLE}/decoded.txt")
+    lines = [it for it in lines.splitlines(True) if not it.startswith((b"#", b"9 "))]
+    with open(f"{folder}/asks", "wb") as file:
+        file.writelines(lines)
+    with open(f"{folder}/built", "wb") as built:
+        subprocess.run([program, "build", MIB, f"{folder}/asks"], stdout=built, check=False)
+    with open(f"{folder}/again", "wb") as again:
+        subprocess.run([program, "decode", MIB, f"{folder}/built"], stdout=again, check=False)
+    found = helper("asks.py", f"{folder}/again")
+    return [] if status == 0 and len(lines) > 200 and found == (0, b"".join(lines)) else [f"asks: {len(lines)} lines, {found[1][:200]}"]
 
 
 def an_edited_row_is_whole(folder):
@@ -130,7 +144,8 @@ def main():
     program = os.path.abspath(sys.argv[1])
     with tempfile.TemporaryDirectory() as folder:
         os.chdir(folder)
-        wrong = words_are_told() + an_edited_row_is_whole(folder) + a_draft_is_written(folder, program) + faults_of_form_come_first(folder) + packets_come_with_a_pause() + a_span_ends_at_an_edition(folder, program)
+        wrong = words_are_told() + an_edited_row_is_whole(folder) + a_draft_is_written(folder, program) + faults_of_form_come_first(folder)
+        wrong += packets_come_with_a_pause() + a_span_ends_at_an_edition(folder, program) + asks_build_their_packets(folder, program)
     print(*wrong, f"{len(CASES)} calls of {len(HELPERS)} helpers, {len(wrong)} wrong", sep="\n")
     return 1 if wrong else 0
 
