@@ -7,8 +7,8 @@ use decode_session::{RunEnd, RunFault};
 use live_desk::DeskEnd;
 use mib_model::Code;
 
-// The code of an intake that nothing hindered.
-fn code_of_end(end: RunEnd) -> Code
+/// The code of an intake that nothing hindered.
+pub fn code_of_end(end: RunEnd) -> Code
     ensures { result ≡ Spec.code_of_end end }
 {
     match end {

@@ -12,4 +12,5 @@ mod opening;
 mod run;
 mod sides;
 
+pub use code::code_of_end;
 pub use live::{Lived, live_run};

@@ -3,7 +3,6 @@ pub mod CourseFacts
 pub mod FoundFacts
 pub mod RunFacts
 pub mod OperandFacts
-pub mod TableFacts
 pub mod TellFacts
 pub mod TextFacts
 pub mod ScriptFacts

@@ -2,7 +2,6 @@
 ghost use Rattle.std.specs.Prelude.{◌≡◌, ◌<◌, ◌≤◌, ℕ, length, map, string_bytes, None, IfErr, IfOk, IfSome, OnOk, Ok};
 ghost use Rattle.std.specs.List.{All};
 ghost use Rattle.mib_model.specs.Soundness.{IsSound};
-ghost use Rattle.session.specs.Sources.{database_in};
 ghost use Rattle.mibtm_audit.specs.Codes as Codes;
 ghost use Rattle.mibtm_audit.specs.Operands as Words;
 ghost use Rattle.mibtm_audit.specs.Operands.{named};
@@ -11,41 +10,19 @@ ghost use Rattle.tm_audit.specs.Audit.{refused};
 ghost use Rattle.tm_audit.specs.Saved.{saved_tables};
 ghost use Rattle.tm_audit.specs.declared.code.AuditCode.TheVariants as code;
 ghost use Rattle.tool_objects.specs.Objects.{shelf, sink};
-ghost use Rattle.tool_objects.specs.Sources.{if_sound, sound_in};
+ghost use Rattle.tool_objects.specs.Sources.{sound_in};
 
 use crate::comparing::compare;
 use crate::inputs::{Inputs, inputs_in};
 use crate::text::text_of;
-use mib_keys::{SoundFault, sound};
+use folder_tables::{Refusal, sound_book};
 use mib_model::Line;
 use mib_tables::Book;
 use row_searches::RowSearches;
 use script_tables::{ScriptFault, saved_books};
-use session::{LoadFault, load};
 use std::alloc::{AllocError, Global};
 use tm_audit::{AuditCode, AuditInput, TEXT_MOST, first_unknown};
 use tm_io::{Shelf, Sink, write_all};
-
-// The code of a fault of a load.
-fn code_of_load(fault: LoadFault) -> AuditCode
-    ensures { result ≡ Codes.code_of_load fault }
-{
-    match fault {
-        LoadFault::Mib(fault) => AuditCode::BadMib(fault),
-        LoadFault::Failed => AuditCode::TablesFault,
-        LoadFault::Memory => AuditCode::Want,
-    }
-}
-
-// The code of a flaw of the tables.
-fn code_of_flaw(fault: SoundFault) -> AuditCode
-    ensures { result ≡ Codes.code_of_flaw fault }
-{
-    match fault {
-        SoundFault::Mib(fault) => AuditCode::BadMib(fault),
-        SoundFault::Memory => AuditCode::Want,
-    }
-}
 
 // The code of a fault of a script.
 fn code_of_script(fault: ScriptFault) -> AuditCode
@@ -57,43 +34,20 @@ fn code_of_script(fault: ScriptFault) -> AuditCode
     }
 }
 
-// The tables of a folder, whether they are sound or not.
-fn load_book<T: Shelf>(alloc: Global, folder: &str, tables: &mut T) -> Result<Book, AuditCode>
-    ensures told { IfOk result (λ book. IfSome (T.holds tables.old) (λ files. database_in files folder.now ≡ Ok book)) }
-    ensures refused { IfErr result (λ code. IfSome (T.holds tables.old) (λ files. Refuses code (database_in files folder.now))) }
-    ensures ok { OnOk result (T.faults tables.new ≡ T.faults tables.old) }
-    ensures cause { IfErr result (λ code. HasTablesCause code (T.faults tables.old) (T.faults tables.new)) }
-{
-    match load(alloc, folder, tables) {
-        Ok(book) => Ok(book),
-        Err(fault) => Err(code_of_load(fault)),
-    }
-}
-
-// A book, where it is sound.
-fn accept(alloc: Global, book: Book) -> Result<Book, AuditCode>
-    ensures told { IfOk result (λ kept. if_sound book ≡ Ok kept) }
-    ensures sound { IfOk result (λ kept. IsSound kept) }
-    ensures refused { IfErr result (λ code. Refuses code (if_sound book)) }
-    ensures cause { IfErr result (λ code. (n : ℕ) → HasTablesCause code n n) }
-{
-    match sound(alloc, &book) {
-        Ok(()) => Ok(book),
-        Err(fault) => Err(code_of_flaw(fault)),
-    }
-}
-
-// The sound tables of a folder. They are refused at the first fault: each table is read in its order, and then their rows are
-// tested.
-fn sound_book<T: Shelf>(alloc: Global, folder: &str, tables: &mut T) -> Result<Book, AuditCode>
+// The sound tables of a folder, or the code that their refusal is.
+fn tables_of<T: Shelf>(alloc: Global, folder: &str, tables: &mut T) -> Result<Book, AuditCode>
     ensures told { IfOk result (λ book. IfSome (T.holds tables.old) (λ files. sound_in files folder.now ≡ Ok book)) }
     ensures sound { IfOk result (λ book. IsSound book) }
     ensures refused { IfErr result (λ code. IfSome (T.holds tables.old) (λ files. Refuses code (sound_in files folder.now))) }
     ensures ok { OnOk result (T.faults tables.new ≡ T.faults tables.old) }
     ensures cause { IfErr result (λ code. HasTablesCause code (T.faults tables.old) (T.faults tables.new)) }
 {
-    let book = load_book(alloc, folder, tables)?;
-    accept(alloc, book)
+    match sound_book(alloc, folder, tables) {
+        Ok(book) => Ok(book),
+        Err(Refusal::Mib(fault)) => Err(AuditCode::BadMib(fault)),
+        Err(Refusal::Failed) => Err(AuditCode::TablesFault),
+        Err(Refusal::Memory) => Err(AuditCode::Want),
+    }
 }
 
 // The rows of books, set up for searches.
@@ -309,7 +263,7 @@ fn audit_by<T: Shelf, F: Shelf, D: Shelf, X: Shelf, O: Sink>(
         (shelf feed.old feed.new F.holds F.left F.faults F.missed)
         (sink out.old out.new O.written O.handed O.faults) }
 {
-    match sound_book(alloc, inputs.folder, tables) {
+    match tables_of(alloc, inputs.folder, tables) {
         Ok(book) => audit_script(alloc, book, inputs, feed, desk, text, out),
         Err(code) => code,
     }

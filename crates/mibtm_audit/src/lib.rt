@@ -3,7 +3,7 @@
 //!
 //! The call `audit_tool` promises what is told of which text, and what is read of the feed for it. It stands on `tm_audit` for the definition
 //! and for the comparison, on `row_records` for what is expected of a packet, on `script_tables` for the tables that a script saves,
-//! on `session` and `mib_keys` for sound tables, on `packet_feed` for packets, and on `tool_objects` for what is said of files and sinks.
+//! on `folder_tables` for sound tables, on `packet_feed` for packets, and on `tool_objects` for what is said of files and sinks.
 #![tactic(auto)]
 
 mod audit;

@@ -3,4 +3,3 @@ pub mod GivenFacts
 pub mod OperandFacts
 pub mod RunFacts
 pub mod StopFacts
-pub mod TableFacts

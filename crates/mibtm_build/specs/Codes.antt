@@ -4,10 +4,6 @@ use Rattle.mib_model.specs.declared.code.Code.{Code}
 use Rattle.mib_model.specs.declared.code.Code.TheVariants as plain
 use Rattle.mib_model.specs.Codes.{code_number}
 use Rattle.mib_model.specs.Faults.{code_line}
-use Rattle.mib_keys.specs.declared.fault.SoundFault.{SoundFault}
-use Rattle.mib_keys.specs.declared.fault.SoundFault.TheVariants as sounds
-use Rattle.session.specs.declared.load_fault.LoadFault.{LoadFault}
-use Rattle.session.specs.declared.load_fault.LoadFault.TheVariants as loads
 use Rattle.build_rules.specs.Asks.{refused_line}
 use Rattle.mibtm_build.specs.declared.code.BuildCode.{BuildCode}
 use Rattle.mibtm_build.specs.declared.code.BuildCode.TheVariants as code
@@ -45,14 +41,3 @@ line_of None = []
 abbrev pub build_line : BuildCode → List ℕ
 build_line (code.Refused line fault) = refused_line line fault
 build_line other = line_of (plain_code other)
-
--- the code of a fault of a load
-abbrev pub code_of_load : LoadFault → BuildCode
-code_of_load (loads.Mib fault) = code.BadMib fault
-code_of_load loads.Failed = code.TablesFault
-code_of_load loads.Memory = code.Want
-
--- the code of a flaw of the tables
-abbrev pub code_of_flaw : SoundFault → BuildCode
-code_of_flaw (sounds.Mib fault) = code.BadMib fault
-code_of_flaw sounds.Memory = code.Want

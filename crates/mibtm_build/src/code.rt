@@ -6,10 +6,8 @@ ghost use Rattle.mibtm_build.specs.Codes.{build_line, build_number};
 
 use build_rules::BuildFault;
 use itoa::Buffer;
-use mib_keys::SoundFault;
 use mib_model::{Code, Input, Line, MibFault, Misuse};
 use record_text::code_line;
-use session::LoadFault;
 
 /// How a call of `build_tool` ends. There is no feed and there are no replies, so their faults never come.
 #[derive(Clone, Copy)]
@@ -34,33 +32,6 @@ pub enum BuildCode {
     Want,
     /// No packet is built for this line, counted from 1.
     Refused { line: u32, fault: BuildFault },
-}
-
-impl From<LoadFault> for BuildCode {
-    ghost use Rattle.mibtm_build.specs.Codes.{code_of_load};
-
-    ghost from_gives = { λ fault made. made ≡ code_of_load fault };
-
-    fn from(fault: LoadFault) -> BuildCode {
-        match fault {
-            LoadFault::Mib(fault) => BuildCode::BadMib(fault),
-            LoadFault::Failed => BuildCode::TablesFault,
-            LoadFault::Memory => BuildCode::Want,
-        }
-    }
-}
-
-impl From<SoundFault> for BuildCode {
-    ghost use Rattle.mibtm_build.specs.Codes.{code_of_flaw};
-
-    ghost from_gives = { λ fault made. made ≡ code_of_flaw fault };
-
-    fn from(fault: SoundFault) -> BuildCode {
-        match fault {
-            SoundFault::Mib(fault) => BuildCode::BadMib(fault),
-            SoundFault::Memory => BuildCode::Want,
-        }
-    }
 }
 
 // Appends the words of a fault.

@@ -8,54 +8,34 @@ ghost use Rattle.desk_lines.specs.declared.reader.TheConstants.{LINE_ROOM};
 ghost use Rattle.tm_io.specs.Causes.{RisesWhere};
 ghost use Rattle.mibtm_build.specs.Statement.{Asks, Built, HandsOn, HasStopped, HasTablesCause, IfInputs, Refuses};
 ghost use Rattle.tool_objects.specs.Objects.{shelf, sink};
-ghost use Rattle.tool_objects.specs.Sources.{if_sound, sound_in};
-ghost use Rattle.session.specs.Sources.{database_in};
+ghost use Rattle.tool_objects.specs.Sources.{sound_in};
 
 use crate::code::BuildCode;
 use crate::inputs::inputs_in;
 use crate::run::run;
 use build_rules::Item;
 use desk_lines::{DeskReader, LINE_ROOM};
-use mib_keys::sound;
+use folder_tables::{Refusal, sound_book};
 use mib_model::Input;
 use mib_tables::Book;
-use session::load;
 use std::alloc::{AllocError, Global};
 use tm_build::{Builder, OCTETS_MOST};
 use tm_io::{Shelf, Sink};
 
-// The tables of a folder, whether they are sound or not.
-fn load_book<T: Shelf>(alloc: Global, folder: &str, tables: &mut T) -> Result<Book, BuildCode>
-    ensures told { IfOk result (λ book. IfSome (T.holds tables.old) (λ files. database_in files folder.now ≡ Ok book)) }
-    ensures refused { IfErr result (λ code. IfSome (T.holds tables.old) (λ files. Refuses code (database_in files folder.now))) }
-    ensures ok { OnOk result (T.faults tables.new ≡ T.faults tables.old) }
-    ensures cause { IfErr result (λ code. HasTablesCause code (T.faults tables.old) (T.faults tables.new)) }
-{
-    Ok(load(alloc, folder, tables)?)
-}
-
-// A book, where it is sound.
-fn accept(alloc: Global, book: Book) -> Result<Book, BuildCode>
-    ensures told { IfOk result (λ kept. if_sound book ≡ Ok kept) }
-    ensures sound { IfOk result (λ kept. IsSound kept) }
-    ensures refused { IfErr result (λ code. Refuses code (if_sound book)) }
-    ensures cause { IfErr result (λ code. (n : ℕ) → HasTablesCause code n n) }
-{
-    sound(alloc, &book)?;
-    Ok(book)
-}
-
-// The sound tables of a folder. They are refused at the first fault: each table is read in its order, and then their rows are
-// tested.
-fn sound_book<T: Shelf>(alloc: Global, folder: &str, tables: &mut T) -> Result<Book, BuildCode>
+// The sound tables of a folder, or the code that their refusal is.
+fn tables_of<T: Shelf>(alloc: Global, folder: &str, tables: &mut T) -> Result<Book, BuildCode>
     ensures told { IfOk result (λ book. IfSome (T.holds tables.old) (λ files. sound_in files folder.now ≡ Ok book)) }
     ensures sound { IfOk result (λ book. IsSound book) }
     ensures refused { IfErr result (λ code. IfSome (T.holds tables.old) (λ files. Refuses code (sound_in files folder.now))) }
     ensures ok { OnOk result (T.faults tables.new ≡ T.faults tables.old) }
     ensures cause { IfErr result (λ code. HasTablesCause code (T.faults tables.old) (T.faults tables.new)) }
 {
-    let book = load_book(alloc, folder, tables)?;
-    accept(alloc, book)
+    match sound_book(alloc, folder, tables) {
+        Ok(book) => Ok(book),
+        Err(Refusal::Mib(fault)) => Err(BuildCode::BadMib(fault)),
+        Err(Refusal::Failed) => Err(BuildCode::TablesFault),
+        Err(Refusal::Memory) => Err(BuildCode::Want),
+    }
 }
 
 // Hands on what a run has written, unless the output has failed, and tells how the run ended.
@@ -150,7 +130,7 @@ fn build_by<T: Shelf, D: Shelf, O: Sink>(
         (shelf asks.old asks.new D.holds D.left D.faults D.missed)
         (sink out.old out.new O.written O.handed O.faults) }
 {
-    match sound_book(alloc, folder, tables) {
+    match tables_of(alloc, folder, tables) {
         Ok(book) => build_asks(alloc, &book, name, asks, out),
         Err(code) => code,
     }

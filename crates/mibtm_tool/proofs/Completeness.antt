@@ -11,9 +11,9 @@ use Rattle.mib_model.specs.Summaries.{summary}
 use Rattle.tm_io.specs.Causes.{HasRisen}
 use Rattle.session.specs.Sources.{Files}
 use Rattle.std.specs.Io.KnownBytes.{Appends}
-use Rattle.mibtm_tool.specs.Objects.{ShelfView, SinkView, Took}
+use Rattle.tool_objects.specs.Objects.{ShelfView, SinkView, Took}
 use Rattle.decode_session.specs.Run.{Ran, Says, EndsWhole, EndsCut, EndsAtLimit}
-use Rattle.mibtm_tool.specs.Sources.{sound_in}
+use Rattle.tool_objects.specs.Sources.{sound_in}
 use Rattle.mibtm_tool.specs.Statement.{Checked, Decoded, Drilled, Printed, RanBy}
 use Rattle.mibtm_tool.specs.Tool.{Completes, CompletesCheck, CompletesDrill, IsUnfailed, PrintsWhole, PrintsCut, PrintsMost}
 

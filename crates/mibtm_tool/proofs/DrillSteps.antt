@@ -16,7 +16,7 @@ use Rattle.packet_feed.proofs.Unique.{cut-unique}
 use Rattle.tm_drill.proofs.FeedFacts.{packets-cut}
 use Rattle.tm_drill.specs.declared.feed.TheConstants.{PACKETS}
 use Rattle.tm_drill.specs.Feed.{drill_packet, drill_packets, first_packets}
-use Rattle.mibtm_tool.specs.Sources.{free_of}
+use Rattle.tool_objects.specs.Sources.{free_of}
 
 -- tables that are accepted are those that were tested
 pub accepted-same : (db kept : Database) (flaw : Option MibFault) → free_of db flaw ≡ Ok kept → kept ≡ db

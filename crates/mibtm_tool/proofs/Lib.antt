@@ -1,4 +1,3 @@
-pub mod LoadSteps
 pub mod DecodeSteps
 pub mod StatementSteps
 pub mod Completeness

@@ -28,8 +28,8 @@ use Rattle.session.specs.Sources.{Files}
 use Rattle.mibtm_tool.proofs.Completeness.{held, not_failed, told}
 use Rattle.mibtm_tool.specs.Live.{AreFound, AreRead, AreSteady, CompletesLive, HoldFiles, LivesWhole, limit_of}
 use Rattle.mibtm_tool.specs.Statement.{Lived, LivedBy, Names, Shelves, Unopened, from, opened, written_to, OfFile}
-use Rattle.mibtm_tool.specs.Objects.{SinkView}
-use Rattle.mibtm_tool.specs.Sources.{sound_in}
+use Rattle.tool_objects.specs.Objects.{SinkView}
+use Rattle.tool_objects.specs.Sources.{sound_in}
 use Rattle.mibtm_tool.specs.Tool.{IsUnfailed}
 
 -- an object whose count didn't rise didn't fail

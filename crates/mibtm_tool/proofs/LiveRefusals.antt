@@ -10,8 +10,8 @@ use Rattle.mib_model.specs.RegisterHistories.{RegisterHistory}
 use Rattle.session.specs.Sources.{Files}
 use Rattle.mibtm_tool.proofs.Completeness.{not_failed, told}
 use Rattle.mibtm_tool.specs.Live.{RefusesLive}
-use Rattle.mibtm_tool.specs.Objects.{SinkView}
-use Rattle.mibtm_tool.specs.Sources.{sound_in}
+use Rattle.tool_objects.specs.Objects.{SinkView}
+use Rattle.tool_objects.specs.Sources.{sound_in}
 use Rattle.mibtm_tool.specs.Statement.{ByTables, LivedBy, Names, OfFile, Shelves, Unopened}
 use Rattle.mibtm_tool.specs.Tool.{Held, IsSteady}
 

@@ -12,8 +12,8 @@ use Rattle.mibtm_tool.proofs.DecodeSteps.{fed}
 use Rattle.mibtm_tool.proofs.StatementSteps.{each_told, missing_decoded}
 use Rattle.mibtm_tool.specs.Live.{LivedBeside, RanBeside}
 use Rattle.mibtm_tool.specs.Statement.{LivedBy, StoppedBeside, Unopened, Lived, names, shelves, from, written_to, Decoded, OfFile}
-use Rattle.mibtm_tool.specs.Objects.{ShelfView, SinkView, HasStood, IsUncalled, IsUnwritten, shelf}
-use Rattle.mibtm_tool.specs.Sources.{sound_in}
+use Rattle.tool_objects.specs.Objects.{ShelfView, SinkView, HasStood, IsUncalled, IsUnwritten, shelf}
+use Rattle.tool_objects.specs.Sources.{sound_in}
 
 -- what a shelf has left that was turned to a file is that file, where it tells it
 stood_at : (holds : Option Files) (name : List ℕ) (held : Bool) (start : Option (List ℕ)) → held ≡ true → IfSome holds (λ files. held ≡ is_some (files name))

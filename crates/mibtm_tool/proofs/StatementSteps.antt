@@ -6,14 +6,14 @@ use Rattle.session.specs.Sources.{Files}
 use Rattle.decode_session.specs.Causes.{HasFeedCause, HasOutCause}
 use Rattle.mib_model.specs.declared.code.Code.TheVariants as code
 use Rattle.mib_model.specs.declared.code.Input.TheVariants as input
-use Rattle.mibtm_tool.specs.Objects.{ShelfView, SinkView, HasStood, IsUncalled, IsUnwritten}
-use Rattle.mibtm_tool.specs.Codes.{code_of_refusal, code_of_run}
+use Rattle.tool_objects.specs.Objects.{ShelfView, SinkView, HasStood, IsUncalled, IsUnwritten}
+use Rattle.mibtm_tool.specs.Codes.{code_of_run}
 use Rattle.decode_session.specs.Run.{EndsBy, EndsUnread}
-use Rattle.mibtm_tool.specs.Refusals.{Refuses, HasRefusalCause}
-use Rattle.mibtm_tool.specs.Sources.{sound_in}
+use Rattle.folder_tables.specs.Refusals.{HasRefusalCause, Refuses, code_of_refusal}
+use Rattle.tool_objects.specs.Sources.{sound_in}
 use Rattle.mibtm_tool.specs.Statement.{Decoded, OfFile, RanBy, MissedFeed, Printed}
-use Rattle.mibtm_tool.specs.declared.load.Refusal.{Refusal}
-use Rattle.mibtm_tool.specs.declared.load.Refusal.TheVariants as refusal
+use Rattle.folder_tables.specs.declared.folder.Refusal.{Refusal}
+use Rattle.folder_tables.specs.declared.folder.Refusal.TheVariants as refusal
 use Rattle.decode_session.specs.declared.ending.Stop.TheVariants as stop
 use Rattle.decode_session.specs.declared.ending.RunEnd.{RunEnd}
 use Rattle.decode_session.specs.declared.ending.RunEnd.TheVariants as end

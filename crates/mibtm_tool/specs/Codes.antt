@@ -2,20 +2,12 @@
 use Rattle.std.specs.Prelude.{Result, Ok, Err}
 use Rattle.mib_model.specs.declared.code.Code.{Code}
 use Rattle.mib_model.specs.declared.code.Code.TheVariants as code
-use Rattle.mibtm_tool.specs.declared.load.Refusal.{Refusal}
-use Rattle.mibtm_tool.specs.declared.load.Refusal.TheVariants as refusal
 use Rattle.decode_session.specs.declared.ending.Stop.{Stop}
 use Rattle.decode_session.specs.declared.ending.Stop.TheVariants as stop
 use Rattle.decode_session.specs.declared.ending.RunEnd.{RunEnd}
 use Rattle.decode_session.specs.declared.ending.RunFault.{RunFault}
 use Rattle.decode_session.specs.declared.ending.RunFault.TheVariants as fault
 use Rattle.live_session.specs.Codes.{code_of_end}
-
--- the code of a refusal
-abbrev pub code_of_refusal : Refusal → Code
-code_of_refusal (refusal.Mib fault) = code.BadMib fault
-code_of_refusal refusal.Failed = code.TablesFault
-code_of_refusal refusal.Memory = code.Want
 
 -- the code of a stop
 abbrev pub code_of_stop : Stop → Code

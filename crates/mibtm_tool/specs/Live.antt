@@ -19,8 +19,8 @@ use Rattle.mib_model.specs.Replies.{desk_text}
 use Rattle.mib_model.specs.Script as Script
 use Rattle.mib_model.specs.Script.{reaches_limit}
 use Rattle.mib_model.specs.Texts.{rest_text, rest_unless}
-use Rattle.mibtm_tool.specs.Objects.{ShelfView, SinkView, IsUnwritten, Took}
-use Rattle.mibtm_tool.specs.Sources.{sound_in}
+use Rattle.tool_objects.specs.Objects.{ShelfView, SinkView, IsUnwritten, Took}
+use Rattle.tool_objects.specs.Sources.{sound_in}
 use Rattle.mibtm_tool.specs.Statement.{Names, Shelves, StoodAt, HasTurned, StoppedBeside, from, opened, read_of, written_to}
 use Rattle.mibtm_tool.specs.Tool.{Held, IsSteady, IsSteadySink}
 

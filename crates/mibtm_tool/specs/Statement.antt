@@ -15,9 +15,9 @@ use Rattle.mib_model.specs.declared.meaning.MadeFor as MadeFor
 use Rattle.mib_model.specs.declared.meaning.Rows as Rows
 use Rattle.tm_io.specs.Causes.{HasRisen}
 use Rattle.mibtm_tool.specs.Drill.{drill_summary}
-use Rattle.mibtm_tool.specs.Objects.{ShelfView, SinkView, HasStood, HasFailed, IsUncalled, IsUnwritten, HasBroken, Took, IsHandedOn, TookNothing}
+use Rattle.tool_objects.specs.Objects.{ShelfView, SinkView, HasStood, HasFailed, IsUncalled, IsUnwritten, HasBroken, Took, IsHandedOn, TookNothing}
 use Rattle.session.specs.Sources.{Files}
-use Rattle.mibtm_tool.specs.Sources.{sound_in}
+use Rattle.tool_objects.specs.Sources.{sound_in}
 use Rattle.decode_session.specs.Run.{Ran, Says, EndsWhole, EndsCut, EndsAtLimit, EndsUnread, EndsUnwritten}
 
 -- The objects of a call are views of what they show before and now. A further command has its equations below, one for each status.

@@ -10,7 +10,7 @@ use Rattle.mib_model.specs.Summaries.{summary}
 use Rattle.mib_model.specs.Texts.{cut_text}
 use Rattle.session.specs.Sources.{Files}
 use Rattle.mibtm_tool.specs.Drill.{drill_summary}
-use Rattle.mibtm_tool.specs.Objects.{ShelfView, SinkView, Took}
+use Rattle.tool_objects.specs.Objects.{ShelfView, SinkView, Took}
 use Rattle.decode_session.specs.Run.{Writes, most_packets}
 
 -- the feed is cut into packets, fewer than the most, and nothing else; they were printed

@@ -4,14 +4,14 @@ ghost use Rattle.std.specs.Io.KnownBytes.{Appends};
 ghost use Rattle.mib_model.specs.Summaries.{summary};
 ghost use Rattle.decode_session.specs.Causes.{HasStopCause};
 ghost use Rattle.tm_io.specs.Octets.{AppendsPrefix};
-ghost use Rattle.mibtm_tool.specs.Objects.{shelf, sink};
+ghost use Rattle.tool_objects.specs.Objects.{shelf, sink};
 ghost use Rattle.mibtm_tool.specs.Statement.{Checked};
 
 use crate::codes::stop_code;
-use crate::load::sound_book;
 use crate::print::print;
 use book_summary::summary_of;
 use decode_session::Stop;
+use folder_tables::sound_book;
 use mib_model::Code;
 use mib_tables::Book;
 use std::alloc::Global;

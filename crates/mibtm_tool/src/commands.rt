@@ -7,8 +7,8 @@ ghost use Rattle.mib_model.specs.RegisterHistories.{RegisterHistory};
 ghost use Rattle.mibtm_tool.specs.Live.{AreFound, AreSteady, CompletesLive, HoldFiles, RefusesLive, ScriptDecides};
 ghost use Rattle.mib_model.specs.declared.fault.MibFault.{MibFault};
 ghost use Rattle.mibtm_tool.specs.Statement.{LivedBy, Names, Shelves, TellsItsEnd, names, shelves, Checked, Decoded, Drilled};
-ghost use Rattle.mibtm_tool.specs.Objects.{ShelfView, SinkView, shelf, sink};
-ghost use Rattle.mibtm_tool.specs.Sources.{sound_in};
+ghost use Rattle.tool_objects.specs.Objects.{ShelfView, SinkView, shelf, sink};
+ghost use Rattle.tool_objects.specs.Sources.{sound_in};
 ghost use Rattle.mibtm_tool.specs.Tool.{Completes, CompletesCheck, CompletesDrill, Held, IsSteady, IsSteadySink};
 ghost use Rattle.session.specs.Sources.{Files};
 

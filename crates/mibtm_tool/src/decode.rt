@@ -1,11 +1,11 @@
 // The command `decode`: tables, then a feed.
 ghost use Rattle.std.specs.Prelude.{◌≡◌};
-ghost use Rattle.mibtm_tool.specs.Objects.{shelf, sink};
+ghost use Rattle.tool_objects.specs.Objects.{shelf, sink};
 ghost use Rattle.mibtm_tool.specs.Statement.{Decoded};
 
 use crate::codes::run_code;
-use crate::load::folder_edition;
 use decode_session::decode_run;
+use folder_edition::folder_edition;
 use mib_model::{Code, Input};
 use std::alloc::Global;
 use std::thread::Threads;

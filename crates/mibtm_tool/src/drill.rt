@@ -5,14 +5,14 @@ ghost use Rattle.tm_drill.specs.Counts.{counts_of};
 ghost use Rattle.tm_drill.specs.Feed.{drill_packets};
 ghost use Rattle.tm_drill.specs.Tables.{drill_database};
 ghost use Rattle.mibtm_tool.specs.Drill.{drill_summary};
-ghost use Rattle.mibtm_tool.specs.Objects.{sink};
+ghost use Rattle.tool_objects.specs.Objects.{sink};
 ghost use Rattle.mibtm_tool.specs.Statement.{Drilled};
 
-use crate::load::book_edition;
 use crate::print::print;
 use decode_session::decode_run;
 use edition::Edition;
 use edition_plans::Plans;
+use folder_edition::book_edition;
 use mib_model::Code;
 use std::alloc::{AllocError, Global};
 use std::thread::Threads;

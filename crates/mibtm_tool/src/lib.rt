@@ -4,7 +4,7 @@
 //! decodes a generated feed, and prints counts.
 //!
 //! The call `tool` promises what is printed for these tables and this feed, and with which status it ends. It stands on
-//! `session` and `mib_keys` for sound tables, on `book_summary` for the summary, on `decode_session` for runs, on
+//! `folder_tables` and `folder_edition` for sound tables, on `book_summary` for the summary, on `decode_session` for runs, on
 //! `live_session` for live ones, on `tm_drill` for a generated one, and on `mib_model` for all definitions.
 #![tactic(auto)]
 
@@ -14,7 +14,6 @@ mod commands;
 mod decode;
 mod drill;
 mod live;
-mod load;
 mod print;
 
 pub use commands::{

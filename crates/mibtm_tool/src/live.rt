@@ -3,20 +3,18 @@ ghost use Rattle.std.specs.Prelude.{◌≡◌, option_map};
 ghost use Rattle.edition_register.specs.Seats.{history_of};
 ghost use Rattle.mibtm_tool.specs.Live.{LivedBeside};
 ghost use Rattle.mibtm_tool.specs.Statement.{LivedBy, TellsItsEnd, names, shelves};
-ghost use Rattle.mibtm_tool.specs.Objects.{shelf, sink};
+ghost use Rattle.tool_objects.specs.Objects.{shelf, sink};
 
 use crate::commands::Status;
-use crate::load::{folder_edition, let_go};
 use edition::Edition;
+use folder_edition::{folder_edition, let_go};
 use live_session::{Lived, live_run};
 use mib_model::{Code, Input};
+use packet_run::MOST_WORKERS;
 use std::alloc::Global;
 use std::sync::Wait;
 use std::thread::Threads;
 use tm_io::{Gate, Shelf, Sink};
-
-// The most workers of a run.
-const MOST_WORKERS: u8 = 16;
 
 // The run from an edition on, where the feed is turned to.
 fn live_beside<

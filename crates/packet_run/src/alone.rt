@@ -72,8 +72,7 @@ pub(crate) fn do_alone<P: Plans + Rows + Drop, O: Sink, W: Watch, R: Wait>(
     requires same { AreSame P.Rows.tables P.Structures.tables }
     requires start { MatchOption read.start ⊤ (λ start. is_made_for (P.Rows.tables (arc_value start.handle)) start.board ≡ true) }
     requires next { next_of pipeline.old.window ≡ pipeline.old.done + 1 }
-    requires all { pipeline.old.done ≡ pipeline.old.read }
-    requires few { pipeline.old.read < most_packets }
+    requires counts { (pipeline.old.done ≡ pipeline.old.read) × (pipeline.old.read < most_packets) }
     ensures passes { (pipeline.new.first ≡ pipeline.old.first) × (pipeline.new.second ≡ pipeline.old.second) }
     ensures read { pipeline.new.read ≡ pipeline.old.read + 1 }
     ensures done { OnOk result ((pipeline.new.done ≡ pipeline.new.read) × (next_of pipeline.new.window ≡ pipeline.new.done + 1)) }

@@ -13,7 +13,7 @@ use std::sync::Wait;
 use std::thread;
 use std::thread::Threads;
 use tm_io::Gate;
-use work_queue::{Pass, Queue};
+use work_queue::Pass;
 
 // All workers.
 fn serve_all<P: Plans + Drop + Send + Sync, G: Gate + Sync, R: Threads + Wait + Sync>(
@@ -55,24 +55,23 @@ pub(crate) fn beside<
 
 /// Joins the passes of all workers into the caller's two.
 pub(crate) fn join_all<P: Plans + Drop>(
-    jobs: &Queue<Task<P>>,
-    results: &Queue<Task<P>>,
+    crew: &Crew<P>,
     first: &mut Pass<Task<P>>,
     second: &mut Pass<Task<P>>,
     passes: &mut Vec<Pass<Task<P>>>,
 )
-    requires own { IsOf jobs.now first.old × IsOf results.now second.old }
-    requires ready { Ready jobs.now results.now passes.old.items }
+    requires own { IsOf crew.now.jobs first.old × IsOf crew.now.results second.old }
+    requires ready { Ready crew.now.jobs crew.now.results passes.old.items }
     requires some { 0 < vec_len passes.old }
     ensures jobs { TellsBalance (joined_jobs (account_of first.old) passes.old.items) }
     ensures results { TellsBalance (joined_results (account_of second.old) passes.old.items) }
 {
     passes.reverse();
     while let Some(taken) = passes.pop() {
-        jobs.join(first, taken);
+        crew.jobs.join(first, taken);
         let Some(given) = passes.pop() else {
             unreachable!();
         };
-        results.join(second, given);
+        crew.results.join(second, given);
     }
 }

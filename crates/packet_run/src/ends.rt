@@ -143,18 +143,13 @@ fn put_end<P: Plans + Drop, R: Wait>(rt: &R, crew: &Crew<P>, pipeline: &mut Pipe
     unreachable!()
 }
 
-/// Ends so many workers.
-pub(crate) fn end_all<P: Plans + Drop, R: Wait>(
-    rt: &R,
-    crew: &Crew<P>,
-    pipeline: &mut Pipeline<P>,
-    workers: u8,
-)
+/// Ends all workers.
+pub(crate) fn end_all<P: Plans + Drop, R: Wait>(rt: &R, crew: &Crew<P>, pipeline: &mut Pipeline<P>)
     requires first { IsOf crew.now.jobs pipeline.old.first }
     ensures first { IsOf crew.now.jobs pipeline.new.first }
     ensures puts { PutsEnds pipeline.old pipeline.new }
 {
-    for _ in 0..workers {
+    for _ in 0..pipeline.workers {
         put_end(rt, crew, pipeline);
     }
 }

@@ -15,3 +15,19 @@ pub struct InUse<P: Structures + Drop> {
     pub board: Board,
     ghost made: { board.names ≡ plan_names (param_slices (P.tables (arc_value handle))) },
 }
+
+impl<P: Structures + Drop> InUse<P> {
+    /// Edition 1 is in use, with this handle and board.
+    pub(crate) fn at_first(handle: Arc<P>, board: Board) -> InUse<P>
+        requires made { board.names ≡ plan_names (param_slices (P.tables (arc_value handle))) }
+        ensures edition { result.edition ≡ 1 }
+        ensures handle { result.handle ≡ handle }
+        ensures board { result.board ≡ board }
+    {
+        InUse {
+            edition: 1,
+            handle,
+            board,
+        }
+    }
+}

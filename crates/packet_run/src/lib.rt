@@ -25,6 +25,6 @@ mod until;
 mod watch;
 mod working;
 
-pub use stock::Stock;
+pub use stock::{MOST_WORKERS, Stock};
 pub use top::run_packets;
 pub use watch::{NoWatch, Watch};

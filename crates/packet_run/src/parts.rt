@@ -2,6 +2,9 @@ use crate::job::Task;
 use crate::working::Decoding;
 use commit_order::Window;
 use decode_session::Room;
+use edition_register::Register;
+use fold_state::Board;
+use mib_model::Rows;
 use record_text::Lines;
 use struct_plan::Structures;
 use work_queue::{Pass, Queue};
@@ -14,8 +17,17 @@ pub struct Crew<P: Structures + Drop> {
     pub decoding: Decoding<P>,
 }
 
+/// What the intake of a run goes by: the runtime, what it shares with its workers, the gate that they call, and the register.
+#[derive(Drop)]
+pub(crate) struct Intake<'r, 'c, 'g, 'e, P: Structures + Rows + Drop, R, G> {
+    pub rt: &'r R,
+    pub crew: &'c Crew<P>,
+    pub gate: &'g G,
+    pub register: &'e Register<P, Board>,
+}
+
 /// The caller's side of a run: its passes of both queues, the results that wait for their turn, the rooms that are free, the page
-/// for records, and how many packets were committed and read.
+/// for records, how many packets were committed and read, and how many workers there are to end.
 #[derive(Drop)]
 pub struct Pipeline<P: Structures + Drop> {
     pub first: Pass<Task<P>>,
@@ -25,6 +37,7 @@ pub struct Pipeline<P: Structures + Drop> {
     pub lines: Lines,
     pub done: u64,
     pub read: u64,
+    pub workers: u8,
     // How often the caller looks yet whether a worker has begun, before it works jobs itself.
     pub patience: u32,
 }

@@ -14,6 +14,7 @@ ghost use Rattle.packet_run.specs.declared.job.Task.TheVariants as task;
 ghost use Rattle.packet_run.specs.Told.{From};
 ghost use Rattle.packet_run.specs.Piping.{GoesOn, Keeps, Piping, StaysInUse, Stopped, Takes, put_by};
 ghost use Rattle.packet_run.specs.Reading.{stamped_as};
+ghost use Rattle.packet_run.specs.Stocks.{HasPasses, IsFirst, IsUnused};
 ghost use Rattle.packet_run.specs.Turning.{AreSame, ComesBehind};
 ghost use Rattle.tm_io.specs.Causes.{HasCause};
 ghost use Rattle.turn_cell.specs.Seats.{own_moves, seen_by};
@@ -23,14 +24,14 @@ use crate::alone::do_alone;
 use crate::commit::commit_to;
 use crate::in_use::InUse;
 use crate::job::{Job, Task};
-use crate::parts::{Crew, Pipeline};
+use crate::parts::{Crew, Intake, Pipeline};
 use crate::pipeline::{keep_room, offer};
 use crate::reading::{Stamped, read_stamped};
 use crate::until::Until;
 use crate::watch::Watch;
 use decode_session::{Cell, Filled, MOST_PACKETS, Unread};
 use edition_plans::Plans;
-use edition_register::{Editions, Register, Start};
+use edition_register::{Editions, Start};
 use fold_state::Board;
 use mib_model::Rows;
 use packet_feed::Feed;
@@ -193,10 +194,8 @@ fn goes_to_worker<S: Source>(number: u64, last_large: u64, is_idle: bool, feed: 
 }
 
 /// Reads the packets of a feed up to its end or the limit. Each is stamped as soon as it is read, and goes its way to its record.
-pub(crate) fn run_feed<P: Plans + Rows + Drop, S: Source, O: Sink, W: Watch, R: Wait>(
-    rt: &R,
-    crew: &Crew<P>,
-    register: &Register<P, Board>,
+pub(crate) fn run_feed<P: Plans + Rows + Drop, S: Source, O: Sink, W: Watch, R: Wait, G>(
+    intake: &Intake<P, R, G>,
     seat: &mut Seat<Editions<P, Board>>,
     pipeline: &mut Pipeline<P>,
     in_use: &mut InUse<P>,
@@ -205,23 +204,26 @@ pub(crate) fn run_feed<P: Plans + Rows + Drop, S: Source, O: Sink, W: Watch, R: 
     watch: &mut W,
 ) -> Until
     requires same { AreSame P.Rows.tables P.Structures.tables }
-    requires seat { IsSeat 0 register.now seat.old × (own_moves seat.old ≡ []) }
-    requires passes { IsOf crew.now.jobs pipeline.old.first × IsOf crew.now.results pipeline.old.second }
-    requires next { next_of pipeline.old.window ≡ pipeline.old.done + 1 }
-    requires none { (pipeline.old.done ≡ 0) × (pipeline.old.read ≡ 0) }
-    requires in_use { (in_use.old.edition ≡ 1) × (P.Structures.tables (arc_value in_use.old.handle) ≡ first_of register.now) }
-    ensures seat { IsSeat 0 register.now seat.new × StartsWith (seen_by seat.new) (seen_by seat.old) }
-    ensures passes { IsOf crew.now.jobs pipeline.new.first × IsOf crew.now.results pipeline.new.second }
-    ensures next { result ≢ Until.OutFault → next_of pipeline.new.window ≡ pipeline.new.done + 1 }
-    ensures below { pipeline.new.done ≤ pipeline.new.read }
+    requires seat { IsSeat 0 intake.now.register.now seat.old × (own_moves seat.old ≡ []) }
+    requires passes { HasPasses intake.now.crew.now pipeline.old }
+    requires unused { IsUnused pipeline.old }
+    requires in_use { IsFirst P.Structures.tables (first_of intake.now.register.now) in_use.old }
+    ensures seat { IsSeat 0 intake.now.register.now seat.new × StartsWith (seen_by seat.new) (seen_by seat.old) }
+    ensures passes { HasPasses intake.now.crew.now pipeline.new }
+    ensures counts { (result ≢ Until.OutFault → next_of pipeline.new.window ≡ pipeline.new.done + 1) × (pipeline.new.done ≤ pipeline.new.read) }
     ensures keeps { Keeps P.Structures.tables pipeline.old pipeline.new }
-    ensures fed { (from : From W) → from.first ≡ first_of register.now → Piping P.Structures.tables W.stands from [] pipeline.old in_use.old watch.old (O.written out.old)
+    ensures fed { (from : From W) → from.first ≡ first_of intake.now.register.now → Piping P.Structures.tables W.stands from [] pipeline.old in_use.old watch.old (O.written out.old)
         → Fed P.Structures.tables W.stands result from (own_moves seat.new) pipeline.new in_use.new watch.new
         (S.left (source_of feed.old)) (S.left (source_of feed.new)) (O.written out.new) }
-    ensures feed { HasUntilCause result (S.faults (source_of feed.old)) (S.faults (source_of feed.new)) }
-    ensures out { HasWriteCause result (O.faults out.old) (O.faults out.new) }
+    ensures causes { HasUntilCause result (S.faults (source_of feed.old)) (S.faults (source_of feed.new)) × HasWriteCause result (O.faults out.old) (O.faults out.new) }
     ensures kept { SourceStays S.holds S.missed S.borrow (source_of feed.old) (source_of feed.new) }
 {
+    let Intake {
+        rt,
+        crew,
+        register,
+        ..
+    } = *intake;
     let mut last_large = 0;
     for _ in rt.forever() {
         if pipeline.read >= MOST_PACKETS {

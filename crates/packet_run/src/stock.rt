@@ -15,7 +15,7 @@ use struct_plan::Structures;
 use work_queue::{Pass, Queue};
 
 /// The most workers of a run.
-const MOST_WORKERS: u8 = 16;
+pub const MOST_WORKERS: u8 = 16;
 
 // How often a caller looks whether a worker has begun: for some seconds.
 const PATIENCE: u32 = 1_000_000;
@@ -58,6 +58,7 @@ impl<P: Plans + Drop> Stock<P> {
                 lines: Lines::new(alloc)?,
                 done: 0,
                 read: 0,
+                workers: 0,
                 patience: PATIENCE,
             },
             passes: Vec::with_capacity(alloc, 2 * usize::from(MOST_WORKERS))?,
@@ -72,6 +73,7 @@ impl<P: Plans + Drop> Stock<P> {
         ensures dealt { IsDealt self.new workers }
         ensures home { vec_len self.new.pipeline.rooms ≡ vec_len self.old.pipeline.rooms }
     {
+        self.pipeline.workers = workers;
         for _worker in 0..workers {
             let taken = self.crew.jobs.split(&mut self.pipeline.first);
             self.passes.push_reserved(taken);

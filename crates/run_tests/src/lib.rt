@@ -1,4 +1,4 @@
-//! Tests of runs: the commands over objects in memory, decoding by several workers, queues, pools, pieces and turns, the register under two threads, and a desk's lines.
+//! Tests of runs: the commands over objects in memory, with any number of workers, and the pool that serves them.
 //!
 //! It has tests alone, and nothing rests on it. In a crate of their own they are proved without the functions that they try.
 #![tactic(auto)]
@@ -8,11 +8,7 @@ mod checks;
 #[cfg(test)]
 mod decodes;
 #[cfg(test)]
-mod desks;
-#[cfg(test)]
 mod drill_calls;
-#[cfg(test)]
-mod drills;
 #[cfg(test)]
 mod faults;
 #[cfg(test)]
@@ -22,22 +18,6 @@ mod gates;
 #[cfg(test)]
 mod lives;
 #[cfg(test)]
-mod pieces;
-#[cfg(test)]
 mod pools;
 #[cfg(test)]
-mod queues;
-#[cfg(test)]
-mod refusals;
-#[cfg(test)]
-mod registers;
-#[cfg(test)]
-mod runs;
-#[cfg(test)]
-mod threads;
-#[cfg(test)]
-mod turns;
-#[cfg(test)]
 mod waits;
-#[cfg(test)]
-mod windows;

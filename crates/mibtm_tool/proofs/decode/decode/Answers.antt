@@ -1,5 +1,5 @@
 use Rattle.std.proofs.Common.{refl}
-use Rattle.mibtm_tool.specs.Objects.{shelf, sink}
+use Rattle.tool_objects.specs.Objects.{shelf, sink}
 use Rattle.decode_session.specs.Run.{Ran, EndsBy}
 use Rattle.mibtm_tool.proofs.DecodeSteps.{fed}
 use Rattle.mibtm_tool.proofs.StatementSteps.{missing_decoded, ran_decoded, refused_decoded}

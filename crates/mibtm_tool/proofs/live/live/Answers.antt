@@ -1,7 +1,7 @@
 use Rattle.std.proofs.Common.{option_map, refl}
 use Rattle.edition_register.specs.Seats.{history_of}
 use Rattle.mibtm_tool.proofs.LiveSteps.{lived, missing_lived}
-use Rattle.mibtm_tool.specs.Objects.{shelf, sink}
+use Rattle.tool_objects.specs.Objects.{shelf, sink}
 use Rattle.mibtm_tool.proofs.live.live.Goals as goal
 
 pub returns-in-Ok-true-clause-lives : goal.returns-in-Ok-true-clause-lives

@@ -12,7 +12,7 @@ returns-in_default-clause-keeps g c = keeps_less g.P.Structures.tables c.args.pi
 pub returns-in_default-clause-stopped : goal.returns-in_default-clause-stopped
 returns-in_default-clause-stopped g c from stamped shown comes number pp =
     stopped_alone g.P.Structures.tables g.W.Watch.stands from stamped (stamped_as c.args.read shown) c.args.pipeline.now _ c.args.in_use.now c.args.watch.now c.print_alone-printed.new.watch _ _
-    (keeps_less g.P.Structures.tables c.args.pipeline.now _ refl refl (less_same c.args.pipeline.now.window)) refl c.requires.all refl refl number c.in_default.ensures.untold (c.in_default.ensures.part shown comes) pp
+    (keeps_less g.P.Structures.tables c.args.pipeline.now _ refl refl (less_same c.args.pipeline.now.window)) refl c.requires.counts.0 refl refl number c.in_default.ensures.untold (c.in_default.ensures.part shown comes) pp
 
 pub returns-clause-keeps : goal.returns-clause-keeps
 returns-clause-keeps g c = keeps_less g.P.Structures.tables c.args.pipeline.now _ c.pass_by.ensures.first c.pass_by.ensures.second (less_advanced _ _ c.pass_by.ensures.advances)
@@ -21,4 +21,4 @@ pub returns-clause-piping : goal.returns-clause-piping
 returns-clause-piping g c from stamped shown comes number pp =
     piping_alone g.P.Structures.tables g.W.Watch.stands from stamped (stamped_as c.args.read shown) c.args.pipeline.now _ c.args.in_use.now c.print_alone-printed.new.in_use c.args.watch.now c.print_alone-printed.new.watch _ _
     (keeps_less g.P.Structures.tables c.args.pipeline.now _ c.pass_by.ensures.first c.pass_by.ensures.second (less_advanced _ _ c.pass_by.ensures.advances))
-    (ap (λ (p : Pass _). (account_of p).put) c.pass_by.ensures.first) c.requires.all (ap (λ (n : ℕ). n + 1) c.pass_by.ensures.counts) c.pass_by.ensures.read number (c.in-Ok.ensures.printed shown comes) pp
+    (ap (λ (p : Pass _). (account_of p).put) c.pass_by.ensures.first) c.requires.counts.0 (ap (λ (n : ℕ). n + 1) c.pass_by.ensures.counts) c.pass_by.ensures.read number (c.in-Ok.ensures.printed shown comes) pp

@@ -15,7 +15,7 @@ loop-taken-preserved g c =
     ∙ ap (λ l. c.in-Some.taken ∷ l) (ap reverse c.in-Some-pop.ensures.items ∙ reverse-append c.pop-in-Some.new.self.items (c.in-Some-pop.given ∷ [])) in
     record {
       own = (c.join.ensures.pass, c.join-in-Some.ensures.pass);
-      ready = (subst (λ (l : List (Pass _)). Ready c.args.jobs.now c.args.results.now l) rev c.loop-taken.invariant.ready).2;
+      ready = (subst (λ (l : List (Pass _)). Ready c.args.crew.now.jobs c.args.crew.now.results l) rev c.loop-taken.invariant.ready).2;
       jobs = ap (λ (a : Account _). joined_jobs a rest) c.join.ensures.account ∙ sym (ap (joined_jobs (account_of c.loop-taken.first)) rev) ∙ c.loop-taken.invariant.jobs;
       results = ap (λ (a : Account _). joined_results a rest) c.join-in-Some.ensures.account ∙ sym (ap (joined_results (account_of c.loop-taken.second)) rev) ∙ c.loop-taken.invariant.results;
       told = inr (c.join.ensures.balance, c.join-in-Some.ensures.balance);

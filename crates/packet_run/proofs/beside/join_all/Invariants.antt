@@ -6,8 +6,8 @@ use Rattle.packet_run.proofs.beside.join_all.Given as goal
 
 abbrev pub invariant-loop-taken : goal.invariant-loop-taken
 invariant-loop-taken g l = record {
-  own : IsOf l.jobs l.first × IsOf l.results l.second;
-  ready : Ready l.jobs l.results (reverse l.passes.items);
+  own : IsOf l.crew.jobs l.first × IsOf l.crew.results l.second;
+  ready : Ready l.crew.jobs l.crew.results (reverse l.passes.items);
   jobs : joined_jobs (account_of l.first) (reverse l.passes.items) ≡ joined_jobs (account_of l.initial.first) (reverse l.initial.passes.items);
   results : joined_results (account_of l.second) (reverse l.passes.items) ≡ joined_results (account_of l.initial.second) (reverse l.initial.passes.items);
   told : (0 < length l.passes.items) ⊎ (TellsBalance (account_of l.first) × TellsBalance (account_of l.second));

@@ -1,4 +1,4 @@
-use Rattle.std.proofs.Common.{◌<◌, [], length, refl, sym, ap, ◌∙◌, subst, append-nil, arith}
+use Rattle.std.proofs.Common.{◌<◌, ◌+◌, ℕ, [], length, refl, sym, ap, ◌∙◌, subst, append-nil, arith}
 use Rattle.edition_register.specs.Seats.{first_of}
 use Rattle.edition_register.specs.Shown.{last_stamped}
 use Rattle.mib_model.specs.RegisterHistories.{RegisterHistory}
@@ -13,18 +13,18 @@ use Rattle.packet_run.proofs.run.run_feed.Goals as goal
 
 pub loop-init : goal.loop-init
 loop-init g c =
-    let n = c.requires.none in let own = c.requires.seat.1 in record {
+    let u = c.requires.unused in let d = u.done in let n = u.read in let own = c.requires.seat.1 in record {
       seat = c.requires.seat.0;
       seen = ([], sym (append-nil (seen_by c.args.seat.now)));
       passes = c.requires.passes;
-      next = c.requires.next;
-      below = omega (arith, n.0, n.1);
-      ahead = omega (arith, n.1);
-      limit = omega (arith, n.1);
-      count = ap (λ (ms : RegisterHistory). length ms) own ∙ sym n.1;
+      next = u.next ∙ ap (λ (k : ℕ). k + 1) (sym d);
+      below = omega (arith, n, d);
+      ahead = omega (arith, n);
+      limit = omega (arith, n);
+      count = ap (λ (ms : RegisterHistory). length ms) own ∙ sym n;
       keeps = keeps_refl g.P.Structures.tables c.args.pipeline.now;
       feeding = λ from is pp.
-          feeding_start g.P.Structures.tables g.P.Rows.tables g.W.Watch.stands from c.args.pipeline.now c.args.in_use.now c.args.watch.now _ _ (own_moves c.args.seat.now) own c.requires.in_use.0 (c.requires.in_use.1 ∙ sym is) pp;
+          feeding_start g.P.Structures.tables g.P.Rows.tables g.W.Watch.stands from c.args.pipeline.now c.args.in_use.now c.args.watch.now _ _ (own_moves c.args.seat.now) own c.requires.in_use.edition (c.requires.in_use.shown ∙ sym is) pp;
       feed = refl;
       out = refl;
       stays = (refl, refl, refl);
@@ -100,7 +100,7 @@ loop-preserved g c =
           let f = i.feeding from e pp in
           let on = feeding_on g.P.Structures.tables g.P.Rows.tables g.W.Watch.stands from (own_moves c.loop.seat) c.loop.pipeline _ c.loop.in_use c.make_way.new.in_use c.loop.watch c.make_way.new.watch _ _ _ _ f w.in_use
           (piping_keeps g.P.Structures.tables g.W.Watch.stands from f.stamped q _ c.make_way.new.in_use c.make_way.new.watch _ (keeps_less g.P.Structures.tables q _ refl refl (less_same q.window)) refl refl refl (ok.piping from f.stamped f.piping)) in
-          let s = stamped_from g.P.Rows.tables (first_of c.args.register.now) from.first read (own_moves c.loop.seat) (own_moves c.read_stamped.new.seat) _ _ e is in
+          let s = stamped_from g.P.Rows.tables (first_of c.args.intake.now.register.now) from.first read (own_moves c.loop.seat) (own_moves c.read_stamped.new.seat) _ _ e is in
           let many = on.piping.read in let k = is.number in
           feeding_more g.P.Structures.tables g.P.Rows.tables g.W.Watch.stands from (own_moves c.loop.seat) (own_moves c.read_stamped.new.seat) _ c.take_packet.new.pipeline c.make_way.new.in_use c.take_packet.new.in_use c.make_way.new.watch c.take_packet.new.watch _ _ _ _ _ read s on
           (done.piping from on.stamped s.shown (comes_behind g.P.Structures.tables g.P.Rows.tables (last_stamped (1, from.first) (own_moves c.loop.seat)) c.make_way.new.in_use read (own_moves c.loop.seat) (own_moves c.read_stamped.new.seat) _ _ on.last s) (omega (arith, many, k, n, r)) on.piping);
@@ -124,7 +124,7 @@ returns-in_default-take_packet-clause-fed g c from e pp =
     let f = i.feeding from e pp in
     let on = feeding_on g.P.Structures.tables g.P.Rows.tables g.W.Watch.stands from (own_moves c.loop.seat) c.loop.pipeline _ c.loop.in_use c.make_way.new.in_use c.loop.watch c.make_way.new.watch _ _ _ _ f w.in_use
     (piping_keeps g.P.Structures.tables g.W.Watch.stands from f.stamped q _ c.make_way.new.in_use c.make_way.new.watch _ (keeps_less g.P.Structures.tables q _ refl refl (less_same q.window)) refl refl refl (ok.piping from f.stamped f.piping)) in
-    let s = stamped_from g.P.Rows.tables (first_of c.args.register.now) from.first read (own_moves c.loop.seat) (own_moves c.read_stamped.new.seat) _ _ e is in
+    let s = stamped_from g.P.Rows.tables (first_of c.args.intake.now.register.now) from.first read (own_moves c.loop.seat) (own_moves c.read_stamped.new.seat) _ _ e is in
     let many = on.piping.read in let k = is.number in
     fed_stopped g.P.Structures.tables g.P.Rows.tables g.W.Watch.stands from (own_moves c.read_stamped.new.seat) _ _ c.take_packet.new.pipeline c.take_packet.new.in_use c.take_packet.new.watch _ _ _
     (reads-more (own_moves c.loop.seat) (own_moves c.read_stamped.new.seat) on.stamped on.packets (stamped_as read s.shown) _ _ _ s.own s.is_packet s.taken on.reads) (omega (arith, more, n, t)) (omega (arith, p, m, room))
