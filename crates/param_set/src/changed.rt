@@ -4,9 +4,8 @@ ghost use Rattle.std.specs.List.{list_any};
 ghost use Rattle.mib_keys.specs.Kept.{AreSameIn};
 ghost use Rattle.param_set.specs.Changed.{AreChanged, AreCurvesKept, AreRowsKept, Notes, has_name, takes_any};
 
-use mib_model::{
-    CafRow, CapRow, CurRow, LgfRow, McfRow, Name, OcfRow, OcpRow, PcfRow, TxfRow, TxpRow,
-};
+use mib_keys::Named;
+use mib_model::{CurRow, Name};
 use mib_tables::{Book, TableSet};
 use param_plan::ParamRows;
 use row_sameness::{Same, same_row};
@@ -15,97 +14,8 @@ use std::alloc::{AllocError, Global};
 /// The most names of changed rows for which rows are looked up one by one.
 const FEW: usize = 32;
 
-// A row that is found by a name.
-trait Named: Same + Copy + Drop {
-    ghost name_of: { Self → List ℕ };
-
-    // Its name.
-    fn name(&self) -> Name
-        ensures { result ≡ name_of self.now };
-}
-
-impl Named for PcfRow {
-    ghost name_of = { λ row. row.name };
-
-    fn name(&self) -> Name {
-        self.name
-    }
-}
-
-impl Named for CurRow {
-    ghost name_of = { λ row. row.pname };
-
-    fn name(&self) -> Name {
-        self.pname
-    }
-}
-
-impl Named for OcfRow {
-    ghost name_of = { λ row. row.name };
-
-    fn name(&self) -> Name {
-        self.name
-    }
-}
-
-impl Named for OcpRow {
-    ghost name_of = { λ row. row.name };
-
-    fn name(&self) -> Name {
-        self.name
-    }
-}
-
-impl Named for CafRow {
-    ghost name_of = { λ row. row.numbr };
-
-    fn name(&self) -> Name {
-        self.numbr
-    }
-}
-
-impl Named for CapRow {
-    ghost name_of = { λ row. row.numbr };
-
-    fn name(&self) -> Name {
-        self.numbr
-    }
-}
-
-impl Named for TxfRow {
-    ghost name_of = { λ row. row.numbr };
-
-    fn name(&self) -> Name {
-        self.numbr
-    }
-}
-
-impl Named for TxpRow {
-    ghost name_of = { λ row. row.numbr };
-
-    fn name(&self) -> Name {
-        self.numbr
-    }
-}
-
-impl Named for McfRow {
-    ghost name_of = { λ row. row.ident };
-
-    fn name(&self) -> Name {
-        self.ident
-    }
-}
-
-impl Named for LgfRow {
-    ghost name_of = { λ row. row.ident };
-
-    fn name(&self) -> Name {
-        self.ident
-    }
-}
-
 // Notes the names of two rows where they differ.
-fn note_pair<R: Named>(names: &mut Vec<Name>, old: &R, new: &R) -> Result<(), AllocError>
+fn note_pair<R: Named + Same>(names: &mut Vec<Name>, old: &R, new: &R) -> Result<(), AllocError>
     ensures { OnOk result (Notes R.name_of names.old.items names.new.items (old.now ∷ []) (new.now ∷ [])) }
 {
     if same_row(old, new) {
@@ -117,7 +27,11 @@ fn note_pair<R: Named>(names: &mut Vec<Name>, old: &R, new: &R) -> Result<(), Al
 }
 
 // Notes the names of rows that differ from those beside them.
-fn note_pairs<R: Named>(names: &mut Vec<Name>, old: &[R], new: &[R]) -> Result<(), AllocError>
+fn note_pairs<R: Named + Same>(
+    names: &mut Vec<Name>,
+    old: &[R],
+    new: &[R],
+) -> Result<(), AllocError>
     requires { length old.now ≡ length new.now }
     ensures { OnOk result (Notes R.name_of names.old.items names.new.items old.now new.now) }
 {
@@ -128,7 +42,7 @@ fn note_pairs<R: Named>(names: &mut Vec<Name>, old: &[R], new: &[R]) -> Result<(
 }
 
 // Notes the names of rows.
-fn note_all<R: Named>(names: &mut Vec<Name>, rows: &[R]) -> Result<(), AllocError>
+fn note_all<R: Named + Same>(names: &mut Vec<Name>, rows: &[R]) -> Result<(), AllocError>
     ensures { OnOk result (Notes R.name_of names.old.items names.new.items rows.now []) }
 {
     for row in rows {
@@ -138,7 +52,7 @@ fn note_all<R: Named>(names: &mut Vec<Name>, rows: &[R]) -> Result<(), AllocErro
 }
 
 // Notes the names of rows in which two tables differ, place by place.
-fn note<R: Named>(names: &mut Vec<Name>, old: &[R], new: &[R]) -> Result<(), AllocError>
+fn note<R: Named + Same>(names: &mut Vec<Name>, old: &[R], new: &[R]) -> Result<(), AllocError>
     ensures { OnOk result (Notes R.name_of names.old.items names.new.items old.now new.now) }
 {
     let both = old.len().min(new.len());
@@ -151,7 +65,7 @@ fn note<R: Named>(names: &mut Vec<Name>, old: &[R], new: &[R]) -> Result<(), All
 }
 
 // Notes the names of rows in which two tables differ that aren't known to be the same.
-fn note_if_changed<R: Named>(
+fn note_if_changed<R: Named + Same>(
     names: &mut Vec<Name>,
     same: bool,
     old: &[R],

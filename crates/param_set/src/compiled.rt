@@ -9,10 +9,10 @@ ghost use Rattle.param_plan.specs.Choices.{IsApart};
 ghost use Rattle.param_set.specs.Compiled.{AreNamed};
 
 use crate::curves::Curves;
-use crate::ways::{ByLogarithm, ByPointCurve, ByPolynomial, ByTextCurve};
 use curve_plan::{Curve, CurveRows};
 use first_rows::By;
-use mib_model::Name;
+use mib_keys::ByName;
+use mib_model::{CafRow, LgfRow, McfRow, Name, TxfRow};
 use mib_tables::Book;
 use std::alloc::{AllocError, Global};
 use std::collections::HashMap;
@@ -134,9 +134,9 @@ fn numbers_of(
     ensures { IfOk result (AreNamed (curve_named curves.now NUMBERS)) }
 {
     let mut kept = HashMap::new(alloc);
-    keep_all::<ByPointCurve>(alloc, curves, NUMBERS, book.caf(), &mut kept)?;
-    keep_all::<ByPolynomial>(alloc, curves, NUMBERS, book.mcf(), &mut kept)?;
-    keep_all::<ByLogarithm>(alloc, curves, NUMBERS, book.lgf(), &mut kept)?;
+    keep_all::<ByName<CafRow>>(alloc, curves, NUMBERS, book.caf(), &mut kept)?;
+    keep_all::<ByName<McfRow>>(alloc, curves, NUMBERS, book.mcf(), &mut kept)?;
+    keep_all::<ByName<LgfRow>>(alloc, curves, NUMBERS, book.lgf(), &mut kept)?;
     Ok(kept)
 }
 
@@ -150,7 +150,7 @@ fn texts_of(
     ensures { IfOk result (AreNamed (curve_named curves.now TEXTS)) }
 {
     let mut kept = HashMap::new(alloc);
-    keep_all::<ByTextCurve>(alloc, curves, TEXTS, book.txf(), &mut kept)?;
+    keep_all::<ByName<TxfRow>>(alloc, curves, TEXTS, book.txf(), &mut kept)?;
     Ok(kept)
 }
 

@@ -5,9 +5,9 @@ ghost use Rattle.curve_plan.specs.Rows.{rows_of};
 ghost use Rattle.mib_model.specs.Curves as Spec;
 
 use crate::lookups::{Firsts, Groups};
-use crate::ways::{ByLogarithm, ByPoint, ByPointCurve, ByPolynomial, ByText, ByTextCurve};
 use curve_plan::CurveRows;
-use mib_model::Name;
+use mib_keys::ByName;
+use mib_model::{CafRow, CapRow, LgfRow, McfRow, Name, TxfRow, TxpRow};
 use mib_tables::Book;
 use std::alloc::{AllocError, Global};
 use std::marker::Model;
@@ -15,12 +15,12 @@ use std::snapshot::Snapshot;
 
 /// The curves of a book by their names. Contracts see the book's database.
 pub struct Curves<'a> {
-    by_points: Firsts<'a, ByPointCurve>,
-    points: Groups<'a, ByPoint>,
-    by_texts: Firsts<'a, ByTextCurve>,
-    texts: Groups<'a, ByText>,
-    polynomials: Firsts<'a, ByPolynomial>,
-    logarithms: Firsts<'a, ByLogarithm>,
+    by_points: Firsts<'a, ByName<CafRow>>,
+    points: Groups<'a, ByName<CapRow>>,
+    by_texts: Firsts<'a, ByName<TxfRow>>,
+    texts: Groups<'a, ByName<TxpRow>>,
+    polynomials: Firsts<'a, ByName<McfRow>>,
+    logarithms: Firsts<'a, ByName<LgfRow>>,
     book: Snapshot<Book>,
 }
 

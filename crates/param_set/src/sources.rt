@@ -16,8 +16,8 @@ ghost use Rattle.param_set.specs.Beside.{row_now};
 use crate::compiled::CompiledCurves;
 use crate::lookups::{Firsts, Groups};
 use crate::order::{limits, selections};
-use crate::ways::{ByChecked, ByLimited, BySelected};
 use curve_plan::Curve;
+use mib_keys::ByName;
 use mib_model::{CurRow, Name, OcfRow, OcpRow, PcfRow};
 use mib_tables::Book;
 use param_plan::ParamRows;
@@ -30,9 +30,9 @@ use std::sync::Arc;
 pub struct ParamSources<'a> {
     parameters: &'a [PcfRow],
     curves: CompiledCurves<'a>,
-    selections: Groups<'a, BySelected>,
-    checks: Firsts<'a, ByChecked>,
-    limits: Groups<'a, ByLimited>,
+    selections: Groups<'a, ByName<CurRow>>,
+    checks: Firsts<'a, ByName<OcfRow>>,
+    limits: Groups<'a, ByName<OcpRow>>,
     book: Snapshot<Book>,
 }
 
