@@ -1,4 +1,5 @@
 pub mod PartFacts
+pub mod NearFacts
 pub mod SetFacts
 pub mod FindFacts
 pub mod OctetFacts

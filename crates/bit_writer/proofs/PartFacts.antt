@@ -95,14 +95,13 @@ turned-bit number at octet before last i near low from is-last is-before = pair-
 
 -- ---- what a write sets
 
-module _ (w : Write) (octet bits covered i : ℕ) (low : i < 8)
-    (is-bit : w.at ≤ 8 * octet + i → 8 * octet + i < w.at + w.width → bits / 2 ^ (7 - i) % 2 ≡ bit_behind w (8 * octet + i - w.at))
-    (is-covered : covered / 2 ^ (7 - i) % 2 ≡ cond (nat_le w.at (8 * octet + i) && nat_lt (8 * octet + i) (w.at + w.width)) 1 0) where
+module _ (w : Write) (j e bits covered : ℕ) (is-bit : w.at ≤ j → j < w.at + w.width → bits / 2 ^ e % 2 ≡ bit_behind w (j - w.at))
+    (is-covered : covered / 2 ^ e % 2 ≡ cond (nat_le w.at j && nat_lt j (w.at + w.width)) 1 0) where
   lie : false ≡ true → zero ≡ suc zero
   lie both = ap (λ (b : Bool). cond b (suc zero) zero) both
 
-  here : (b c : Bool) → nat_le w.at (8 * octet + i) ≡ b → nat_lt (8 * octet + i) (w.at + w.width) ≡ c → (b && c) ≡ true → bits / 2 ^ (7 - i) % 2 ≡ bit_behind w (8 * octet + i - w.at)
-  here true true h h' both = is-bit (leb-true w.at (8 * octet + i) h) (ltb-true (8 * octet + i) (w.at + w.width) h')
+  here : (b c : Bool) → nat_le w.at j ≡ b → nat_lt j (w.at + w.width) ≡ c → (b && c) ≡ true → bits / 2 ^ e % 2 ≡ bit_behind w (j - w.at)
+  here true true h h' both = is-bit (leb-true w.at j h) (ltb-true j (w.at + w.width) h')
   here true false h h' both = let none = lie both in absurd (omega (arith, none))
   here false c h h' both = let none = lie both in absurd (omega (arith, none))
 
@@ -116,22 +115,19 @@ module _ (w : Write) (octet bits covered i : ℕ) (low : i < 8)
   zero-of (suc zero) few = refl
   zero-of (suc (suc x)) few = absurd (omega (arith, few))
 
-  pub ones-bit : bit_and bits covered / 2 ^ (7 - i) % 2 ≡ cond (sets 1 (8 * octet + i) w) 1 0
-  ones-bit = bit_at_and bits covered (7 - i) ∙ (ap (λ (x : ℕ). min (bits / 2 ^ (7 - i) % 2) x) is-covered ∙ go (nat_le w.at (8 * octet + i) && nat_lt (8 * octet + i) (w.at + w.width)) refl) where
-    go : (b : Bool) → (nat_le w.at (8 * octet + i) && nat_lt (8 * octet + i) (w.at + w.width)) ≡ b
-        → min (bits / 2 ^ (7 - i) % 2) (cond b 1 0) ≡ cond (b && (bit_behind w (8 * octet + i - w.at) == 1)) 1 0
+  pub ones-bit : bit_and bits covered / 2 ^ e % 2 ≡ cond (sets 1 j w) 1 0
+  ones-bit = bit_at_and bits covered e ∙ (ap (λ (x : ℕ). min (bits / 2 ^ e % 2) x) is-covered ∙ go (nat_le w.at j && nat_lt j (w.at + w.width)) refl) where
+    go : (b : Bool) → (nat_le w.at j && nat_lt j (w.at + w.width)) ≡ b → min (bits / 2 ^ e % 2) (cond b 1 0) ≡ cond (b && (bit_behind w (j - w.at) == 1)) 1 0
     go false h = omega arith
     go true h =
-        let is = here (nat_le w.at (8 * octet + i)) (nat_lt (8 * octet + i) (w.at + w.width)) refl refl h in
-        let one = one-of (bit_behind w (8 * octet + i - w.at)) (omega arith) in
-        omega (arith, is, one)
+        let is = here (nat_le w.at j) (nat_lt j (w.at + w.width)) refl refl h in let one = one-of (bit_behind w (j - w.at)) (omega arith) in omega (arith, is, one)
 
-  pub zeros-bit : (255 - bits) / 2 ^ (7 - i) % 2 ≡ 1 - bits / 2 ^ (7 - i) % 2 → bit_and (255 - bits) covered / 2 ^ (7 - i) % 2 ≡ cond (sets 0 (8 * octet + i) w) 1 0
-  zeros-bit turned = bit_at_and (255 - bits) covered (7 - i) ∙ (ap (λ (x : ℕ). min ((255 - bits) / 2 ^ (7 - i) % 2) x) is-covered ∙ go (nat_le w.at (8 * octet + i) && nat_lt (8 * octet + i) (w.at + w.width)) refl) where
-    go : (b : Bool) → (nat_le w.at (8 * octet + i) && nat_lt (8 * octet + i) (w.at + w.width)) ≡ b
-        → min ((255 - bits) / 2 ^ (7 - i) % 2) (cond b 1 0) ≡ cond (b && (bit_behind w (8 * octet + i - w.at) == 0)) 1 0
-    go false h = omega arith
-    go true h =
-        let is = here (nat_le w.at (8 * octet + i)) (nat_lt (8 * octet + i) (w.at + w.width)) refl refl h in
-        let none = zero-of (bit_behind w (8 * octet + i - w.at)) (omega arith) in
-        omega (arith, is, none, turned)
+  pub zeros-bit : (flipped : ℕ) → flipped / 2 ^ e % 2 ≡ 1 - bits / 2 ^ e % 2 → bit_and flipped covered / 2 ^ e % 2 ≡ cond (sets 0 j w) 1 0
+  zeros-bit flipped turned =
+      bit_at_and flipped covered e ∙ (ap (λ (x : ℕ). min (flipped / 2 ^ e % 2) x) is-covered ∙ go (nat_le w.at j && nat_lt j (w.at + w.width)) refl) where
+        go : (b : Bool) → (nat_le w.at j && nat_lt j (w.at + w.width)) ≡ b → min (flipped / 2 ^ e % 2) (cond b 1 0) ≡ cond (b && (bit_behind w (j - w.at) == 0)) 1 0
+        go false h = omega arith
+        go true h =
+            let is = here (nat_le w.at j) (nat_lt j (w.at + w.width)) refl refl h in
+            let none = zero-of (bit_behind w (j - w.at)) (omega arith) in
+            omega (arith, is, none, turned)

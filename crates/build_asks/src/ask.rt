@@ -1,9 +1,12 @@
 // What a line asks for.
-ghost use Rattle.std.specs.Prelude.{◌≡◌, ◌<◌, ◌≤◌, ◌^◌, ◌++◌, length, Some, None, IfSome, IfOk, option_map, if◌then◌else◌};
+ghost use Rattle.std.specs.Prelude.{◌≡◌, ◌<◌, ◌≤◌, ◌^◌, ◌++◌, length, true, Some, None, IfSome, IfOk, option_map, if◌then◌else◌};
+ghost use Rattle.std.specs.Char.{is_ascii_digit};
+ghost use Rattle.std.specs.List.{list_all};
 ghost use Rattle.std.specs.Str.Lines.{strip_carriage_return};
 ghost use Rattle.build_rules.specs.Asks as Spec;
 ghost use Rattle.build_rules.specs.Asks.{asked_in, items_in};
 ghost use Rattle.mib_model.specs.DeskLines as Lines;
+ghost use Rattle.mib_model.specs.Digits.{digits_value};
 ghost use Rattle.build_asks.specs.Asking.{ask_with};
 
 use crate::words::Words;
@@ -50,6 +53,19 @@ pub fn is_passed_over(line: &[u8]) -> bool
     is_comment(without_return(line))
 }
 
+// The number that at most 19 digits spell, the most significant first.
+fn short_number(digits: &[u8]) -> u64
+    requires short { length digits.now ≤ 19 }
+    requires digits { list_all is_ascii_digit digits.now ≡ true }
+    ensures { result ≡ digits_value digits.now }
+{
+    let mut number = 0;
+    for digit in digits {
+        number = 10 * number + u64::from(*digit - b'0');
+    }
+    number
+}
+
 // The number of a word of 1 to 20 digits.
 fn number_in(word: &[u8]) -> Option<u128>
     ensures value { result ≡ Spec.number_in word.now }
@@ -57,6 +73,9 @@ fn number_in(word: &[u8]) -> Option<u128>
 {
     if !are_digits(word, 1, 20) {
         return None;
+    }
+    if word.len() < 20 {
+        return Some(u128::from(short_number(word)));
     }
     Some(digits_number(word))
 }

@@ -177,6 +177,9 @@ impl<'a> Builder<'a> {
         items: &[Item],
         into: &mut [u8],
     ) -> Result<u32, BuildFault>
+        requires count { count < 2 ^ 14 }
+        requires apid { row.now.apid < 2 ^ 11 }
+        requires types { (row.now.service < 2 ^ 8) × (row.now.subtype < 2 ^ 8) }
         requires room { length into.old ≡ octets_most }
         ensures built { Builds result (built_row self.old row.now (option_copied criterion.entry) count items.now) into.new }
         ensures few { IfOk result (λ octets. octets ≤ octets_most) }

@@ -1,9 +1,10 @@
 // What is written into a packet.
-ghost use Rattle.std.specs.Prelude.{◌≡◌, ◌≤◌, ◌^◌, ◌≤ℤ◌, ◌<ℤ◌, ◌++◌, neg_ℤ, pos, true, OnOk, map};
+ghost use Rattle.std.specs.Prelude.{◌≡◌, ◌≤◌, ◌<◌, ◌^◌, ◌≤ℤ◌, ◌<ℤ◌, ◌++◌, neg_ℤ, pos, true, OnOk, map};
 ghost use Rattle.std.specs.Option.{option_copied};
 ghost use Rattle.std.specs.List.{AllByRecursion};
 ghost use Rattle.build_rules.specs.Building as Spec;
 ghost use Rattle.build_rules.specs.Laying.{fits};
+ghost use Rattle.tm_build.specs.Builds.{PacksAs, joined_header, writes_with};
 
 use bit_writer::Write;
 use mib_model::{DiscriminantWidth, Order, PicRow, PidRow, Shape, Value};
@@ -99,22 +100,33 @@ fn add_values(writes: &mut Vec<Write>, values: &[Value]) -> Result<(), AllocErro
     Ok(())
 }
 
-// The headers but for the length: version 0, telemetry, a secondary header, the APID, unsegmented, the count; then 10 in
-// hexadecimal, the service type and the subtype (CCSDS 133.0-B, packet primary header; ECSS-E-70-41A, data field header).
-fn header_writes(row: &PidRow, count: u16) -> [Write; 9]
-    ensures { result ≡ Spec.header_writes row.now count }
+// The headers but for the length, as two numbers: version 0, telemetry, a secondary header, the APID, unsegmented, the count; then
+// 10 in hexadecimal, the service type and the subtype (CCSDS 133.0-B, packet primary header; ECSS-E-70-41A, data field header).
+fn header_writes(row: &PidRow, count: u16) -> [Write; 2]
+    ensures { result ≡ joined_header row.now count }
 {
-    [
-        big(0, 3, 0),
-        big(3, 1, 0),
-        big(4, 1, 1),
-        big(5, 11, u64::from(row.apid)),
-        big(16, 2, 3),
-        big(18, 14, u64::from(count)),
-        big(48, 8, 0x10),
-        big(56, 8, u64::from(row.service)),
-        big(64, 8, u64::from(row.subtype)),
-    ]
+    let first = ((0x0800 + u64::from(row.apid)) * 4 + 3) * 0x4000 + u64::from(count);
+    let types = (0x1000 + u64::from(row.service)) * 0x100 + u64::from(row.subtype);
+    [big(0, 32, first), big(48, 24, types)]
+}
+
+// Puts all that is written, the headers as two numbers, in the place of the writes that stand.
+fn put_joined(
+    writes: &mut Vec<Write>,
+    row: &PidRow,
+    criterion: Option<&PicRow>,
+    count: u16,
+    values: &[Value],
+) -> Result<(), AllocError>
+    requires { AllByRecursion (λ v. fits v.shape v.raw ≡ true) values.now }
+    ensures { OnOk result (writes.new.items ≡ joined_header row.now count
+        ++ Spec.both_discriminants row.now (option_copied criterion.entry) ++ map Spec.value_write values.now) }
+{
+    writes.clear();
+    writes.extend_from_slice(&header_writes(row, count))?;
+    add_discriminants(writes, row, criterion)?;
+    add_values(writes, values)?;
+    Ok(())
 }
 
 /// Puts all that is written into a packet of a row with these values, but for its length, in the place of the writes that stand.
@@ -126,13 +138,11 @@ pub fn put_writes(
     count: u16,
     values: &[Value],
 ) -> Result<(), AllocError>
-    requires { AllByRecursion (λ v. fits v.shape v.raw ≡ true) values.now }
-    ensures { OnOk result (writes.new.items ≡ Spec.header_writes row.now count
-        ++ Spec.both_discriminants row.now (option_copied criterion.entry) ++ map Spec.value_write values.now) }
+    requires count { count < 2 ^ 14 }
+    requires apid { row.now.apid < 2 ^ 11 }
+    requires types { (row.now.service < 2 ^ 8) × (row.now.subtype < 2 ^ 8) }
+    requires fit { AllByRecursion (λ v. fits v.shape v.raw ≡ true) values.now }
+    ensures { OnOk result (PacksAs row.now writes.new.items (writes_with row.now (option_copied criterion.entry) count values.now)) }
 {
-    writes.clear();
-    writes.extend_from_slice(&header_writes(row, count))?;
-    add_discriminants(writes, row, criterion)?;
-    add_values(writes, values)?;
-    Ok(())
+    put_joined(writes, row, criterion, count, values)
 }

@@ -5,8 +5,8 @@ use Rattle.mib_model.specs.declared.packet.Value.{Value}
 use Rattle.tm_build.proofs.LaidFacts.{IsFit, laid-fit}
 use Rattle.tm_build.proofs.building.Builder.build_row.Goals as goal
 
-pub put_writes-requires : goal.put_writes-requires
-put_writes-requires c =
+pub put_writes-requires-clause-fit : goal.put_writes-requires-clause-fit
+put_writes-requires-clause-fit c =
     let used : ℕ = c.in-Ok.used in
     let slots : List Value = c.lay_items.new.slots in
     let len : ℕ = c.self.inside.slots.len in

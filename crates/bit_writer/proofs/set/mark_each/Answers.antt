@@ -2,7 +2,7 @@ use Rattle.std.proofs.Common.{◌∙◌, ◌/◌, ◌%◌, ◌^◌, ◌-◌, ℕ
 use Rattle.std.specs.Prelude.{◌==◌}
 use Rattle.mib_model.specs.Bits.{bit}
 use Rattle.bit_writer.proofs.SetFacts.{one-octet-more}
-use Rattle.bit_writer.proofs.set.mark.Goals as goal
+use Rattle.bit_writer.proofs.set.mark_each.Goals as goal
 
 pub loop-octet-preserved : goal.loop-octet-preserved
 loop-octet-preserved c =

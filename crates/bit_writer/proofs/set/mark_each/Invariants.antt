@@ -2,7 +2,7 @@ use Rattle.std.proofs.Common.{◌≡◌, ◌*◌, ℕ, cond, nat_lt}
 use Rattle.std.specs.Prelude.{◌&&◌}
 use Rattle.mib_model.specs.Bits.{bit}
 use Rattle.bit_writer.specs.Writes.{sets}
-use Rattle.bit_writer.proofs.set.mark.Given as goal
+use Rattle.bit_writer.proofs.set.mark_each.Given as goal
 
 abbrev pub invariant-loop-octet : goal.invariant-loop-octet
 invariant-loop-octet l =
