@@ -13,6 +13,7 @@ use std::sync::Wait;
 fn look_for<R: Wait>(rt: &R, viewer: &mut Viewer, number: u64) -> Page
     ensures number { result.number ≡ number }
     ensures shown { result ≡ page_shown (known_by viewer.new).seen }
+    ensures later { BeginsWith (known_by viewer.new).seen (known_by viewer.old).seen }
     ensures same { ((known_by viewer.new).told ≡ (known_by viewer.old).told) × (board_seen_by viewer.new ≡ board_seen_by viewer.old) }
     ensures rises { RisesAbove 0 (known_by viewer.new).seen }
     ensures told { AllByRecursion (BeginsWith (known_by viewer.new).seen) (known_by viewer.new).told }
@@ -34,6 +35,7 @@ pub fn catch_up<R: Wait>(rt: &R, viewer: &mut Viewer, note: Note) -> Page
     ensures last { result ≡ page_shown (pages_noted note) }
     ensures number { result.number ≡ note.shown }
     ensures seen { (known_by viewer.new).seen ≡ pages_noted note }
+    ensures later { BeginsWith (pages_noted note) (known_by viewer.old).seen }
     ensures got { AllByRecursion (IsShownBy (pages_noted note)) (known_by viewer.new).got }
     ensures board { board_seen_by viewer.new ≡ board_seen_by viewer.old }
 {

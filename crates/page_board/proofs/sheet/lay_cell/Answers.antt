@@ -1,4 +1,4 @@
-use Rattle.std.proofs.Common.{rules, ◌≡◌, length}
+use Rattle.std.proofs.Common.{rules}
 use Rattle.page_board.proofs.SheetFacts.{cell-laid, marks-apart}
 use Rattle.page_board.proofs.sheet.lay_cell.Goals as goal
 

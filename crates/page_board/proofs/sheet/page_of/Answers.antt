@@ -1,7 +1,6 @@
-use Rattle.std.proofs.Common.{rules, ◌∙◌, List, ap, arith}
+use Rattle.std.proofs.Common.{◌∙◌, List, ap, arith}
 use Rattle.std.proofs.lemmas.List.{length-set}
 use Rattle.display_pages.specs.declared.page.Cell.{Cell}
-use Rattle.display_pages.specs.declared.page.Page.{Page}
 use Rattle.page_board.specs.Sheets.{page_in}
 use Rattle.page_board.proofs.SheetFacts.{cell-set, cells-are}
 use Rattle.page_board.proofs.sheet.page_of.Goals as goal

@@ -1,0 +1,4 @@
+pub mod Codes
+pub mod Examples
+pub mod PageFiles
+pub mod Written
