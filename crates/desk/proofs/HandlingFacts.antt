@@ -1,5 +1,6 @@
 -- Requests that are handled.
 use Rattle.std.proofs.Common.{◌≡◌, ◌∙◌, ℕ, Bool, true, false, List, [], ◌∷◌, ◌++◌, Option, Some, None, option_map, Result, Ok, Err, refl, sym, ap, subst, inl, inr, append-nil, length}
+use Rattle.std.specs.Prelude.{if◌then◌else◌}
 use Rattle.std.proofs.lemmas.Bool.{false≢true}
 use Rattle.histories.specs.History.{move}
 use Rattle.mib_model.specs.declared.fault.MibFault.{MibFault}
@@ -11,11 +12,11 @@ use Rattle.mib_model.specs.declared.register.Entry.TheVariants as entry
 use Rattle.mib_model.specs.declared.reply.Reply.{Reply}
 use Rattle.mib_model.specs.declared.reply.Reply.TheVariants as reply
 use Rattle.mib_model.specs.declared.rows.Row.{Row}
-use Rattle.mib_model.specs.Desk.{DeskState, Plain, Way, Done, Ask, says}
+use Rattle.mib_model.specs.Desk.{DeskReply, DeskState, Plain, Way, Done, Ask, says}
 use Rattle.mib_model.specs.DeskLines as Spec
 use Rattle.mib_model.specs.DeskLines.{Request, request_of}
 use Rattle.mib_model.specs.DeskRuns.{Calls, Follows, LeavesLook, may_want}
-use Rattle.mib_model.specs.DeskWays.{way_of, put_way, delete_way, save_way, saved, use_way}
+use Rattle.mib_model.specs.DeskWays.{way_of, put_way, delete_way, save_entry, save_way, saved, took, use_by}
 use Rattle.mib_model.specs.Plans.{plans}
 use Rattle.mib_model.specs.Touched.{touched}
 use Rattle.mib_model.specs.declared.register.Answer.TheVariants as answer
@@ -37,126 +38,140 @@ use Rattle.mib_rows.specs.declared.read_fault.ReadFault.{ReadFault}
 use Rattle.mib_rows.specs.declared.read_fault.ReadFault.TheVariants as faults
 use Rattle.row_laws.proofs.RowFitFacts.{read_fits}
 use Rattle.desk.specs.Refusals.{refusal_of}
-use Rattle.desk.specs.Handling.{Handles, HandlesLine}
+use Rattle.desk.specs.Drafts.{Drafted, drafted_from, state_by}
+use Rattle.desk.specs.Handling.{Edits, HandlesAt, HandlesLineAt, IsDone, Ticks, enters, run_of}
 use Rattle.desk.specs.Saving.{IsNoEdition}
 use Rattle.desk.proofs.KeyFacts.{key-of-table}
 
 -- ---- requests by the entries that they make
 
-pub handled-nothing : (request : Request) (s : DeskState) (own : RegisterHistory) (given : Option Reply) (t : DeskState) → way_of false s request ≡ Done (option_map Plain given) t → Handles request s own own given t
-handled-nothing request s own given t is = record {
-  calls = [];
-  own = sym (append-nil own);
-  is_done = inl (subst (λ w. Follows w [] (option_map Plain given) t) (sym is) (refl, refl, refl));
-}
+-- a request that is done at once
+done : (several : Bool) (request : Request) (s : DeskState) (given : Option Reply) (t : DeskState) → way_of several s request ≡ Done (option_map Plain given) t → IsDone several request (run_of [] s [] given t)
+done several request s given t is = inl (subst (λ w. Follows w [] (option_map Plain given) t) (sym is) (refl, refl, refl))
 
-pub handled-one : (request : Request) (s : DeskState) (before after : RegisterHistory) (e : Entry) (a : Answer) (on : Answer → Way) (given : Reply) (t : DeskState)
-    → way_of false s request ≡ Ask e on → after ≡ before ++ move 1 e a ∷ [] → on a ≡ Done (Some (Plain given)) t → Handles request s before after (Some given) t
-handled-one request s before after e a on given t is grows ends = record {
-  calls = (e, a) ∷ [];
-  own = grows;
-  is_done = inl (subst (λ w. Follows w ((e, a) ∷ []) (Some (Plain given)) t) (sym is) (refl, subst (λ w. Follows w [] (Some (Plain given)) t) (sym ends) (refl, refl, refl)));
-}
+-- a request that want of memory refused before any entry
+wanted : (several : Bool) (request : Request) (s : DeskState) → may_want request ≡ true → IsDone several request (run_of [] s [] (Some reply.Want) s)
+wanted several request s may = inr record { may = may; entries = tt; told = refl; kept = refl }
 
-pub handled-want : (request : Request) (s : DeskState) (own : RegisterHistory) → may_want request ≡ true → Handles request s own own (Some reply.Want) s
-handled-want request s own may = record {
-  calls = [];
-  own = sym (append-nil own);
-  is_done = inr record { may = may; entries = tt; told = refl; kept = refl };
-}
+module _ (several : Bool) (seat : ℕ) (request : Request) (s : DeskState) (before after : RegisterHistory) where
+  pub handled-none : (given : Option Reply) (t : DeskState) → after ≡ before → IsDone several request (run_of [] s [] given t) → HandlesAt several seat request s before after (option_map Plain given) t
+  handled-none given t same is = record { calls = []; own = same ∙ sym (append-nil before); is_done = is }
 
-no_look : (request other : Request) (calls : Calls) → LeavesLook false request calls → LeavesLook false other calls
-no_look request other [] leaves = tt
-no_look request other (call ∷ []) leaves = absurd (false≢true leaves.0)
-no_look request other (call ∷ next ∷ calls) leaves = absurd leaves
+  pub handled-one : (e : Entry) (a : Answer) (on : Answer → Way) (given : DeskReply) (t : DeskState)
+      → way_of several s request ≡ Ask e on → after ≡ before ++ move seat e a ∷ [] → on a ≡ Done (Some given) t → HandlesAt several seat request s before after (Some given) t
+  handled-one e a on given t is grows ends = record {
+    calls = (e, a) ∷ [];
+    own = grows;
+    is_done = inl (subst (λ w. Follows w ((e, a) ∷ []) (Some given) t) (sym is) (refl, subst (λ w. Follows w [] (Some given) t) (sym ends) (refl, refl, refl)));
+  }
+
+-- a request that makes no entry
+pub handled-edit : (several : Bool) (seat : ℕ) (request : Request) (edition : ℕ) (old new : Drafted) (own : RegisterHistory) (given : Option Reply) → Edits request old given new
+    → HandlesAt several seat request (state_by edition old) own own (option_map Plain given) (state_by edition new)
+handled-edit several seat request edition old new own given edits = handled-none several seat request (state_by edition old) own own given (state_by edition new) refl (edits several edition)
+
+pub ticks-none : (request : Request) (given : Option DeskReply) (steps : ℕ) → enters request ≡ false → Ticks request given steps steps
+ticks-none Spec.Comment given steps none = refl
+ticks-none Spec.TooLong given steps none = refl
+ticks-none Spec.BadLine given steps none = refl
+ticks-none Spec.BadTable given steps none = refl
+ticks-none (Spec.Put table row) given steps none = refl
+ticks-none (Spec.Delete table key) given steps none = refl
+ticks-none Spec.Save given steps none = absurd (false≢true (sym none))
+ticks-none Spec.Drop given steps none = refl
+ticks-none (Spec.Use edition) given steps none = refl
+ticks-none (Spec.UseFrom edition from) given steps none = refl
+ticks-none Spec.Take given steps none = refl
+ticks-none Spec.Go given steps none = refl
+
+-- what want of memory leaves of a request it leaves of its line
+leaves-as : (several : Bool) (request other : Request) (calls : Calls) → request ≡ other → LeavesLook several request calls → LeavesLook several other calls
+leaves-as several request other calls is leaves = subst (λ r. LeavesLook several r calls) is leaves
 
 -- a line is handled where its request is
-pub handled-line : (request : Request) (line : List ℕ) (s : DeskState) (before after : RegisterHistory) (given : Option Reply) (t : DeskState)
-    → request ≡ request_of false line → Handles request s before after given t → HandlesLine line s before after given t
-handled-line request line s before after given t is h = record {
+pub handled-line : (several : Bool) (seat : ℕ) (request : Request) (line : List ℕ) (s : DeskState) (before after : RegisterHistory) (given : Option DeskReply) (t : DeskState)
+    → request ≡ request_of several line → HandlesAt several seat request s before after given t → HandlesLineAt several seat line s before after given t
+handled-line several seat request line s before after given t is h = record {
   calls = h.calls;
   own = h.own;
   is_line = elim h.is_done [
-    | inl went ↦ inl (subst (λ r. Follows (way_of false s r) h.calls (option_map Plain given) t) is went)
-    | inr want ↦ inr record { may = ap may_want (sym is) ∙ want.may; entries = no_look request (request_of false line) h.calls want.entries; told = want.told; kept = want.kept }
+    | inl went ↦ inl (subst (λ r. Follows (way_of several s r) h.calls given t) is went)
+    | inr want ↦ inr record { may = ap may_want (sym is) ∙ want.may; entries = leaves-as several request (request_of several line) h.calls is want.entries; told = want.told; kept = want.kept }
   ];
 }
 
 -- ---- ways
 
-pub way-put : (s : DeskState) (table : Kind) (row : List ℕ) (read : Result Row MibFault) → row_read table row ≡ read → way_of false s (Spec.Put table row) ≡ put_way s table read
+way-put : (several : Bool) (s : DeskState) (table : Kind) (row : List ℕ) (read : Result Row MibFault) → row_read table row ≡ read → way_of several s (Spec.Put table row) ≡ put_way s table read
 unfolding way_of
-way-put s table row read is = ap (put_way s table) is
+way-put several s table row read is = ap (put_way s table) is
 
-pub way-delete : (s : DeskState) (table : Kind) (key : List ℕ) (read : Result Key MibFault) → key_read table key ≡ read → way_of false s (Spec.Delete table key) ≡ delete_way s table read
+way-delete : (several : Bool) (s : DeskState) (table : Kind) (key : List ℕ) (read : Result Key MibFault) → key_read table key ≡ read → way_of several s (Spec.Delete table key) ≡ delete_way s table read
 unfolding way_of
-way-delete s table key read is = ap (delete_way s table) is
+way-delete several s table key read is = ap (delete_way s table) is
 
-pub way-drop : (s : DeskState) → way_of false s Spec.Drop ≡ says (record s { draft = s.base }) reply.Dropped
+way-drop : (several : Bool) (s : DeskState) → way_of several s Spec.Drop ≡ says (record s { draft = s.base }) reply.Dropped
 unfolding way_of
-way-drop s = refl
+way-drop several s = refl
 
-pub way-unsound : (s : DeskState) (flaw : MibFault) → first_flaw s.draft ≡ Some flaw → way_of false s Spec.Save ≡ says s (reply.Unsound flaw)
+way-unsound : (several : Bool) (s : DeskState) (flaw : MibFault) → first_flaw s.draft ≡ Some flaw → way_of several s Spec.Save ≡ says s (reply.Unsound flaw)
 unfolding way_of
-way-unsound s flaw is = ap (save_way false s) is
+way-unsound several s flaw is = ap (save_way several s) is
 
-pub way-save : (s : DeskState) → IsSound s.draft → way_of false s Spec.Save ≡ Ask (entry.Add s.draft (plans s.draft)) (saved s)
+way-save : (several : Bool) (s : DeskState) → IsSound s.draft → way_of several s Spec.Save ≡ Ask (save_entry several s) (saved s)
 unfolding way_of
-way-save s sound = ap (λ flaws. save_way false s (first_of flaws)) sound
+way-save several s sound = ap (λ flaws. save_way several s (first_of flaws)) sound
 
-pub way-use : (s : DeskState) (e : ℕ) → way_of false s (Spec.Use e) ≡ use_way s e (entry.Use e)
+pub way-use : (several : Bool) (s : DeskState) (e : ℕ) → way_of several s (Spec.Use e) ≡ use_by several s e (entry.Use e)
 unfolding way_of
-way-use s e = refl
+way-use several s e = refl
 
-pub way-use_from : (s : DeskState) (e k : ℕ) → way_of false s (Spec.UseFrom e k) ≡ use_way s e (entry.UseFrom e k)
+pub way-use_from : (several : Bool) (s : DeskState) (e k : ℕ) → way_of several s (Spec.UseFrom e k) ≡ use_by several s e (entry.UseFrom e k)
 unfolding way_of
-way-use_from s e k = refl
+way-use_from several s e k = refl
 
-pub way-comment : (s : DeskState) → way_of false s Spec.Comment ≡ Done None s
+pub way-take : (s : DeskState) → way_of true s Spec.Take ≡ Ask entry.Newest (took s)
 unfolding way_of
-way-comment s = refl
+way-take s = refl
 
-pub way-too_long : (s : DeskState) → way_of false s Spec.TooLong ≡ says s reply.TooLong
-unfolding way_of
-way-too_long s = refl
+-- ---- requests that are done at once
 
-pub way-bad_line : (s : DeskState) → way_of false s Spec.BadLine ≡ says s reply.BadLine
+pub edits-comment : (d : Drafted) → Edits Spec.Comment d None d
 unfolding way_of
-way-bad_line s = refl
+edits-comment d = λ several edition. done several Spec.Comment (state_by edition d) None (state_by edition d) refl
 
-pub way-bad_table : (s : DeskState) → way_of false s Spec.BadTable ≡ says s reply.BadTable
+pub edits-too_long : (d : Drafted) → Edits Spec.TooLong d (Some reply.TooLong) d
 unfolding way_of
-way-bad_table s = refl
+edits-too_long d = λ several edition. done several Spec.TooLong (state_by edition d) (Some reply.TooLong) (state_by edition d) refl
 
-pub way-go : (s : DeskState) → way_of false s Spec.Go ≡ says s reply.Go
+pub edits-bad_line : (d : Drafted) → Edits Spec.BadLine d (Some reply.BadLine) d
 unfolding way_of
-way-go s = refl
+edits-bad_line d = λ several edition. done several Spec.BadLine (state_by edition d) (Some reply.BadLine) (state_by edition d) refl
+
+pub edits-bad_table : (d : Drafted) → Edits Spec.BadTable d (Some reply.BadTable) d
+unfolding way_of
+edits-bad_table d = λ several edition. done several Spec.BadTable (state_by edition d) (Some reply.BadTable) (state_by edition d) refl
+
+pub edits-go : (d : Drafted) → Edits Spec.Go d (Some reply.Go) d
+unfolding way_of
+edits-go d = λ several edition. done several Spec.Go (state_by edition d) (Some reply.Go) (state_by edition d) refl
 
 -- ---- edits of the draft
 
-bad-row : (request : Request) (s : DeskState) (own : RegisterHistory) (fault : MibFault) → way_of false s request ≡ says s (reply.BadRow fault.code fault.column)
-    → Handles request s own own (Some (reply.BadRow fault.code fault.column)) s
-bad-row request s own fault is = handled-nothing request s own (Some (reply.BadRow fault.code fault.column)) s is
-
-pub put-bad : (s : DeskState) (table : Kind) (row : List ℕ) (fault : MibFault) (own : RegisterHistory) → row_read table row ≡ Err fault
-    → Handles (Spec.Put table row) s own own (Some (reply.BadRow fault.code fault.column)) s
-put-bad s table row fault own is = bad-row (Spec.Put table row) s own fault (way-put s table row (Err fault) is)
-
-pub delete-bad : (s : DeskState) (table : Kind) (key : List ℕ) (fault : MibFault) (own : RegisterHistory) → key_read table key ≡ Err fault
-    → Handles (Spec.Delete table key) s own own (Some (reply.BadRow fault.code fault.column)) s
-delete-bad s table key fault own is = bad-row (Spec.Delete table key) s own fault (way-delete s table key (Err fault) is)
+pub want-edits : (request : Request) (d : Drafted) → may_want request ≡ true → Edits request d (Some reply.Want) d
+want-edits request d may = λ several edition. wanted several request (state_by edition d) may
 
 -- a row that isn't read is refused
-pub put-refused : (s : DeskState) (table : Kind) (row : List ℕ) (told : ReadFault) (own : RegisterHistory) → Fails told (row_read table row)
-    → Handles (Spec.Put table row) s own own (Some (refusal_of told)) s
-put-refused s table row (faults.Mib fault) own fails = put-bad s table row fault own fails
-put-refused s table row faults.Memory own fails = handled-want (Spec.Put table row) s own refl
+pub put-refused : (d : Drafted) (table : Kind) (row : List ℕ) (told : ReadFault) → Fails told (row_read table row) → Edits (Spec.Put table row) d (Some (refusal_of told)) d
+put-refused d table row (faults.Mib fault) fails = λ several edition.
+    done several (Spec.Put table row) (state_by edition d) (Some (reply.BadRow fault.code fault.column)) (state_by edition d) (way-put several (state_by edition d) table row (Err fault) fails)
+put-refused d table row faults.Memory fails = want-edits (Spec.Put table row) d refl
 
 -- a key that isn't read is refused
-pub delete-refused : (s : DeskState) (table : Kind) (key : List ℕ) (told : ReadFault) (own : RegisterHistory) → Fails told (key_read table key)
-    → Handles (Spec.Delete table key) s own own (Some (refusal_of told)) s
-delete-refused s table key (faults.Mib fault) own fails = delete-bad s table key fault own fails
-delete-refused s table key faults.Memory own fails = handled-want (Spec.Delete table key) s own refl
+pub delete-refused : (d : Drafted) (table : Kind) (key : List ℕ) (told : ReadFault) → Fails told (key_read table key) → Edits (Spec.Delete table key) d (Some (refusal_of told)) d
+delete-refused d table key (faults.Mib fault) fails = λ several edition.
+    done several (Spec.Delete table key) (state_by edition d) (Some (reply.BadRow fault.code fault.column)) (state_by edition d) (way-delete several (state_by edition d) table key (Err fault) fails)
+delete-refused d table key faults.Memory fails = want-edits (Spec.Delete table key) d refl
 
 -- the reply to what was done with a row
 abbrev pub put_reply_of : Put → Reply
@@ -164,71 +179,74 @@ put_reply_of put_row.Added = reply.Added
 put_reply_of put_row.Replaced = reply.Replaced
 
 -- it is that by whether a row was held
-pub put-told : (made : Put) (held : Bool) → made ≡ put_made held → put_reply_of made ≡ put_reply held
+put-told : (made : Put) (held : Bool) → made ≡ put_made held → put_reply_of made ≡ put_reply held
 put-told made true is = ap put_reply_of is
 put-told made false is = ap put_reply_of is
 
--- a base that is kept
-kept-base : (request : Request) (s : DeskState) (own : RegisterHistory) (given : Reply) (draft base : Database) → base ≡ s.base
-    → Handles request s own own (Some given) (record s { draft = draft }) → Handles request s own own (Some given) (record { draft = draft; base = base; edition = s.edition })
-kept-base request s own given draft base kept = subst (λ (b : Database). Handles request s own own (Some given) (record { draft = draft; base = b; edition = s.edition })) (sym kept)
+-- a draft whose base is kept
+with-base : (several : Bool) (request : Request) (edition : ℕ) (old new : Drafted) (given : Reply) → new.base ≡ old.base
+    → way_of several (state_by edition old) request ≡ says (record (state_by edition old) { draft = new.book }) given → IsDone several request (run_of [] (state_by edition old) [] (Some given) (state_by edition new))
+with-base several request edition old new given kept is =
+    done several request (state_by edition old) (Some given) (state_by edition new) (is ∙ ap (λ (b : Database). says (record { draft = new.book; base = b; edition = edition }) given) (sym kept))
 
-pub put-done : (s : DeskState) (table : Kind) (row : List ℕ) (r : Row) (draft base : Database) (made : Put) (own : RegisterHistory) → row_read table row ≡ Ok r
-    → draft ≡ with_rows s.draft (kind_in r) (put_in r (rows_of s.draft (kind_in r))) → made ≡ put_made (is_held (key_in r) (rows_of s.draft (kind_in r))) → base ≡ s.base
-    → Handles (Spec.Put table row) s own own (Some (put_reply_of made)) (record { draft = draft; base = base; edition = s.edition })
-put-done s table row r draft base made own reads grows is kept =
-    kept-base (Spec.Put table row) s own (put_reply_of made) draft base kept (
+pub put-edits : (old new : Drafted) (table : Kind) (row : List ℕ) (r : Row) (made : Put) → row_read table row ≡ Ok r
+    → new.book ≡ with_rows old.book (kind_in r) (put_in r (rows_of old.book (kind_in r))) → made ≡ put_made (is_held (key_in r) (rows_of old.book (kind_in r))) → new.base ≡ old.base
+    → Edits (Spec.Put table row) old (Some (put_reply_of made)) new
+put-edits old new table row r made reads grows is kept = λ several edition.
+    let s = state_by edition old in
     let of : kind_in r ≡ table = (read_fits table row r reads).1 in
-    let told = put-told made (is_held (key_in r) (rows_of s.draft (kind_in r))) is in
-    handled-nothing (Spec.Put table row) s own (Some (put_reply_of made)) (record s { draft = draft })
-    (way-put s table row (Ok r) reads ∙ ap (λ k. says (record s { draft = with_rows s.draft k (put_in r (rows_of s.draft k)) }) (put_reply (is_held (key_in r) (rows_of s.draft k)))) (sym of)
-    ∙ (λ i. says (record s { draft = sym grows i }) (sym told i))))
+    let told = put-told made (is_held (key_in r) (rows_of old.book (kind_in r))) is in
+    with-base several (Spec.Put table row) edition old new (put_reply_of made) kept
+    (way-put several s table row (Ok r) reads ∙ ap (λ k. says (record s { draft = with_rows s.draft k (put_in r (rows_of s.draft k)) }) (put_reply (is_held (key_in r) (rows_of s.draft k)))) (sym of)
+    ∙ (λ i. says (record s { draft = sym grows i }) (sym told i)))
 
-pub delete-done : (s : DeskState) (table : Kind) (line : List ℕ) (key : Key) (draft base : Database) (own : RegisterHistory) → key_read table line ≡ Ok key
-    → true ≡ is_held key (rows_of s.draft (kind_of_key key)) → draft ≡ with_rows s.draft (kind_of_key key) (without_key key (rows_of s.draft (kind_of_key key))) → base ≡ s.base
-    → Handles (Spec.Delete table line) s own own (Some reply.Deleted) (record { draft = draft; base = base; edition = s.edition })
-delete-done s table line key draft base own reads held less kept =
-    kept-base (Spec.Delete table line) s own reply.Deleted draft base kept (
+pub delete-edits : (old new : Drafted) (table : Kind) (line : List ℕ) (key : Key) → key_read table line ≡ Ok key
+    → true ≡ is_held key (rows_of old.book (kind_of_key key)) → new.book ≡ with_rows old.book (kind_of_key key) (without_key key (rows_of old.book (kind_of_key key))) → new.base ≡ old.base
+    → Edits (Spec.Delete table line) old (Some reply.Deleted) new
+delete-edits old new table line key reads held less kept = λ several edition.
+    let s = state_by edition old in
     let of : kind_of_key key ≡ table = key-of-table table line key reads in
-    let there : is_held key (rows_of s.draft table) ≡ true = ap (λ k. is_held key (rows_of s.draft k)) (sym of) ∙ sym held in
-    handled-nothing (Spec.Delete table line) s own (Some reply.Deleted) (record s { draft = draft })
-    (way-delete s table line (Ok key) reads ∙ rw there (ap (λ k. says (record s { draft = with_rows s.draft k (without_key key (rows_of s.draft k)) }) reply.Deleted) (sym of)
-    ∙ ap (λ d. says (record s { draft = d }) reply.Deleted) (sym less))))
+    let there : is_held key (rows_of old.book table) ≡ true = ap (λ k. is_held key (rows_of old.book k)) (sym of) ∙ sym held in
+    with-base several (Spec.Delete table line) edition old new reply.Deleted kept
+    (way-delete several s table line (Ok key) reads ∙ rw there (ap (λ k. says (record s { draft = with_rows s.draft k (without_key key (rows_of s.draft k)) }) reply.Deleted) (sym of)
+    ∙ ap (λ d. says (record s { draft = d }) reply.Deleted) (sym less)))
 
-pub delete-none : (s : DeskState) (table : Kind) (line : List ℕ) (key : Key) (draft base : Database) (own : RegisterHistory) → key_read table line ≡ Ok key
-    → false ≡ is_held key (rows_of s.draft (kind_of_key key)) → draft ≡ s.draft → base ≡ s.base
-    → Handles (Spec.Delete table line) s own own (Some reply.NoRow) (record { draft = draft; base = base; edition = s.edition })
-delete-none s table line key draft base own reads held same kept =
-    kept-base (Spec.Delete table line) s own reply.NoRow draft base kept (
+pub delete-none : (old : Drafted) (table : Kind) (line : List ℕ) (key : Key) → key_read table line ≡ Ok key → false ≡ is_held key (rows_of old.book (kind_of_key key))
+    → Edits (Spec.Delete table line) old (Some reply.NoRow) old
+delete-none old table line key reads held = λ several edition.
+    let s = state_by edition old in
     let of : kind_of_key key ≡ table = key-of-table table line key reads in
-    let gone : is_held key (rows_of s.draft table) ≡ false = ap (λ k. is_held key (rows_of s.draft k)) (sym of) ∙ sym held in
-    handled-nothing (Spec.Delete table line) s own (Some reply.NoRow) (record s { draft = draft })
-    (way-delete s table line (Ok key) reads ∙ rw gone (ap (λ d. says (record s { draft = d }) reply.NoRow) (sym same))))
+    let gone : is_held key (rows_of old.book table) ≡ false = ap (λ k. is_held key (rows_of old.book k)) (sym of) ∙ sym held in
+    done several (Spec.Delete table line) s (Some reply.NoRow) s (way-delete several s table line (Ok key) reads ∙ rw gone refl)
 
-pub drop-done : (s : DeskState) (draft base : Database) (own : RegisterHistory) → draft ≡ s.base → base ≡ s.base
-    → Handles Spec.Drop s own own (Some reply.Dropped) (record { draft = draft; base = base; edition = s.edition })
-drop-done s draft base own same kept =
-    kept-base Spec.Drop s own reply.Dropped draft base kept
-    (handled-nothing Spec.Drop s own (Some reply.Dropped) (record s { draft = draft }) (way-drop s ∙ ap (λ d. says (record s { draft = d }) reply.Dropped) (sym same)))
+pub drop-edits : (old new : Drafted) → new ≡ drafted_from old.base → Edits Spec.Drop old (Some reply.Dropped) new
+drop-edits old new is = λ several edition. subst (λ (d : Drafted). IsDone several Spec.Drop (run_of [] (state_by edition old) [] (Some reply.Dropped) (state_by edition d))) (sym is)
+    (done several Spec.Drop (state_by edition old) (Some reply.Dropped) (state_by edition (drafted_from old.base)) (way-drop several (state_by edition old)))
 
 -- ---- saves
 
-pub save-none : (s : DeskState) (own : RegisterHistory) (given : Reply) → IsNoEdition s.draft given → Handles Spec.Save s own own (Some given) s
-save-none s own (reply.Unsound flaw) is = handled-nothing Spec.Save s own (Some (reply.Unsound flaw)) s (way-unsound s flaw is)
-save-none s own reply.Want is = handled-want Spec.Save s own refl
-save-none s own other is = absurd is
+module _ (several : Bool) (seat : ℕ) (s : DeskState) where
+  pub save-none : (own : RegisterHistory) (given : Reply) → IsNoEdition s.draft given → HandlesAt several seat Spec.Save s own own (Some (Plain given)) s
+  save-none own (reply.Unsound flaw) is = handled-none several seat Spec.Save s own own (Some (reply.Unsound flaw)) s refl (done several Spec.Save s (Some (reply.Unsound flaw)) s (way-unsound several s flaw is))
+  save-none own reply.Want is = handled-none several seat Spec.Save s own own (Some reply.Want) s refl (wanted several Spec.Save s refl)
+  save-none own other is = absurd is
 
-pub save-added : (s : DeskState) (before after : RegisterHistory) (payload base : Database) (e plans_made : ℕ) → IsSound s.draft → payload ≡ s.draft → base ≡ s.draft
-    → plans_made ≡ length (touched s.base s.draft) → after ≡ before ++ move 1 (entry.Add payload (plans payload)) (answer.Added e) ∷ []
-    → Handles Spec.Save s before after (Some (reply.Saved e plans_made)) (record { draft = s.draft; base = base; edition = e })
-save-added s before after payload base e plans_made sound same based count grows =
-    handled-one Spec.Save s before after (entry.Add s.draft (plans s.draft)) (answer.Added e) (saved s) (reply.Saved e plans_made) (record { draft = s.draft; base = base; edition = e })
-    (way-save s sound) (grows ∙ ap (λ db. before ++ move 1 (entry.Add db (plans db)) (answer.Added e) ∷ []) same)
-    (λ i. Done (Some (Plain (reply.Saved e (sym count i)))) (record { draft = s.draft; base = sym based i; edition = e }))
+  -- the entry of a draft, by the tables that were added
+  save-entry : (payload : Database) → payload ≡ s.draft → (if several then entry.AddOn s.edition payload (plans payload) else entry.Add payload (plans payload)) ≡ save_entry several s
+  save-entry payload same = ap (λ db. if several then entry.AddOn s.edition db (plans db) else entry.Add db (plans db)) same
 
-pub save-full : (s : DeskState) (before after : RegisterHistory) (payload : Database) → IsSound s.draft → payload ≡ s.draft
-    → after ≡ before ++ move 1 (entry.Add payload (plans payload)) answer.FullEditions ∷ []
-    → Handles Spec.Save s before after (Some reply.FullEditions) s
-save-full s before after payload sound same grows =
-    handled-one Spec.Save s before after (entry.Add s.draft (plans s.draft)) answer.FullEditions (saved s) reply.FullEditions s
-    (way-save s sound) (grows ∙ ap (λ db. before ++ move 1 (entry.Add db (plans db)) answer.FullEditions ∷ []) same) refl
+  pub save-added : (before after : RegisterHistory) (payload base : Database) (e plans_made : ℕ) → IsSound s.draft → payload ≡ s.draft → base ≡ s.draft
+      → plans_made ≡ length (touched s.base s.draft) → after ≡ before ++ move seat (if several then entry.AddOn s.edition payload (plans payload) else entry.Add payload (plans payload)) (answer.Added e) ∷ []
+      → HandlesAt several seat Spec.Save s before after (Some (Plain (reply.Saved e plans_made))) (record { draft = s.draft; base = base; edition = e })
+  save-added before after payload base e plans_made sound same based count grows =
+      handled-one several seat Spec.Save s before after (save_entry several s) (answer.Added e) (saved s) (Plain (reply.Saved e plans_made)) (record { draft = s.draft; base = base; edition = e })
+      (way-save several s sound) (grows ∙ ap (λ x. before ++ move seat x (answer.Added e) ∷ []) (save-entry payload same))
+      (λ i. Done (Some (Plain (reply.Saved e (sym count i)))) (record { draft = s.draft; base = sym based i; edition = e }))
+
+  -- the register refused the draft
+  pub save-refused : (before after : RegisterHistory) (payload : Database) (a : Answer) (given : DeskReply) → IsSound s.draft → payload ≡ s.draft → saved s a ≡ Done (Some given) s
+      → after ≡ before ++ move seat (if several then entry.AddOn s.edition payload (plans payload) else entry.Add payload (plans payload)) a ∷ []
+      → HandlesAt several seat Spec.Save s before after (Some given) s
+  save-refused before after payload a given sound same told grows =
+      handled-one several seat Spec.Save s before after (save_entry several s) a (saved s) given s
+      (way-save several s sound) (grows ∙ ap (λ x. before ++ move seat x a ∷ []) (save-entry payload same)) told

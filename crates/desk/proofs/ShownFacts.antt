@@ -10,7 +10,7 @@ use Rattle.mib_model.specs.declared.register.Answer.TheVariants as answer
 use Rattle.mib_model.specs.declared.register.Entry.{Entry}
 use Rattle.mib_model.specs.declared.reply.Reply.{Reply}
 use Rattle.mib_model.specs.declared.rows.PcfRow.{PcfRow}
-use Rattle.mib_model.specs.Desk.{DeskState, says}
+use Rattle.mib_model.specs.Desk.{DeskState, Plain, says}
 use Rattle.mib_model.specs.DeskLines.{Request}
 use Rattle.mib_model.specs.DeskWays.{way_of, use_way, use_reply}
 use Rattle.mib_model.specs.Orders.{sorted_by}
@@ -19,7 +19,7 @@ use Rattle.turn_cell.specs.Seats.{own_moves, seen_by}
 use Rattle.edition_plans.specs.Params.{param_slices}
 use Rattle.edition_register.specs.declared.outcome.UseFault.{UseFault}
 use Rattle.edition_register.specs.declared.start.Start.{Start}
-use Rattle.edition_register.specs.Seats.{Moves, RegisterSeat, Uses, refused_by}
+use Rattle.edition_register.specs.Seats.{Moves, RegisterSeat, UsesAt, refused_by}
 use Rattle.fold_state.specs.Boards.{Slots, is_made_for, plan_names, planned_names}
 use Rattle.param_plan.specs.Slices.{ParamSlice, slice_for}
 use Rattle.desk.specs.Handling.{Handles}
@@ -28,22 +28,22 @@ use Rattle.desk.proofs.HandlingFacts.{handled-one}
 
 module _ {P : Type 0} where
   -- what was seen before a move is seen after it
-  seen-more : (n : ℕ) (first : Database) (old new : RegisterSeat P) (e : Entry) (a : Answer) → Moves n first old new e a → StartsWith (seen_by new) (seen_by old)
+  pub seen-more : (n : ℕ) (first : Database) (old new : RegisterSeat P) (e : Entry) (a : Answer) → Moves n first old new e a → StartsWith (seen_by new) (seen_by old)
   seen-more n first old new e a m =
       (m.later.0 ++ move n e a ∷ [], m.seen ∙ ap (λ h. h ++ move n e a ∷ []) m.later.1 ∙ append_assoc (seen_by old) m.later.0 (move n e a ∷ []))
 
 module _ {E B P : Type 0} where
-  pub used-seen : (first : Database) (old new : RegisterSeat P) (e : Entry) (start : Option (Start E B)) (given : Result ℕ (UseFault E B)) → Uses first old new e start given → StartsWith (seen_by new) (seen_by old)
-  used-seen first old new e start (Ok from) uses = seen-more 1 first old new e (answer.Used from) uses
-  used-seen first old new e start (Err refused) uses = seen-more 1 first old new e (refused_by refused).0 uses.0
+  pub used-seen : (n : ℕ) (first : Database) (old new : RegisterSeat P) (e : Entry) (start : Option (Start E B)) (given : Result ℕ (UseFault E B)) → UsesAt n first old new e start given → StartsWith (seen_by new) (seen_by old)
+  used-seen n first old new e start (Ok from) uses = seen-more n first old new e (answer.Used from) uses
+  used-seen n first old new e start (Err refused) uses = seen-more n first old new e (refused_by refused).0 uses.0
 
   pub used-handled : (request : Request) (s : DeskState) (edition : ℕ) (first : Database) (old new : RegisterSeat P) (e : Entry) (start : Option (Start E B)) (given : Result ℕ (UseFault E B)) (told : Reply)
-      → way_of false s request ≡ use_way s edition e → Uses first old new e start given → told ≡ used_reply edition given
+      → way_of false s request ≡ use_way s edition e → UsesAt 1 first old new e start given → told ≡ used_reply edition given
       → Handles request s (own_moves old) (own_moves new) (Some told) s
   used-handled request s edition first old new e start (Ok from) told is uses same =
-      handled-one request s (own_moves old) (own_moves new) e (answer.Used from) (λ a. says s (use_reply edition a)) told s is uses.own (ap (says s) (sym same))
+      handled-one false 1 request s (own_moves old) (own_moves new) e (answer.Used from) (λ a. says s (use_reply edition a)) (Plain told) s is uses.own (ap (says s) (sym same))
   used-handled request s edition first old new e start (Err refused) told is uses same =
-      handled-one request s (own_moves old) (own_moves new) e (refused_by refused).0 (λ a. says s (use_reply edition a)) told s is uses.0.own (ap (says s) (sym same))
+      handled-one false 1 request s (own_moves old) (own_moves new) e (refused_by refused).0 (λ a. says s (use_reply edition a)) (Plain told) s is uses.0.own (ap (says s) (sym same))
 
 -- ---- boards
 

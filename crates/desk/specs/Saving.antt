@@ -11,7 +11,6 @@ use Rattle.desk.specs.declared.saving.Ready.{Ready}
 -- each handle is of these tables, for which so many plans were compiled
 pub record IsReady (tables : Database) (plans : ℕ) (ready : Ready) : Type 0 where
   pub payload : arc_value ready.payload ≡ tables
-  pub kept : arc_value ready.kept ≡ tables
   pub base : arc_value ready.base ≡ tables
   pub count : ready.plans ≡ plans
 

@@ -1,11 +1,13 @@
-ghost use Rattle.std.specs.Prelude.{◌≡◌, ◌<◌, ◌≤◌, ◌+◌, ◌^◌, ◌∷◌, [], false, length, IfOk, Some, None};
+ghost use Rattle.std.specs.Prelude.{◌≡◌, ◌<◌, ◌≤◌, ◌+◌, ◌^◌, ◌∷◌, [], false, length, option_map, IfOk};
 ghost use Rattle.std.specs.Arc.{arc_value};
 ghost use Rattle.histories.specs.History.{StartsWith};
 ghost use Rattle.turn_cell.specs.Seats.{own_moves, seen_by};
 ghost use Rattle.edition_register.specs.Seats.{IsSeat, first_of, shown_in};
+ghost use Rattle.mib_model.specs.Desk.{Plain};
 ghost use Rattle.mib_model.specs.DeskLines.{request_of};
 
 use crate::draft::Draft;
+use crate::edits::{Entering, edit};
 use desk_lines::{Request, request_of};
 use edition::Edition;
 use edition_register::{Editions, Register};
@@ -74,7 +76,7 @@ impl Desk {
         ensures handles { HandlesLine line.now (desk_of self.old) (own_moves seat.old) (own_moves seat.new) result (desk_of self.new) }
         ensures few { length (own_moves seat.new) ≤ length (own_moves seat.old) + 1 }
         ensures seen { StartsWith (seen_by seat.new) (seen_by seat.old) }
-        ensures steps { Ticks (request_of false line.now) result steps.old steps.new }
+        ensures steps { Ticks (request_of false line.now) (option_map Plain result) steps.old steps.new }
     {
         self.handle(rt, alloc, register, seat, request_of(line), steps)
     }
@@ -97,22 +99,17 @@ impl Desk {
         ensures handles { Handles (asked request.entry) (desk_of self.old) (own_moves seat.old) (own_moves seat.new) result (desk_of self.new) }
         ensures few { length (own_moves seat.new) ≤ length (own_moves seat.old) + 1 }
         ensures seen { StartsWith (seen_by seat.new) (seen_by seat.old) }
-        ensures steps { Ticks (asked request.entry) result steps.old steps.new }
+        ensures steps { Ticks (asked request.entry) (option_map Plain result) steps.old steps.new }
     {
-        match request {
-            Request::Comment => None,
-            Request::TooLong => Some(Reply::TooLong),
-            Request::BadLine => Some(Reply::BadLine),
-            Request::BadTable => Some(Reply::BadTable),
-            Request::Put { table, row } => Some(self.put(alloc, table, row)),
-            Request::Delete { table, key } => Some(self.delete(alloc, table, key)),
-            Request::Save => Some(self.save(rt, alloc, register, seat, steps)),
-            Request::Drop => Some(self.restore()),
-            Request::Use { edition } => Some(self.use_now(rt, alloc, register, seat, edition)),
-            Request::UseFrom { edition, from } => {
+        match edit(&mut self.draft, alloc, request) {
+            Ok(reply) => reply,
+            Err(Entering::Save) => Some(self.save(rt, alloc, register, seat, steps)),
+            Err(Entering::Use { edition }) => {
+                Some(self.use_now(rt, alloc, register, seat, edition))
+            }
+            Err(Entering::UseFrom { edition, from }) => {
                 Some(self.use_from(rt, alloc, register, seat, edition, from))
             }
-            Request::Go => Some(Reply::Go),
         }
     }
 }

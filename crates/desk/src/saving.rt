@@ -5,6 +5,7 @@ ghost use Rattle.std.specs.Arc.{arc_value};
 ghost use Rattle.histories.specs.History.{StartsWith};
 ghost use Rattle.turn_cell.specs.Seats.{own_moves, seen_by};
 ghost use Rattle.edition_register.specs.Seats.{IsSeat, first_of, shown_in};
+ghost use Rattle.mib_model.specs.Desk.{Plain};
 ghost use Rattle.mib_model.specs.DeskLines as Spec;
 
 use crate::desk::Desk;
@@ -18,37 +19,38 @@ use std::sync::ledger::Ledger;
 use std::sync::{Arc, Wait};
 use turn_cell::Seat;
 
-/// An edition of the draft, ready to be added, with the handles that the desk keeps, and how many plans were compiled.
+/// An edition of the draft, ready to be added, with a handle for the draft's base, and how many plans were compiled.
 #[derive(Drop)]
-pub(crate) struct Ready {
-    payload: Arc<Edition>,
-    kept: Arc<Edition>,
-    base: Arc<Edition>,
-    plans: u32,
+pub struct Ready {
+    pub payload: Arc<Edition>,
+    pub base: Arc<Edition>,
+    pub plans: u32,
 }
 
-// Three handles of one edition.
-fn three_handles(alloc: Global, edition: Edition, plans: u32) -> Result<Ready, AllocError>
+// Two handles of one edition.
+fn two_handles(alloc: Global, edition: Edition, plans: u32) -> Result<Ready, AllocError>
     ensures { IfOk result (IsReady edition plans) }
 {
     let payload = Arc::new(alloc, edition)?;
-    let kept = Arc::try_clone(&payload)?;
     let base = Arc::try_clone(&payload)?;
     Ok(Ready {
         payload,
-        kept,
         base,
         plans,
     })
 }
 
-// The edition of a draft, or the reply to a draft that is none.
-fn amended<L: Ledger>(alloc: Global, draft: &Draft, steps: &mut Steps<L>) -> Result<Ready, Reply>
+/// The edition of a draft, or the reply to a draft that is none.
+pub fn amended<L: Ledger>(
+    alloc: Global,
+    draft: &Draft,
+    steps: &mut Steps<L>,
+) -> Result<Ready, Reply>
     ensures ready { MatchResult result (λ r. IsReadyFor draft.now.base draft.now.book r) (IsNoEdition draft.now.book) }
     ensures steps { IfOk result (λ r. steps.new ≡ steps.old + r.plans) }
 {
     match draft.amended(alloc, steps) {
-        Ok(amended) => match three_handles(alloc, amended.edition, amended.plans) {
+        Ok(amended) => match two_handles(alloc, amended.edition, amended.plans) {
             Ok(ready) => Ok(ready),
             Err(_) => Err(Reply::Want),
         },
@@ -78,18 +80,21 @@ impl Desk {
         ensures handles { Handles Spec.Save (desk_of self.old) (own_moves seat.old) (own_moves seat.new) (Some result) (desk_of self.new) }
         ensures few { length (own_moves seat.new) ≤ length (own_moves seat.old) + 1 }
         ensures seen { StartsWith (seen_by seat.new) (seen_by seat.old) }
-        ensures steps { Ticks Spec.Save (Some result) steps.old steps.new }
+        ensures steps { Ticks Spec.Save (Some (Plain result)) steps.old steps.new }
     {
         let ready = match amended(alloc, &self.draft, steps) {
             Ok(ready) => ready,
             Err(reply) => return reply,
+        };
+        let Ok(kept) = Arc::try_clone(&ready.payload) else {
+            return Reply::Want;
         };
         let Ok(()) = self.editions.reserve(1) else {
             return Reply::Want;
         };
         match register.add(rt, seat, ready.payload) {
             Ok(edition) => {
-                self.editions.push_reserved(ready.kept);
+                self.editions.push_reserved(kept);
                 self.draft.rebase(ready.base);
                 self.edition = edition;
                 Reply::Saved {

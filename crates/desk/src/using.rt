@@ -19,8 +19,8 @@ use std::alloc::{AllocError, Global};
 use std::sync::{Arc, Wait};
 use turn_cell::Seat;
 
-// What an activation of an edition hands in.
-fn start(alloc: Global, handle: &Arc<Edition>) -> Result<Start<Edition, Board>, AllocError>
+/// What an activation of an edition hands in.
+pub fn start(alloc: Global, handle: &Arc<Edition>) -> Result<Start<Edition, Board>, AllocError>
     ensures { IfOk result (λ start. IsStart (λ e. e) is_made_for (arc_value handle.now) start) }
 {
     let handle = Arc::try_clone(handle)?;
@@ -28,8 +28,8 @@ fn start(alloc: Global, handle: &Arc<Edition>) -> Result<Start<Edition, Board>, 
     Ok(Start { handle, board })
 }
 
-// The reply to an activation.
-fn reply_of(edition: u32, answer: Result<u64, UseFault<Edition, Board>>) -> Reply
+/// The reply to an activation.
+pub fn reply_of(edition: u32, answer: Result<u64, UseFault<Edition, Board>>) -> Reply
     ensures { result ≡ used_reply edition answer }
 {
     match answer {
