@@ -28,11 +28,11 @@ shows-one names Is failed page before now old new is above number wrote = record
   written = subst (WritesUnless failed old new) (sym (append-nil (page_text names page))) wrote;
 }
 
-all-both : (Is : Page → Type 0) (xs ys : List Page) → AllByRecursion Is xs → AllByRecursion Is ys → AllByRecursion Is (xs ++ ys)
+pub all-both : (Is : Page → Type 0) (xs ys : List Page) → AllByRecursion Is xs → AllByRecursion Is ys → AllByRecursion Is (xs ++ ys)
 all-both Is [] ys all more = more
 all-both Is (x ∷ xs) ys all more = (all.0, all-both Is xs ys all.1 more)
 
-rises-both : (low : ℕ) (xs ys : List Page) → RisesAbove low xs → RisesAbove (last_number low xs) ys → RisesAbove low (xs ++ ys)
+pub rises-both : (low : ℕ) (xs ys : List Page) → RisesAbove low xs → RisesAbove (last_number low xs) ys → RisesAbove low (xs ++ ys)
 rises-both low [] ys rise more = more
 rises-both low (x ∷ xs) ys rise more = (rise.0, rises-both x.number xs ys rise.1 more)
 

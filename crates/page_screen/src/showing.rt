@@ -2,7 +2,7 @@
 ghost use Rattle.std.specs.Prelude.{◌≡◌, ◌≤◌, ◌⊎◌, length, max, OnOk};
 ghost use Rattle.std.specs.Result.{is_err};
 ghost use Rattle.page_board.specs.Ends.{board_noted, board_seen_by, known_by, pages_noted};
-ghost use Rattle.page_board.specs.Views.{BeginsWith, IsShownBy};
+ghost use Rattle.page_board.specs.Views.{BeginsWith, IsShownBy, page_shown};
 ghost use Rattle.page_screen.specs.Ends.{board_of, names_of, seen_by};
 ghost use Rattle.page_screen.specs.Shows.{Shows};
 ghost use Rattle.tm_io.specs.Causes.{HasCause};
@@ -90,6 +90,19 @@ impl Display {
             thread::yield_now();
         }
         unreachable!()
+    }
+
+    /// Takes in a note of what was published of a board on which no more is published, and writes nothing, as where the screen has failed: the
+    /// page that was published last.
+    pub fn catch_up<R: Wait>(&mut self, rt: &R, note: Note) -> Page
+        requires { board_noted note ≡ board_of self.old }
+        ensures last { result ≡ page_shown (pages_noted note) }
+        ensures seen { seen_by self.new ≡ pages_noted note }
+        ensures later { BeginsWith (pages_noted note) (seen_by self.old) }
+        ensures names { names_of self.new ≡ names_of self.old }
+        ensures shown { self.new.shown ≡ self.old.shown }
+    {
+        catch_up(rt, &mut self.viewer, note)
     }
 
     /// Writes what was not yet written of a board on which no more is published: the page that was published last, by a note that was made

@@ -76,8 +76,8 @@ fn workers_in(word: &str) -> Option<u8>
     }
 }
 
-// The number of workers by all words that give one.
-fn workers_of(words: &[&str]) -> Option<u8>
+/// The number of workers by all words that give one.
+pub(crate) fn workers_of(words: &[&str]) -> Option<u8>
     ensures { result ≡ Words.workers_of (texts words.now) }
 {
     match words {
