@@ -1,5 +1,5 @@
 -- A whole live run, by what its two sides did and by the history at its end.
-use Rattle.std.proofs.Common.{◌≡◌, ℕ, ◌+◌, ◌<◌, ◌^◌, Bool, true, false, arith, [], ◌∷◌, map, length, Some, Result, refl, sym, ap, ◌∙◌, subst}
+use Rattle.std.proofs.Common.{◌≡◌, ℕ, ◌+◌, ◌<◌, ◌^◌, Bool, true, false, arith, List, [], ◌∷◌, ◌++◌, map, length, Some, Result, refl, sym, ap, ◌∙◌, subst}
 use Rattle.decode_session.specs.declared.ending.RunEnd.{RunEnd}
 use Rattle.decode_session.specs.declared.ending.RunFault.{RunFault}
 use Rattle.decode_session.specs.Causes.{HasOutCause}
@@ -12,16 +12,16 @@ use Rattle.mib_model.specs.Texts.{rest_unless}
 use Rattle.tm_io.specs.Octets.{WritesUnless}
 use Rattle.tm_io.specs.Causes.{RisesWhere}
 use Rattle.live_session.specs.Codes.{code_by}
-use Rattle.live_session.specs.Live.{Lives, Prints, object}
-use Rattle.live_session.specs.Sides.{Intakes}
+use Rattle.live_session.specs.Live.{IsWatched, Lives, Prints, object}
 use Rattle.live_session.proofs.EndFacts.{Known, code-is, few-packets, out-counts, read-out}
 use Rattle.live_session.proofs.PlanFacts.{plans-of}
-use Rattle.live_session.proofs.StampFacts.{reads-ahead, stamps-count, text-same}
+use Rattle.live_session.proofs.StampFacts.{members-same, none-left, reads-ahead, stamps-count, text-same}
 use Rattle.mib_model.specs.declared.code.Code.{Code}
 use Rattle.mib_model.specs.declared.database.Database.{Database}
 use Rattle.mib_model.specs.DeskRuns.{Calls, moves_by}
 use Rattle.mib_model.specs.RegisterHistories.{IsRegisterHistory, MayEnter, RegisterHistory}
-use Rattle.packet_run.specs.Runs.{is_out_failed}
+use Rattle.packet_run.specs.Runs.{Runs, is_out_failed}
+use Rattle.packet_run.specs.Told.{Member, begun}
 
 calls-back : (calls : Calls) → map (λ m. (m.entry, m.reply)) (moves_by calls) ≡ calls
 calls-back [] = refl
@@ -62,9 +62,9 @@ desked-on e first entries seen all left behind w0 w1 on d = record {
   before = d.before;
 }
 
-module _ (ended : Result RunEnd RunFault) (first : Database) (history own : RegisterHistory) (legal : IsRegisterHistory first history) (permits : Permits MayEnter history) (is : moves_of 0 history ≡ own) where
+module _ {W : Type 0} (stands : W → List Member → Type 0) (watch watched : W) (ended : Result RunEnd RunFault) (first : Database) (history own : RegisterHistory) (legal : IsRegisterHistory first history) (permits : Permits MayEnter history) (is : moves_of 0 history ≡ own) where
   -- what an intake printed is the output of the history
-  prints-of : (before now out_before out_now : ℕ) (l0 l1 w0 w1 : Known) → HasOutCause ended out_before out_now → Intakes ended first own before now l0 l1 w0 w1 → Prints first history (object l0 l1 before now) (object w0 w1 out_before out_now)
+  prints-of : (before now out_before out_now : ℕ) (l0 l1 w0 w1 : Known) → HasOutCause ended out_before out_now → Runs stands ended (begun first watch w0) own before now l0 l1 watched w1 → Prints first history (object l0 l1 before now) (object w0 w1 out_before out_now)
   prints-of before now out_before out_now l0 l1 w0 w1 cause i = record {
     read = i.read;
     packets = i.packets;
@@ -85,11 +85,11 @@ module _ (ended : Result RunEnd RunFault) (first : Database) (history own : Regi
   }
 
   -- a live run
-  pub lives-of : (c : Code) (e : DeskEnd) (seen : RegisterHistory) (stood stands : Standing) (before now desk_before desk_now out_before out_now reply_before reply_now : ℕ) (l0 l1 w0 w1 : Known) → c ≡ code_by ended e → IsOfSeatsBelow 2 history → moves_of 1 history ≡ stands.held.own
-      → StartsWith history seen → HasOutCause ended out_before out_now → Intakes ended first own before now l0 l1 w0 w1 → DeskedBy e first seen stood stands → HasDeskCause (Some e) desk_before desk_now → HasRepliesCause (Some e) reply_before reply_now
-      → Lives c first history (object l0 l1 before now) (object stood.left stands.left desk_before desk_now) (object w0 w1 out_before out_now) (object stood.held.written stands.held.written reply_before reply_now)
+  pub lives-of : (c : Code) (e : DeskEnd) (seen : RegisterHistory) (stood behind : Standing) (before now desk_before desk_now out_before out_now reply_before reply_now : ℕ) (l0 l1 w0 w1 : Known) → c ≡ code_by ended e → IsOfSeatsBelow 2 history → moves_of 1 history ≡ behind.held.own
+      → StartsWith history seen → HasOutCause ended out_before out_now → Runs stands ended (begun first watch w0) own before now l0 l1 watched w1 → DeskedBy e first seen stood behind → HasDeskCause (Some e) desk_before desk_now → HasRepliesCause (Some e) reply_before reply_now
+      → Lives c first history (object l0 l1 before now) (object stood.left behind.left desk_before desk_now) (object w0 w1 out_before out_now) (object stood.held.written behind.held.written reply_before reply_now)
   unfolding prints-of
-  lives-of c e seen stood stands before now desk_before desk_now out_before out_now reply_before reply_now l0 l1 w0 w1 is_code below desk_is on cause i desked desk_cause reply_cause =
+  lives-of c e seen stood behind before now desk_before desk_now out_before out_now reply_before reply_now l0 l1 w0 w1 is_code below desk_is on cause i desked desk_cause reply_cause =
       let entries = desked.0 in let d = desked.2 in
       let calls : calls_of 1 history ≡ entries = ap (λ (ms : RegisterHistory). map (λ m. (m.entry, m.reply)) ms) (desk_is ∙ desked.1) ∙ calls-back entries in
       record {
@@ -101,8 +101,19 @@ module _ (ended : Result RunEnd RunFault) (first : Database) (history own : Regi
         };
         prints = prints-of before now out_before out_now l0 l1 w0 w1 cause i;
         desk_end = e;
-        desked = subst (λ cs. Desked e first cs history stood.left stands.left stood.held.written stands.held.written) (sym calls) (desked-on e first entries seen history stood.left stands.left stood.held.written stands.held.written on d);
+        desked = subst (λ cs. Desked e first cs history stood.left behind.left stood.held.written behind.held.written) (sym calls) (desked-on e first entries seen history stood.left behind.left stood.held.written behind.held.written on d);
         desk_count = desk_cause;
         replies_count = reply_cause;
         is_code = is_code ∙ code-is ended e i.feed_failed i.packets i.rest l0 l1 i.is_failed i.ends i.limit;
       }
+
+  -- and what its watch was told
+  pub watched-of : (c : Code) (e : DeskEnd) (seen : RegisterHistory) (stood behind : Standing) (before now desk_before desk_now out_before out_now reply_before reply_now : ℕ) (l0 l1 w0 w1 : Known) → c ≡ code_by ended e → IsOfSeatsBelow 2 history → moves_of 1 history ≡ behind.held.own
+      → StartsWith history seen → HasOutCause ended out_before out_now → Runs stands ended (begun first watch w0) own before now l0 l1 watched w1 → DeskedBy e first seen stood behind → HasDeskCause (Some e) desk_before desk_now → HasRepliesCause (Some e) reply_before reply_now
+      → IsWatched stands c first history (object l0 l1 before now) (object stood.left behind.left desk_before desk_now) (object w0 w1 out_before out_now) (object stood.held.written behind.held.written reply_before reply_now) watch watched
+  unfolding lives-of prints-of reads-ahead
+  watched-of c e seen stood behind before now desk_before desk_now out_before out_now reply_before reply_now l0 l1 w0 w1 is_code below desk_is on cause i desked desk_cause reply_cause = record {
+    lives = lives-of c e seen stood behind before now desk_before desk_now out_before out_now reply_before reply_now l0 l1 w0 w1 is_code below desk_is on cause i desked desk_cause reply_cause;
+    all = λ unfailed. none-left first history own legal permits is i.commits.count i.packets i.many (i.commits.all unfailed);
+    told = λ told standing. subst (λ (ms : List Member). stands watched (told ++ ms)) (members-same first history own legal permits is i.commits.count i.packets) (i.commits.told told standing);
+  }

@@ -1,7 +1,7 @@
 -- The packets of a live run by the stamps of its history.
 use Rattle.std.proofs.Common.{◌≡◌, ℕ, zero, suc, ◌+◌, ◌≤◌, ◌==◌, false, cond, List, [], ◌∷◌, ◌++◌, map, length, take, drop, Option, refl, sym, ap, ◌∙◌, subst, append-nil, arith}
 use Rattle.std.proofs.lemmas.Bool.{false≢true}
-use Rattle.std.proofs.lemmas.List.{length-drop, take-append-drop}
+use Rattle.std.proofs.lemmas.List.{drop_all, length-drop, take-append-drop}
 use Rattle.std.specs.Io.KnownBytes.{Appends}
 use Rattle.std.specs.List.{AllByRecursion, cons_option, filter_map, zip}
 use Rattle.decode_session.specs.Run.{most_in_flight}
@@ -9,7 +9,7 @@ use Rattle.edition_register.specs.Shown.{HasItsTables}
 use Rattle.edition_register.proofs.RegisterFacts.{all-filter, tables-stay}
 use Rattle.histories.specs.declared.history.Move.{Move}
 use Rattle.histories.specs.History.{IsLegal, Permits, move, moves_of}
-use Rattle.live_session.specs.Live.{ReadsAhead, object}
+use Rattle.live_session.specs.Live.{ReadsAhead, members_by, object}
 use Rattle.mib_laws.proofs.RegisterFacts.{seats-show}
 use Rattle.mib_model.specs.declared.database.Database.{Database}
 use Rattle.mib_model.specs.declared.register.Answer.{Answer}
@@ -23,6 +23,7 @@ use Rattle.mib_model.specs.Output.{output, stamped_in}
 use Rattle.mib_model.specs.Register.{answer_to, after, opening}
 use Rattle.mib_model.specs.RegisterHistories.{IsRegisterHistory, MayEnter, RegisterHistory, register_after, stamp_in, stamps}
 use Rattle.packet_run.specs.Stamped.{stamped_by_moves, stamped_with, text_of}
+use Rattle.packet_run.specs.Told.{Member, members_from}
 
 -- a reply is a stamp
 abbrev IsStamp : Answer → Type 0
@@ -133,19 +134,27 @@ module _ (first : Database) (history own : RegisterHistory) (legal : IsRegisterH
   text-same packets tail = ap (λ l. records_text (interpret (start first) l) ++ tail) (stamped-same packets)
 
   -- the packets of the first stamps
-  first-stamped : (n : ℕ) (packets : List (List ℕ)) → take n (by_moves own packets) ≡ by_moves own (take n packets)
+  pub first-stamped : (n : ℕ) (packets : List (List ℕ)) → take n (by_moves own packets) ≡ by_moves own (take n packets)
   unfolding Output.stamped_by
   first-stamped n packets =
       ap (λ ss. take n ss) (stamped-same packets) ∙ taken (stamped_in (register_after first history)) n (stamps history) packets ∙ sym (stamped-same (take n packets))
 
   -- as many as the packets
-  stamped-count : (packets : List (List ℕ)) → length packets ≡ length own → length (by_moves own packets) ≡ length packets
+  pub stamped-count : (packets : List (List ℕ)) → length packets ≡ length own → length (by_moves own packets) ≡ length packets
   unfolding Output.stamped_by
   stamped-count packets many =
       ap (λ (ss : List StampedPacket). length ss) (stamped-same packets) ∙ zipped-count (stamped_in (register_after first history)) (stamps history) packets (stamps-count ∙ sym many)
 
+  -- what a watch is told of the first packets
+  pub members-same : (n : ℕ) (packets : List (List ℕ)) → members_from (start first) (take n (by_moves own packets)) ≡ members_by first history (take n packets)
+  members-same n packets = ap (λ (ss : List StampedPacket). members_from (start first) ss) (first-stamped n packets ∙ stamped-same (take n packets))
+
+  -- behind as many packets as are stamped none is left
+  pub none-left : (n : ℕ) (packets : List (List ℕ)) → length packets ≡ length own → n ≡ length (by_moves own packets) → drop n packets ≡ []
+  none-left n packets many all = drop_all n packets (let s = stamped-count packets many in omega (arith, s, all))
+
   -- where so many records were written whole, and maybe more, no more packets were read behind them than may be in flight
-  pub reads-ahead : (packets : List (List ℕ)) (count : ℕ) (more : List ℕ) (old new : Option (List ℕ)) (before now : ℕ) → length packets ≡ length own
+  unfoldable pub reads-ahead : (packets : List (List ℕ)) (count : ℕ) (more : List ℕ) (old new : Option (List ℕ)) (before now : ℕ) → length packets ≡ length own
       → length (by_moves own packets) ≤ count + most_in_flight → Appends old new (text_of first (take count (by_moves own packets)) ++ more)
       → ReadsAhead first history packets (object old new before now)
   reads-ahead packets count more old new before now many few least = record {

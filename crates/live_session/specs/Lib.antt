@@ -1,3 +1,4 @@
 pub mod Codes
 pub mod Sides
 pub mod Live
+pub mod Opened

@@ -12,13 +12,15 @@ use Rattle.tm_io.specs.Causes.{RisesWhere}
 use Rattle.mib_model.specs.declared.code.Code.{Code}
 use Rattle.mib_model.specs.declared.database.Database.{Database}
 use Rattle.mib_model.specs.Endings.{Ending, code_of_ending}
-use Rattle.mib_model.specs.Output.{output}
+use Rattle.mib_model.specs.Interpreter.{start}
+use Rattle.mib_model.specs.Output.{output, stamped_by}
 use Rattle.mib_model.specs.Packets.{IsCut}
 use Rattle.edition_register.specs.declared.outcome.Closed.{Closed}
 use Rattle.edition_register.specs.Seats.{history_of}
 use Rattle.mib_model.specs.declared.meaning.MadeFor as MadeFor
 use Rattle.mib_model.specs.declared.meaning.Rows as Rows
 use Rattle.mib_model.specs.Register.{count_of_editions}
+use Rattle.packet_run.specs.Told.{Member, members_from}
 use Rattle.mib_model.specs.RegisterHistories.{AddsItsPlans, IsRegisterHistory, MayEnter, RegisterHistory, register_after, stamps}
 
 -- an object before and behind a call: its octets, where it tells them, and how often it failed
@@ -106,3 +108,15 @@ pub record Lives (code : Code) (first : Database) (history : RegisterHistory) (f
   pub desk_count : RisesWhere (is_desk_fault desk_end) desk.before desk.now
   pub replies_count : RisesWhere (is_reply_fault desk_end) replies.before replies.now
   pub is_code : code ≡ code_of_ending (ending_of prints.out_failed prints.feed_failed desk_end prints.rest prints.packets)
+
+-- what a watch is told of packets, by their stamps in a history
+abbrev pub members_by : Database → RegisterHistory → List (List ℕ) → List Member
+members_by first history packets = members_from (start first) (stamped_by first history packets)
+
+module _ {W : Type 0} (stands : W → List Member → Type 0) where
+  -- a live run with a watch: it was told of the packets whose records were printed whole, in their order, which are all that were read
+  -- unless the output failed
+  pub record IsWatched (code : Code) (first : Database) (history : RegisterHistory) (feed desk out replies : Object) (watch watched : W) : Type 0 where
+    pub lives : Lives code first history feed desk out replies
+    pub all : lives.prints.out_failed ≡ false → lives.prints.ahead.others ≡ []
+    pub told : (told : List Member) → stands watch told → stands watched (told ++ members_by first history lives.prints.ahead.printed)

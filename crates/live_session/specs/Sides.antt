@@ -9,10 +9,9 @@ use Rattle.mib_model.specs.declared.database.Database.{Database}
 use Rattle.mib_model.specs.Kept.{empty_memory}
 use Rattle.mib_model.specs.RegisterHistories.{RegisterHistory}
 use Rattle.packet_run.specs.declared.stock.Stock.{Stock}
-use Rattle.packet_run.specs.declared.watch.NoWatch.{NoWatch}
 use Rattle.packet_run.specs.Runs.{Runs}
 use Rattle.packet_run.specs.Stocks.{IsFresh, rooms_out}
-use Rattle.packet_run.specs.Told.{begun}
+use Rattle.packet_run.specs.Told.{Member, begun}
 use Rattle.struct_plan.specs.declared.structure.Structures as Structures
 
 -- the first edition waits for its run with a board that keeps nothing, and no run was made with the stock
@@ -21,11 +20,7 @@ pub record IsReady {plans : Structures.Ghosts Database} (first : Database) (star
   pub fresh : IsFresh stock
   pub home : rooms_out stock ≡ 0
 
--- nobody watches
-abbrev pub nobody : NoWatch
-nobody = record {}
-
--- a run of which nobody was told: what it read of the feed, with these counts of faults, and what it wrote
-abbrev pub Intakes : Result RunEnd RunFault → Database → RegisterHistory → ℕ → ℕ → Option (List ℕ) → Option (List ℕ) → Option (List ℕ) → Option (List ℕ) → Type 0
-Intakes result first own before now start_left left old new =
-    Runs (λ (watch : NoWatch) told. Unit {0}) result (begun first nobody old) own before now start_left left nobody new
+module _ {W : Type 0} (stands : W → List Member → Type 0) where
+  -- a run of which a watch was told: what it read of the feed, with these counts of faults, and what it wrote
+  abbrev pub Intakes : Result RunEnd RunFault → Database → RegisterHistory → ℕ → ℕ → Option (List ℕ) → Option (List ℕ) → Option (List ℕ) → Option (List ℕ) → W → W → Type 0
+  Intakes result first own before now start_left left old new watch watched = Runs stands result (begun first watch old) own before now start_left left watched new

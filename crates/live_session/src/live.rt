@@ -1,17 +1,14 @@
 //! A live run.
-ghost use Rattle.std.specs.Prelude.{◌≡◌, ◌≢◌, ◌≤◌, ◌∷◌, [], IfOk, OnErr};
-ghost use Rattle.desk.specs.State.{desk_of, editions_of};
+ghost use Rattle.std.specs.Prelude.{◌≡◌, ◌≢◌, ◌≤◌, IfOk, OnErr};
 ghost use Rattle.desk_lines.specs.Ahead.{reading_start};
 ghost use Rattle.desk_lines.specs.Reader.{reading_of, source_of};
-ghost use Rattle.edition_register.specs.Seats.{IsSeat, first_of, history_of};
-ghost use Rattle.live_session.specs.Live.{EndsAs, Lives, StaysHandedOn, object};
-ghost use Rattle.live_session.specs.Sides.{IsReady};
-ghost use Rattle.mib_model.specs.Desk.{desk_start};
+ghost use Rattle.edition_register.specs.Seats.{history_of};
+ghost use Rattle.live_session.specs.Live.{EndsAs, IsWatched, Lives, StaysHandedOn, object};
+ghost use Rattle.live_session.specs.Opened.{IsOpened, first_in, watch_in};
 ghost use Rattle.packet_feed.specs.Feed.{SourceStays};
-ghost use Rattle.turn_cell.specs.Seats.{own_moves};
 
 use crate::code::merged;
-use crate::opening::{Opened, open};
+use crate::opening::LiveRun;
 use crate::run::run;
 use crate::sides::IntakeSide;
 use desk_lines::DeskReader;
@@ -19,6 +16,7 @@ use edition::Edition;
 use edition_register::Closed;
 use fold_state::Board;
 use mib_model::Code;
+use packet_run::{NoWatch, Watch};
 use std::alloc::{AllocError, Global};
 use std::sync::Wait;
 use std::thread::Threads;
@@ -31,6 +29,13 @@ pub struct Lived {
     pub closed: Closed<Edition, Board>,
 }
 
+/// A live run that was watched: how it ended, and its watch.
+#[derive(Drop)]
+pub struct Watched<W> {
+    pub lived: Lived,
+    pub watch: W,
+}
+
 // Runs what was opened over the lines of a reader, and closes the register.
 fn run_opened<
     R: Threads + Wait + Sync,
@@ -39,34 +44,31 @@ fn run_opened<
     O: Sink,
     P: Sink + Send,
     G: Gate + Sync,
+    W: Watch + Drop,
 >(
     rt: &R,
     alloc: Global,
-    opened: Opened,
+    opened: LiveRun<W>,
     reader: &mut DeskReader<D>,
     feed: &mut F,
     out: &mut O,
     replies: &mut P,
     gate: &G,
-) -> Lived
-    requires intake { IsSeat 0 opened.register opened.intake.seat × (own_moves opened.intake.seat ≡ []) }
-    requires ready { IsReady (first_of opened.register) opened.intake.first opened.intake.stock }
-    requires seat { IsSeat 1 opened.register opened.seat × (own_moves opened.seat ≡ []) }
-    requires draft { desk_of opened.desk ≡ desk_start (first_of opened.register) }
-    requires editions { editions_of opened.desk ≡ first_of opened.register ∷ [] }
+) -> Watched<W>
+    requires opened { IsOpened opened }
     requires start { reading_of reader.old ≡ reading_start }
-    ensures lives { Lives result.code (first_of opened.register) (history_of result.closed)
+    ensures watched { IsWatched W.stands result.lived.code (first_in opened) (history_of result.lived.closed)
         (object (F.left feed.old) (F.left feed.new) (F.faults feed.old) (F.faults feed.new))
         (object (D.left (source_of reader.old)) (D.left (source_of reader.new)) (D.faults (source_of reader.old)) (D.faults (source_of reader.new)))
         (object (O.written out.old) (O.written out.new) (O.faults out.old) (O.faults out.new))
-        (object (P.written replies.old) (P.written replies.new) (P.faults replies.old) (P.faults replies.new)) }
-    ensures handed { result.code ≢ Code.OutFault → O.handed out.new ≡ O.written out.new }
+        (object (P.written replies.old) (P.written replies.new) (P.faults replies.old) (P.faults replies.new)) (watch_in opened) result.watch }
+    ensures handed { result.lived.code ≢ Code.OutFault → O.handed out.new ≡ O.written out.new }
     ensures replied { StaysHandedOn (P.faults replies.old) (P.faults replies.new) P.written P.handed replies.old replies.new }
-    ensures numbers { EndsAs (first_of opened.register) result.closed }
+    ensures numbers { EndsAs (first_in opened) result.lived.closed }
     ensures feed_kept { (F.holds feed.new ≡ F.holds feed.old) × (F.missed feed.new ≡ F.missed feed.old) }
     ensures desk_kept { SourceStays D.holds D.missed D.borrow (source_of reader.old) (source_of reader.new) }
 {
-    let Opened {
+    let LiveRun {
         register,
         mut intake,
         mut seat,
@@ -87,11 +89,51 @@ fn run_opened<
     );
     let IntakeSide {
         seat: intake_seat,
+        watch,
         ..
     } = intake;
-    Lived {
+    let lived = Lived {
         code: merged(ended, end),
         closed: register.close(intake_seat, seat),
+    };
+    Watched { lived, watch }
+}
+
+impl<W: Watch + Drop> LiveRun<W> {
+    /// The lines of the desk up to the first `go` are handled before a packet is read; then the packets of the feed are printed, and the
+    /// watch is told of each whose record was written whole, while the other lines are handled in another thread. It reads at most 32
+    /// packets ahead of what it has printed, and waits for its turn at the register; a worker calls the gate before it works on a packet.
+    pub fn run<
+        R: Threads + Wait + Sync,
+        F: Source,
+        D: Source + Send,
+        O: Sink,
+        P: Sink + Send,
+        G: Gate + Sync,
+    >(
+        self,
+        rt: &R,
+        alloc: Global,
+        feed: &mut F,
+        desk: &mut D,
+        out: &mut O,
+        replies: &mut P,
+        gate: &G,
+    ) -> Watched<W>
+        requires { IsOpened self }
+        ensures watched { IsWatched W.stands result.lived.code (first_in self) (history_of result.lived.closed)
+            (object (F.left feed.old) (F.left feed.new) (F.faults feed.old) (F.faults feed.new))
+            (object (D.left desk.old) (D.left desk.new) (D.faults desk.old) (D.faults desk.new))
+            (object (O.written out.old) (O.written out.new) (O.faults out.old) (O.faults out.new))
+            (object (P.written replies.old) (P.written replies.new) (P.faults replies.old) (P.faults replies.new)) (watch_in self) result.watch }
+        ensures handed { result.lived.code ≢ Code.OutFault → O.handed out.new ≡ O.written out.new }
+        ensures replied { StaysHandedOn (P.faults replies.old) (P.faults replies.new) P.written P.handed replies.old replies.new }
+        ensures numbers { EndsAs (first_in self) result.lived.closed }
+        ensures feed_kept { (F.holds feed.new ≡ F.holds feed.old) × (F.missed feed.new ≡ F.missed feed.old) }
+        ensures desk_kept { (D.holds desk.new ≡ D.holds desk.old) × (D.missed desk.new ≡ D.missed desk.old) }
+    {
+        let mut reader = DeskReader::new(desk);
+        run_opened(rt, alloc, self, &mut reader, feed, out, replies, gate)
     }
 }
 
@@ -130,10 +172,9 @@ pub fn live_run<
     ensures desk_kept { (D.holds desk.new ≡ D.holds desk.old) × (D.missed desk.new ≡ D.missed desk.old) }
     ensures untouched { OnErr result ((feed.new ≡ feed.old) × (desk.new ≡ desk.old) × (out.new ≡ out.old) × (replies.new ≡ replies.old)) }
 {
-    let opened = match open(alloc, first, workers) {
+    let opened = match LiveRun::open(alloc, first, workers, NoWatch) {
         Ok(opened) => opened,
         Err(want) => return Err(want),
     };
-    let mut reader = DeskReader::new(desk);
-    Ok(run_opened(rt, alloc, opened, &mut reader, feed, out, replies, gate))
+    Ok(opened.run(rt, alloc, feed, desk, out, replies, gate).lived)
 }

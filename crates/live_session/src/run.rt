@@ -23,6 +23,7 @@ use edition::Edition;
 use edition_register::{Editions, Register};
 use fold_state::Board;
 use live_desk::DeskEnd;
+use packet_run::Watch;
 use std::alloc::Global;
 use std::sync::Wait;
 use std::thread;
@@ -38,11 +39,12 @@ fn run_both<
     O: Sink,
     P: Sink + Send,
     G: Gate + Sync,
+    W: Watch,
 >(
     rt: &R,
     alloc: Global,
     register: &Register<Edition, Board>,
-    intake: &mut IntakeSide,
+    intake: &mut IntakeSide<W>,
     seat: &mut Seat<Editions<Edition, Board>>,
     desk: &mut Desk,
     reader: &mut DeskReader<D>,
@@ -60,8 +62,8 @@ fn run_both<
     ensures intake { IsSeat 0 register.now intake.new.seat }
     ensures seen { StartsWith (seen_by intake.new.seat) (seen_by intake.old.seat) }
     ensures intakes { let first = first_of register.now in
-        Intakes result.0 first (own_moves intake.new.seat) (F.faults feed.old) (F.faults feed.new) (F.left feed.old) (F.left feed.new)
-        (O.written out.old) (O.written out.new) }
+        Intakes W.stands result.0 first (own_moves intake.new.seat) (F.faults feed.old) (F.faults feed.new) (F.left feed.old) (F.left feed.new)
+        (O.written out.old) (O.written out.new) intake.old.watch intake.new.watch }
     ensures out { HasOutCause result.0 (O.faults out.old) (O.faults out.new) }
     ensures handed { result.0 ≢ Err (RunFault.Print Stop.Out) → O.handed out.new ≡ O.written out.new }
     ensures feed_kept { (F.holds feed.new ≡ F.holds feed.old) × (F.missed feed.new ≡ F.missed feed.old) }
@@ -93,11 +95,12 @@ pub(crate) fn run<
     O: Sink,
     P: Sink + Send,
     G: Gate + Sync,
+    W: Watch,
 >(
     rt: &R,
     alloc: Global,
     register: &Register<Edition, Board>,
-    intake: &mut IntakeSide,
+    intake: &mut IntakeSide<W>,
     seat: &mut Seat<Editions<Edition, Board>>,
     desk: &mut Desk,
     reader: &mut DeskReader<D>,
@@ -116,8 +119,8 @@ pub(crate) fn run<
     requires editions { editions_of desk.old ≡ shown_in (first_of register.now) (own_moves seat.old) }
     ensures intake { IsSeat 0 register.now intake.new.seat }
     ensures intakes { let first = first_of register.now in
-        Intakes result.0 first (own_moves intake.new.seat) (F.faults feed.old) (F.faults feed.new) (F.left feed.old) (F.left feed.new)
-        (O.written out.old) (O.written out.new) }
+        Intakes W.stands result.0 first (own_moves intake.new.seat) (F.faults feed.old) (F.faults feed.new) (F.left feed.old) (F.left feed.new)
+        (O.written out.old) (O.written out.new) intake.old.watch intake.new.watch }
     ensures out { HasOutCause result.0 (O.faults out.old) (O.faults out.new) }
     ensures handed { result.0 ≢ Err (RunFault.Print Stop.Out) → O.handed out.new ≡ O.written out.new }
     ensures feed_kept { (F.holds feed.new ≡ F.holds feed.old) × (F.missed feed.new ≡ F.missed feed.old) }

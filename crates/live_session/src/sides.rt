@@ -20,7 +20,7 @@ use edition_register::{Editions, Register, Start};
 use fold_state::Board;
 use live_desk::{DeskEnd, work};
 use mib_model::Steps;
-use packet_run::{NoWatch, Stock, run_packets};
+use packet_run::{Stock, Watch, run_packets};
 use std::alloc::Global;
 use std::marker::Brand;
 use std::sync::Wait;
@@ -29,21 +29,23 @@ use std::thread::Threads;
 use tm_io::{Gate, Sink, Source};
 use turn_cell::Seat;
 
-/// What the intake owns: its seat, the first edition until its run begins, what the run needs, and how many workers decode.
+/// What the intake owns: its seat, the first edition until its run begins, what the run needs, how many workers decode, and what is
+/// told of the packets.
 #[derive(Drop)]
-pub(crate) struct IntakeSide {
+pub(crate) struct IntakeSide<W> {
     pub seat: Seat<Editions<Edition, Board>>,
     pub first: Option<Start<Edition, Board>>,
     pub stock: Stock<Edition>,
     pub workers: u8,
+    pub watch: W,
     ghost many: { (1 ≤ workers) × (workers ≤ 16) },
 }
 
 /// Takes in the packets of a feed.
-pub(crate) fn run_intake<F: Source, O: Sink, G: Gate + Sync, R: Threads + Wait + Sync>(
+pub(crate) fn run_intake<F: Source, O: Sink, G: Gate + Sync, W: Watch, R: Threads + Wait + Sync>(
     rt: &R,
     register: &Register<Edition, Board>,
-    side: &mut IntakeSide,
+    side: &mut IntakeSide<W>,
     feed: &mut F,
     out: &mut O,
     gate: &G,
@@ -54,8 +56,8 @@ pub(crate) fn run_intake<F: Source, O: Sink, G: Gate + Sync, R: Threads + Wait +
     ensures seat { IsSeat 0 register.now side.new.seat }
     ensures seen { StartsWith (seen_by side.new.seat) (seen_by side.old.seat) }
     ensures intakes { let first = first_of register.now in
-        Intakes result first (own_moves side.new.seat) (F.faults feed.old) (F.faults feed.new) (F.left feed.old) (F.left feed.new)
-        (O.written out.old) (O.written out.new) }
+        Intakes W.stands result first (own_moves side.new.seat) (F.faults feed.old) (F.faults feed.new) (F.left feed.old) (F.left feed.new)
+        (O.written out.old) (O.written out.new) side.old.watch side.new.watch }
     ensures out { HasOutCause result (O.faults out.old) (O.faults out.new) }
     ensures handed { result ≢ Err (RunFault.Print Stop.Out) → O.handed out.new ≡ O.written out.new }
     ensures kept { (F.holds feed.new ≡ F.holds feed.old) × (F.missed feed.new ≡ F.missed feed.old) }
@@ -79,7 +81,7 @@ pub(crate) fn run_intake<F: Source, O: Sink, G: Gate + Sync, R: Threads + Wait +
         feed,
         out,
         gate,
-        &mut NoWatch,
+        &mut side.watch,
         side.workers,
     )
 }

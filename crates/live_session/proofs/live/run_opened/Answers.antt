@@ -2,17 +2,17 @@ use Rattle.desk_lines.specs.Reader.{source_of}
 use Rattle.edition_register.specs.Seats.{first_of, history_of}
 use Rattle.live_desk.specs.Standing.{standing_of}
 use Rattle.live_desk.specs.DeskEnds.{is_reply_fault}
-use Rattle.live_session.proofs.LiveFacts.{lives-of, unfailed}
+use Rattle.live_session.proofs.LiveFacts.{watched-of, unfailed}
 use Rattle.live_session.proofs.live.run_opened.Goals as goal
 use Rattle.turn_cell.specs.Seats.{own_moves, seen_by}
 
-pub returns-clause-lives : goal.returns-clause-lives
-returns-clause-lives g c =
+pub returns-clause-watched : goal.returns-clause-watched
+returns-clause-watched g c =
     let intake = c.run-ended.new.intake.seat in let desk = c.run-ended.new.seat in let close = c.close.ensures in let ran = c.run-ended.ensures in
     let script = source_of c.args.reader.now in let behind = source_of c.run-ended.new.reader in
     let before = standing_of g.D.Source.left g.P.Sink.written c.args.reader.now c.args.opened.desk c.args.opened.seat c.args.replies.now in
     let after = standing_of g.D.Source.left g.P.Sink.written c.run-ended.new.reader c.run-ended.new.desk desk c.run-ended.new.replies in
-    lives-of c.run-ended.result.0 (first_of c.args.opened.register) (history_of c.close.result) (own_moves intake) close.legal close.permitted close.intake
+    watched-of g.W.Watch.stands c.args.opened.intake.watch c.run-ended.new.intake.watch c.run-ended.result.0 (first_of c.args.opened.register) (history_of c.close.result) (own_moves intake) close.legal close.permitted close.intake
     c.merged.result c.run-ended.result.1 (seen_by intake) before after
     (g.F.Source.faults c.args.feed.now) (g.F.Source.faults c.run-ended.new.feed) (g.D.Source.faults script) (g.D.Source.faults behind)
     (g.O.Sink.faults c.args.out.now) (g.O.Sink.faults c.run-ended.new.out) (g.P.Sink.faults c.args.replies.now) (g.P.Sink.faults c.run-ended.new.replies)

@@ -16,8 +16,8 @@ use Rattle.turn_cell.proofs.slot.Slot.TheSendSync as slot
 use Rattle.turn_cell.proofs.turn.Lock.TheSendSync as lock
 
 -- what the desk's closure captures may go to another thread
-captured-send : (g : Over) (κs : Lfts 21) → IsSend (D-row g.row.R g.row.F g.row.D g.row.O g.row.P g.row.G) → IsSend (P-row g.row.R g.row.F g.row.D g.row.O g.row.P g.row.G) → IsSync (R-row g.row.R g.row.F g.row.D g.row.O g.row.P g.row.G)
-    → IsSend (param 1 (arg-0-1 g.row.R g.row.F g.row.D g.row.O g.row.P g.row.G g.R.laws g.F.laws g.D.laws g.O.laws g.P.laws g.G.laws g.R.Threads-dict g.R.Wait-dict g.F.Source-dict g.D.Source-dict g.O.Sink-dict g.P.Sink-dict g.G.Gate-dict κs))
+captured-send : (g : Over) (κs : Lfts 21) → IsSend (D-row g.row.R g.row.F g.row.D g.row.O g.row.P g.row.G g.row.W) → IsSend (P-row g.row.R g.row.F g.row.D g.row.O g.row.P g.row.G g.row.W) → IsSync (R-row g.row.R g.row.F g.row.D g.row.O g.row.P g.row.G g.row.W)
+    → IsSend (param 1 (arg-0-1 g.row.R g.row.F g.row.D g.row.O g.row.P g.row.G g.row.W g.R.laws g.F.laws g.D.laws g.O.laws g.P.laws g.G.laws g.W.laws g.R.Threads-dict g.R.Wait-dict g.F.Source-dict g.D.Source-dict g.O.Sink-dict g.P.Sink-dict g.G.Gate-dict g.W.Watch-dict κs))
 captured-send g κs d p r = search (desk_send, over.the_sync, lock.the_sync, seat.the_send, slot.the_send, editions.the_send, reader.the_send, board_send, edition-send, edition-sync, crosses, sendable) depth 60 fits 20000
 
 pub join_mut-end-requires-send-F : goal.join_mut-end-requires-send-F
