@@ -17,21 +17,13 @@ use Rattle.mib_model.specs.Kept.{Kept, Memory, all_entered, entered, has_number,
 use Rattle.mib_model.specs.Parameters.{parameter}
 use Rattle.mib_model.specs.Tails.{Invalid, Tail}
 use Rattle.mib_laws.proofs.SliceFacts.{same_octets}
-use Rattle.memory_laws.specs.Alike.{AreAlike, Covers, IsAlike, TellAlike, asks}
+use Rattle.memory_laws.specs.Alike.{AreAlike, Covers, IsAlike, TellAlike, asks, entered_if}
 use Rattle.memory_laws.specs.Laws.{AlikeIsSame, AlikeServes, EnteredAlike, FinishedAlike}
 use Rattle.memory_laws.proofs.AskedFacts.{class_of-same, curve_of-same, is_valid-same}
 
--- memories are alike to themselves, both ways, and by one between
+-- memories are alike to themselves, and by one between
 pub alike-same : (asked : List ℕ → Bool) (m : Memory) → AreAlike asked m m
 alike-same asked m name = record { latest = λ h. refl; spoken = refl; run = refl; previous = refl }
-
-alike-back : (asked : List ℕ → Bool) (m n : Memory) → AreAlike asked m n → AreAlike asked n m
-alike-back asked m n alike name = record {
-  latest = λ h. sym ((alike name).latest h);
-  spoken = sym (alike name).spoken;
-  run = sym (alike name).run;
-  previous = sym (alike name).previous;
-}
 
 pub alike-through : (asked : List ℕ → Bool) (m n o : Memory) → AreAlike asked m n → AreAlike asked n o → AreAlike asked m o
 alike-through asked m n o first second name = record {
@@ -84,12 +76,15 @@ all_entered-alike : (asked : List ℕ → Bool) (m n : Memory) (vs : List Value)
 all_entered-alike asked m n [] alike = alike
 all_entered-alike asked m n (v ∷ vs) alike = all_entered-alike asked (entered m v) (entered n v) vs (both-entered asked m n v alike)
 
-pub entered-alike : EnteredAlike
-entered-alike asked m n v true asks_it alike = both-entered asked m n v alike
-entered-alike asked m n v false asks_it alike = by (asked v.name) refl where
-  by : (b : Bool) → asked v.name ≡ b → AreAlike asked (entered m v) n
-  by true is = absurd (false≢true (asks_it is))
+next-entered : (asked : List ℕ → Bool) (m n : Memory) (v : Value) → AreAlike asked m n → AreAlike asked (entered m v) (entered_if asked n v)
+next-entered asked m n v alike = by (asked v.name) refl where
+  by : (b : Bool) → asked v.name ≡ b → AreAlike asked (entered m v) (cond b (entered n v) n)
+  by true is = both-entered asked m n v alike
   by false is = one-entered asked m n v is alike
+
+pub entered-alike : EnteredAlike
+entered-alike asked m n [] alike = alike
+entered-alike asked m n (v ∷ vs) alike = entered-alike asked (entered m v) (entered_if asked n v) vs (next-entered asked m n v alike)
 
 -- one value: what is told is the same, and what is kept is alike
 module _ (asked : List ℕ → Bool) (db : Database) (m n : Memory) (alike : AreAlike asked m n) where

@@ -15,7 +15,6 @@ use Rattle.mib_model.specs.Curves.{curve_named, curve_of, selections}
 use Rattle.mib_model.specs.Finish.{is_valid}
 use Rattle.mib_model.specs.Kept.{Memory, holds, is_met}
 use Rattle.mib_model.specs.Parameters.{parameter}
-use Rattle.mib_laws.proofs.Options.{find-fails}
 use Rattle.mib_laws.proofs.SliceFacts.{same_octets}
 use Rattle.memory_laws.specs.Alike.{asks, is_on, is_valid_on}
 
@@ -59,13 +58,6 @@ found-step p y x false rest here is more = more is
 found-passes : {R : Type 0} (p : R → Bool) (xs : List R) (x : R) → find p xs ≡ Some x → p x ≡ true
 found-passes p [] x is = absurd (cc is)
 found-passes p (y ∷ xs) x is = found-step p y x (p y) (find p xs) refl is (found-passes p xs x)
-
--- what is found passes a test only where some row does
-pub any-found : {R : Type 0} (test p : R → Bool) (rows : List R) (row : R) → find test rows ≡ Some row → p row ≡ true → list_any p rows ≡ true
-any-found test p rows row is h = by (list_any p rows) refl where
-  by : (b : Bool) → list_any p rows ≡ b → list_any p rows ≡ true
-  by true some = some
-  by false none = absurd (false≢true (sym (find-fails test p rows row is none) ∙ h))
 
 -- one condition
 is_met-same : (m n : Memory) (condition : Option (List ℕ)) (number : ℤ) → ((name : List ℕ) → is_on name condition ≡ true → (m name).latest ≡ (n name).latest)

@@ -1,5 +1,5 @@
 -- Memories that tell the same of values: a raw number that no condition asks may differ. [This profile.]
-use Rattle.std.specs.Prelude.{◌≡◌, ℕ, Bool, true, false, List, Option, Some, None, ◌||◌}
+use Rattle.std.specs.Prelude.{◌≡◌, ℕ, Bool, true, false, List, Option, Some, None, ◌||◌, fold, if◌then◌else◌}
 use Rattle.std.specs.List.{AllByRecursion, list_any}
 use Rattle.std.specs.Str.{bytes_eq}
 use Rattle.mib_model.specs.declared.database.Database.{Database}
@@ -7,7 +7,7 @@ use Rattle.mib_model.specs.declared.packet.Value.{Value}
 use Rattle.mib_model.specs.declared.rows.PcfRow.{PcfRow}
 use Rattle.mib_model.specs.Checks.{checks_of}
 use Rattle.mib_model.specs.Curves.{selections}
-use Rattle.mib_model.specs.Kept.{Kept, Memory}
+use Rattle.mib_model.specs.Kept.{Kept, Memory, entered}
 use Rattle.mib_model.specs.Parameters.{parameter}
 
 -- whether a condition, if there is one, is on a name
@@ -37,6 +37,14 @@ pub record IsAlike (asked : Bool) (k l : Kept) : Type 0 where
 -- what is kept of all names is the same, but for the latest raw numbers of those that aren't asked
 abbrev pub AreAlike : (List ℕ → Bool) → Memory → Memory → Type 0
 AreAlike asked m n = (name : List ℕ) → IsAlike (asked name) (m name) (n name)
+
+-- the memory after a value, whose raw number is entered where its name is asked
+abbrev pub entered_if : (List ℕ → Bool) → Memory → Value → Memory
+entered_if asked memory v = if asked v.name then entered memory v else memory
+
+-- the memory after those raw numbers of values were entered, in their order, whose names are asked
+abbrev pub all_entered_if : (List ℕ → Bool) → Memory → List Value → Memory
+all_entered_if asked memory vs = fold (entered_if asked) memory vs
 
 -- what values of a parameter ask is among the names that are asked
 abbrev pub Covers : (List ℕ → Bool) → Database → List ℕ → Type 0

@@ -1,16 +1,15 @@
 -- Laws of memories that are alike.
-use Rattle.std.specs.Prelude.{◌≡◌, ℕ, Bool, true, List, if◌then◌else◌}
+use Rattle.std.specs.Prelude.{◌≡◌, ℕ, Bool, true, List}
 use Rattle.mib_model.specs.declared.database.Database.{Database}
 use Rattle.mib_model.specs.declared.packet.Value.{Value}
 use Rattle.mib_model.specs.Finish.{all_finished}
-use Rattle.mib_model.specs.Kept.{Memory, all_entered, entered}
-use Rattle.memory_laws.specs.Alike.{AreAlike, CoversAll, TellAlike}
+use Rattle.mib_model.specs.Kept.{Memory, all_entered}
+use Rattle.memory_laws.specs.Alike.{AreAlike, CoversAll, TellAlike, all_entered_if}
 
--- where a raw number is entered, memories stay alike, and so they do where it isn't entered in the other, if its name isn't asked
+-- memories stay alike where all raw numbers are entered in one, and in the other those whose names are asked
 abbrev pub EnteredAlike : Type 0
 EnteredAlike =
-    (asked : List ℕ → Bool) (m n : Memory) (v : Value) (enters : Bool) → (asked v.name ≡ true → enters ≡ true) → AreAlike asked m n →
-    AreAlike asked (entered m v) (if enters then entered n v else n)
+    (asked : List ℕ → Bool) (m n : Memory) (vs : List Value) → AreAlike asked m n → AreAlike asked (all_entered m vs) (all_entered_if asked n vs)
 
 -- alike memories tell the same of values, and are alike behind them
 abbrev pub FinishedAlike : Type 0

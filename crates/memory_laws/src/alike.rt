@@ -1,6 +1,6 @@
 ghost use Rattle.memory_laws.specs.Laws.{AlikeIsSame, AlikeServes, EnteredAlike, FinishedAlike};
 
-/// Memories stay alike where a raw number is entered in both, or in one alone if its name isn't asked.
+/// Memories stay alike where raw numbers are entered, in one of them those alone whose names are asked.
 pub fn entering_keeps_alike()
     ensures { EnteredAlike }
 {}
