@@ -1,7 +1,5 @@
 // Numbers at any bit of a packet, and values by their types.
-use bit_field::{
-    Endian, MOST_VALUES, Order, Sort, Value, Values, number, shape_of, signed, take, unsigned,
-};
+use bit_field::{Endian, Order, Sort, number, shape_of, take, unsigned};
 use mib_model::Name;
 use std::process::Abort;
 use std::test::Fail;
@@ -11,32 +9,6 @@ const PACKET: [u8; 24] = [
     165, 77, 202, 24, 37, 48, 187, 29, 109, 19, 44, 222, 214, 35, 123, 46, 217, 30, 63, 114, 31,
     203, 25, 113,
 ];
-
-// The number in so many bits from a place on, one bit after another.
-fn one_by_one(octets: &[u8], at: u16, width: u8) -> Option<u64> {
-    if usize::from(at).div_ceil(8) > octets.len() {
-        return None;
-    }
-    let mut value = 0;
-    for i in 0..width {
-        let place = usize::from(at) + usize::from(i);
-        let octet = *octets.get(place / 8)?;
-        value = value << 1 | u64::from(octet >> (7 - place % 8) & 1);
-    }
-    Some(value)
-}
-
-#[test]
-fn every_field_is_what_its_bits_are_one_by_one(rt: HostRuntime) {
-    for at in 0..200 {
-        for width in 0..65 {
-            assert_eq!(rt;
-                unsigned(&PACKET, u64::from(at), width),
-                one_by_one(&PACKET, at, width)
-            );
-        }
-    }
-}
 
 fn has(rt: &impl Abort, at: u64, width: u8, value: Option<u64>) {
     assert!(rt; width <= 64);
@@ -54,28 +26,6 @@ fn fields_have_the_numbers_of_an_outside_program(rt: HostRuntime) {
     has(&rt, 192, 0, Some(0));
     has(&rt, 193, 0, None);
     has(&rt, u64::MAX, 64, None);
-}
-
-// The least and the most number of 64 bits.
-const ENDS: [u8; 16] = [
-    0x80, 0, 0, 0, 0, 0, 0, 0, 0x7f, 0xff, 0xff, 0xff, 0xff, 0xff, 0xff, 0xff,
-];
-
-fn reaches(rt: &impl Abort, at: u64, width: u8, value: Option<i64>) {
-    assert!(rt; 0 < width && width <= 64);
-    assert_eq!(rt; signed(&ENDS, at, width), value);
-}
-
-#[test]
-fn signed_fields_reach_both_ends(rt: HostRuntime) {
-    reaches(&rt, 0, 64, Some(i64::MIN));
-    reaches(&rt, 64, 64, Some(i64::MAX));
-    reaches(&rt, 65, 63, Some(-1));
-    reaches(&rt, 0, 1, Some(-1));
-    reaches(&rt, 1, 1, Some(0));
-    reaches(&rt, 0, 8, Some(-128));
-    reaches(&rt, 64, 8, Some(127));
-    reaches(&rt, 65, 64, None);
 }
 
 fn takes(rt: &impl Abort, ptc: u8, pfc: u16, endian: Endian, at: u64, raw: Option<i128>) {
@@ -123,34 +73,4 @@ fn shapes_are_those_of_the_table_of_types(rt: HostRuntime) {
     for (ptc, pfc, endian) in [(3, 3, Endian::L), (3, 17, Endian::B), (12, 0, Endian::B)] {
         assert!(rt; shape_of(ptc, pfc, endian).is_none());
     }
-}
-
-fn slots_of_a_list() -> usize {
-    8192
-}
-
-fn a_value(rt: &impl Abort) -> Value {
-    let shape = shape_of(3, 4, Endian::B).expect(rt, "a shape");
-    let name = Name::new(b"P1").expect(rt, "a name");
-    assert!(rt; shape.sort() != Sort::Deduced);
-    take(&PACKET, 0, name, shape).expect(rt, "a value")
-}
-
-fn pushes(rt: &impl Abort, slots: &mut [Value]) {
-    assert!(rt; slots.len() == 8192);
-    let mut values = Values {
-        slots,
-        used: MOST_VALUES - 1,
-    };
-    assert!(rt; values.push(a_value(rt)));
-    assert!(rt; !values.push(a_value(rt)));
-    assert_eq!(rt; values.used, MOST_VALUES);
-    assert_eq!(rt; values.slots[0].raw, 165);
-}
-
-#[test]
-fn a_full_list_takes_no_value(rt: HostRuntime) -> Result<(), Fail> {
-    let mut slots = Vec::from_elem(rt.alloc(), a_value(&rt), slots_of_a_list())?;
-    pushes(&rt, slots.as_mut_slice());
-    Ok(())
 }

@@ -1,9 +1,7 @@
-// Lines of packets' records.
+// Lines of values.
 use bit_field::{shape_of, take};
-use mib_model::{BadWhy, Cal, Change, Class, Ended, Endian, Eng, Found, Header, Name, Text, Value};
-use record_text::{
-    Lines, Tail, change_line, cut_line, edition_line, ended_line, head_line, value_line,
-};
+use mib_model::{Cal, Endian, Eng, Name, Text, Value};
+use record_text::{Lines, Tail, value_line};
 use std::process::Abort;
 use std::test::Fail;
 
@@ -76,112 +74,5 @@ fn tails_tell_what_a_calibration_gave(rt: HostRuntime) -> Result<(), Fail> {
     tells(&rt, Cal::RealCurve, &mut out, b"  V 0 ! REALCURVE\n");
     let value = taken(&rt, b"V", 3, 4, Endian::B, 72);
     shows(&rt, &value, &Tail::Invalid, &mut out, b"  V 0 ? INVALID\n");
-    Ok(())
-}
-
-fn heads(rt: &impl Abort, found: Found, title: Option<&Text>, out: &mut Lines, line: &[u8]) {
-    out.clear();
-    head_line(
-        7,
-        &Header::read(&[0x08, 0x64, 0xC0, 0x05, 0, 0]),
-        &found,
-        title,
-        out,
-    );
-    assert_eq!(rt; out.bytes(), line);
-}
-
-#[test]
-fn heads_tell_what_a_packet_is(rt: HostRuntime) -> Result<(), Fail> {
-    let found = Found::Spid {
-        spid: 4001,
-        service: 3,
-        subtype: 25,
-        tpsd: -1,
-        dfhsize: 0,
-    };
-    let unknown = Found::Unknown {
-        service: 3,
-        subtype: 25,
-    };
-    let title = Text::new(b"A").expect(&rt, "a text");
-    let empty = Text::new(b"").expect(&rt, "a text");
-    let mut out = Lines::new(rt.alloc())?;
-    let known = b"PKT 7 APID 100 COUNT 5 TYPE 3/25 SPID 4001\n";
-    let telling = b"PKT 7 APID 100 COUNT 5 TYPE 3/25 SPID 4001 NAME \"A\"\n";
-    heads(&rt, found, Some(&title), &mut out, telling);
-    heads(&rt, found, Some(&empty), &mut out, known);
-    heads(&rt, found, None, &mut out, known);
-    heads(
-        &rt,
-        unknown,
-        None,
-        &mut out,
-        b"PKT 7 APID 100 COUNT 5 TYPE 3/25 UNKNOWN\n",
-    );
-    heads(
-        &rt,
-        Found::Idle,
-        None,
-        &mut out,
-        b"PKT 7 APID 100 COUNT 5 IDLE\n",
-    );
-    for (why, line) in [
-        (
-            BadWhy::Version,
-            b"PKT 7 APID 100 COUNT 5 BAD VERSION\n".as_slice(),
-        ),
-        (
-            BadWhy::Telecommand,
-            b"PKT 7 APID 100 COUNT 5 BAD TELECOMMAND\n",
-        ),
-        (BadWhy::Short, b"PKT 7 APID 100 COUNT 5 BAD SHORT\n"),
-    ] {
-        heads(&rt, Found::Bad(why), None, &mut out, line);
-    }
-    Ok(())
-}
-
-fn ends(rt: &impl Abort, ended: Ended, out: &mut Lines, line: &[u8]) {
-    out.clear();
-    ended_line(&ended, out);
-    assert_eq!(rt; out.bytes(), line);
-}
-
-#[test]
-fn values_end_with_a_line_of_their_own(rt: HostRuntime) -> Result<(), Fail> {
-    let mut out = Lines::new(rt.alloc())?;
-    let name = named(&rt, b"P2");
-    ends(&rt, Ended::Whole, &mut out, b"");
-    ends(&rt, Ended::Short { name }, &mut out, b"  SHORT P2\n");
-    ends(&rt, Ended::Many, &mut out, b"  MANY\n");
-    ends(
-        &rt,
-        Ended::NoStructure { tpsd: 9 },
-        &mut out,
-        b"  NOSTRUCTURE 9\n",
-    );
-    ends(
-        &rt,
-        Ended::NoParameter { pid: -3 },
-        &mut out,
-        b"  NOPARAMETER -3\n",
-    );
-    Ok(())
-}
-
-#[test]
-fn lines_stand_one_behind_the_other(rt: HostRuntime) -> Result<(), Fail> {
-    let mut out = Lines::new(rt.alloc())?;
-    let name = named(&rt, b"P1");
-    edition_line(2, &mut out);
-    change_line(name, Change::Alarm(Class::Hard), &mut out);
-    change_line(name, Change::Clear(Class::Status), &mut out);
-    change_line(name, Change::Alarm(Class::Delta), &mut out);
-    change_line(name, Change::Clear(Class::Soft), &mut out);
-    cut_line(11, &mut out);
-    let lines =
-        b"EDITION 2\n  ALARM P1 HARD\n  CLEAR P1 STATUS\n  ALARM P1 DELTA\n  CLEAR P1 SOFT\nCUT 11\n";
-    assert_eq!(rt; out.bytes(), lines.as_slice());
     Ok(())
 }

@@ -1,4 +1,4 @@
-//! Tests of the parts of a run: queues, pieces, windows and turns, the register under two threads, a desk's lines, a run over a database without rows, and drills.
+//! Tests of the parts of a run: queues, pieces, windows and turns, the register under two threads, a desk's lines, that records are handed on before a read may wait, and drills.
 //!
 //! It has tests alone, and nothing rests on it. In a crate of their own they are proved without the functions that they try.
 #![tactic(auto)]
