@@ -1,6 +1,5 @@
 -- Lists of lines, of entries and of replies, in parts.
-use Rattle.std.proofs.Common.{◌≡◌, ℕ, ◌+◌, ◌-◌, ◌≤◌, false, cond, List, [], ◌∷◌, ◌++◌, length, Option, Some, None, refl, sym, ap, ◌∙◌, append-nil, arith, inl, inr}
-use Rattle.std.specs.Prelude.{option_map}
+use Rattle.std.proofs.Common.{◌≡◌, ℕ, ◌+◌, ◌-◌, ◌≤◌, Bool, false, cond, List, [], ◌∷◌, ◌++◌, length, Option, Some, None, refl, sym, ap, ◌∙◌, append-nil, arith, inl, inr}
 use Rattle.std.specs.List.{count_by, cons_option, slice_split}
 use Rattle.std.specs.Option.{option_to_list}
 use Rattle.std.proofs.lemmas.Grind.{flat_map-append}
@@ -8,7 +7,7 @@ use Rattle.std.proofs.lemmas.List.{length-take-le, map-append}
 use Rattle.std.proofs.lemmas.List.Elements.{All-head, All-tail}
 use Rattle.std.proofs.lemmas.List.Sums.{sum_by-append, sum_by-cons}
 use Rattle.std.proofs.lemmas.List.Splits.{length-slice_split}
-use Rattle.desk.specs.Handling.{run_of}
+use Rattle.desk.specs.Handling.{moves_at, run_with}
 use Rattle.desk_lines.specs.Ahead.{HasNoFeed}
 use Rattle.desk_lines.specs.Gives.{IsTakenFor}
 use Rattle.histories.specs.History.{move}
@@ -16,47 +15,46 @@ use Rattle.live_desk.specs.Scripts.{lines_given}
 use Rattle.mib_laws.proofs.DeskFacts.{joined}
 use Rattle.mib_model.specs.declared.register.Answer.{Answer}
 use Rattle.mib_model.specs.declared.register.Entry.{Entry}
-use Rattle.mib_model.specs.declared.reply.Reply.{Reply}
-use Rattle.mib_model.specs.Desk.{DeskReply, DeskState, Plain}
-use Rattle.mib_model.specs.DeskRuns.{Calls, IsDesk, IsLine, moves_by}
+use Rattle.mib_model.specs.Desk.{DeskReply, DeskState}
+use Rattle.mib_model.specs.DeskRuns.{Calls, IsDesk, IsLine}
 use Rattle.mib_model.specs.Lines.{is_feed}
 use Rattle.mib_model.specs.Replies.{desk_line, desk_text}
 
 abbrev pub Known : Type 0
 Known = Option (List ℕ)
 
-pub moves-append : (cs ds : Calls) → moves_by (cs ++ ds) ≡ moves_by cs ++ moves_by ds
-moves-append cs ds = map-append (λ (c : Entry × Answer). move 1 c.0 c.1) cs ds
+pub moves-append : (seat : ℕ) (cs ds : Calls) → moves_at seat (cs ++ ds) ≡ moves_at seat cs ++ moves_at seat ds
+moves-append seat cs ds = map-append (λ (c : Entry × Answer). move seat c.0 c.1) cs ds
 
-pub text-append : (rs qs : List DeskReply) → desk_text None (rs ++ qs) ≡ desk_text None rs ++ desk_text None qs
+pub text-append : (number : Option ℕ) (rs qs : List DeskReply) → desk_text number (rs ++ qs) ≡ desk_text number rs ++ desk_text number qs
 unfolding desk_text
-text-append rs qs = flat_map-append (desk_line None) rs qs
+text-append number rs qs = flat_map-append (desk_line number) rs qs
 
-pub text-none : desk_text None [] ≡ []
+pub text-none : (number : Option ℕ) → desk_text number [] ≡ []
 unfolding desk_text
-text-none = refl
+text-none number = refl
 
 -- ---- desks
 
-pub desk-none : (s : DeskState) → IsDesk false s [] [] [] s
-desk-none s = record { runs = []; of_lines = refl; chain = refl; in_calls = refl; in_replies = refl }
+pub desk-none : (several : Bool) (s : DeskState) → IsDesk several s [] [] [] s
+desk-none several s = record { runs = []; of_lines = refl; chain = refl; in_calls = refl; in_replies = refl }
 
 one-listed : (r : Option DeskReply) → cons_option r [] ≡ option_to_list r
 one-listed None = refl
 one-listed (Some r) = refl
 
-pub desk-one : (line : List ℕ) (old new : DeskState) (calls : Calls) (given : Option Reply) → IsLine false (run_of line old calls given new) → IsDesk false old (line ∷ []) calls (option_to_list (option_map Plain given)) new
-desk-one line old new calls given is = record {
-  runs = run_of line old calls given new ∷ [];
+pub desk-one : (several : Bool) (line : List ℕ) (old new : DeskState) (calls : Calls) (given : Option DeskReply) → IsLine several (run_with line old calls given new) → IsDesk several old (line ∷ []) calls (option_to_list given) new
+desk-one several line old new calls given is = record {
+  runs = run_with line old calls given new ∷ [];
   of_lines = refl;
   chain = (refl, is, refl);
   in_calls = append-nil calls;
-  in_replies = one-listed (option_map Plain given);
+  in_replies = one-listed given;
 }
 
-pub desk-append : (s t u : DeskState) (xs ys : List (List ℕ)) (cs ds : Calls) (rs qs : List DeskReply) → IsDesk false s xs cs rs t → IsDesk false t ys ds qs u → IsDesk false s (xs ++ ys) (cs ++ ds) (rs ++ qs) u
-desk-append s t u xs ys cs ds rs qs front rest =
-    joined false s xs ys (cs ++ ds) (rs ++ qs) u (record { middle = t; first_calls = cs; more_calls = ds; first_replies = rs; more_replies = qs; first = front; more = rest; in_calls = refl; in_replies = refl })
+pub desk-append : (several : Bool) (s t u : DeskState) (xs ys : List (List ℕ)) (cs ds : Calls) (rs qs : List DeskReply) → IsDesk several s xs cs rs t → IsDesk several t ys ds qs u → IsDesk several s (xs ++ ys) (cs ++ ds) (rs ++ qs) u
+desk-append several s t u xs ys cs ds rs qs front rest =
+    joined several s xs ys (cs ++ ds) (rs ++ qs) u (record { middle = t; first_calls = cs; more_calls = ds; first_replies = rs; more_replies = qs; first = front; more = rest; in_calls = refl; in_replies = refl })
 
 -- ---- lines that were given whole
 

@@ -1,3 +1,4 @@
+pub mod Operators
 pub mod Standing
 pub mod DeskEnds
 pub mod Lines

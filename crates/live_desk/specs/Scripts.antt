@@ -3,15 +3,17 @@ use Rattle.std.specs.Prelude.{◌≡◌, ◌⊎◌, ℕ, ◌≤◌, ◌+◌, Boo
 use Rattle.std.specs.Io.KnownBytes.{Appends, Consumes, IsAtEnd}
 use Rattle.tm_io.specs.Octets.{AppendsPrefix, WritesUnless}
 use Rattle.desk_lines.specs.Ahead.{still, meets_limit}
+use Rattle.desk.specs.Handling.{moves_at}
 use Rattle.histories.specs.History.{StartsWith, moves_of}
 use Rattle.tm_io.specs.Causes.{RisesWhere}
 use Rattle.live_desk.specs.declared.desk_end.DeskEnd.{DeskEnd}
 use Rattle.live_desk.specs.declared.desk_end.DeskEnd.TheVariants as end
-use Rattle.live_desk.specs.DeskEnds.{is_desk_fault, is_reply_fault, limit_line}
+use Rattle.live_desk.specs.DeskEnds.{is_desk_fault, is_reply_fault, limit_line_at}
+use Rattle.live_desk.specs.Operators.{is_several, seat_of}
 use Rattle.live_desk.specs.Standing.{Standing}
 use Rattle.mib_model.specs.declared.database.Database.{Database}
 use Rattle.mib_model.specs.Desk.{DeskReply, DeskState, desk_start}
-use Rattle.mib_model.specs.DeskRuns.{Calls, IsDesk, prelude, moves_by}
+use Rattle.mib_model.specs.DeskRuns.{Calls, IsDesk, prelude}
 use Rattle.mib_model.specs.RegisterHistories.{RegisterHistory}
 use Rattle.mib_model.specs.Replies.{desk_text}
 use Rattle.mib_model.specs.Script.{script, whole_pieces, reaches_limit}
@@ -30,20 +32,20 @@ IsGiven left given handled = IfSome left (λ octets. length handled ≤ lines_gi
 
 -- ---- lines of a script
 
--- lines were handled one after the other, and others are still to come; this is the text of the replies
-pub record Works (text : List ℕ) (before after : Standing) : Type 0 where
+-- at the desk of this number lines were handled one after the other, and others are still to come; this is the text of the replies
+pub record Works (number : Option ℕ) (text : List ℕ) (before after : Standing) : Type 0 where
   pub handled : List (List ℕ)
   pub calls : Calls
   pub replies : List DeskReply
-  pub own : after.held.own ≡ before.held.own ++ moves_by calls
-  pub is_desk : IsDesk false before.held.state handled calls replies after.held.state
+  pub own : after.held.own ≡ before.held.own ++ moves_at (seat_of number) calls
+  pub is_desk : IsDesk (is_several number) before.held.state handled calls replies after.held.state
   pub given : List ℕ
   pub consumed : Consumes before.left after.left given
   pub whole : lines_given given ≤ length handled
   pub upto : IfSome before.left (λ l. IsUpTo given after.left handled)
   pub ahead : IfSome before.left (λ l. IfSome after.left (λ b. still before.read l ≡ handled ++ still after.read b))
   pub limit : IfSome before.left (λ l. IfSome after.left (λ b. meets_limit before.read l ≡ meets_limit after.read b))
-  pub told : text ≡ desk_text None replies
+  pub told : text ≡ desk_text number replies
 
 -- a script that ended without a fault was handled whole
 abbrev pub IsHandled : DeskEnd → List (List ℕ) → Type 0
@@ -53,25 +55,25 @@ IsHandled end.DeskFault others = ⊤
 IsHandled end.ReplyFault others = ⊤
 
 -- what stands behind the replies: the line of the limit where it is reached, unless the desk failed
-abbrev pub tail_by : DeskEnd → Bool → List ℕ
-tail_by e limit = if is_desk_fault e then [] else if limit then limit_line else []
+abbrev pub tail_at : Option ℕ → DeskEnd → Bool → List ℕ
+tail_at number e limit = if is_desk_fault e then [] else if limit then limit_line_at number else []
 
 -- the replies failed: all before the last were written, and a first part of the last; or all were written, no line was left, and a first
 -- part of the limit's line
-abbrev pub FailsAt : List DeskReply → List (List ℕ) → List ℕ → Option (List ℕ) → Option (List ℕ) → Type 0
-FailsAt replies others tail old new =
-    (front : List DeskReply) × (more : List DeskReply) × (place : Option (List ℕ)) × Appends old place (desk_text None front)
-    × (((replies ≡ front ++ more) × (length more ≤ 1) × AppendsPrefix place new (desk_text None more))
-    ⊎ ((replies ≡ front) × (others ≡ []) × (tail ≡ limit_line) × AppendsPrefix place new limit_line))
+abbrev pub FailsAt : Option ℕ → List DeskReply → List (List ℕ) → List ℕ → Option (List ℕ) → Option (List ℕ) → Type 0
+FailsAt number replies others tail old new =
+    (front : List DeskReply) × (more : List DeskReply) × (place : Option (List ℕ)) × Appends old place (desk_text number front)
+    × (((replies ≡ front ++ more) × (length more ≤ 1) × AppendsPrefix place new (desk_text number more))
+    ⊎ ((replies ≡ front) × (others ≡ []) × (tail ≡ limit_line_at number) × AppendsPrefix place new (limit_line_at number)))
 
--- a script ended: its lines that were handled, and those that were not
-pub record Ends (e : DeskEnd) (before after : Standing) : Type 0 where
+-- a script ended at the desk of this number: its lines that were handled, and those that were not
+pub record Ends (number : Option ℕ) (e : DeskEnd) (before after : Standing) : Type 0 where
   pub handled : List (List ℕ)
   pub others : List (List ℕ)
   pub calls : Calls
   pub replies : List DeskReply
-  pub own : after.held.own ≡ before.held.own ++ moves_by calls
-  pub is_desk : IsDesk false before.held.state handled calls replies after.held.state
+  pub own : after.held.own ≡ before.held.own ++ moves_at (seat_of number) calls
+  pub is_desk : IsDesk (is_several number) before.held.state handled calls replies after.held.state
   pub given : List ℕ
   pub consumed : Consumes before.left after.left given
   pub whole : lines_given given ≤ length handled
@@ -79,34 +81,35 @@ pub record Ends (e : DeskEnd) (before after : Standing) : Type 0 where
   pub parted : IfSome before.left (λ l. still before.read l ≡ handled ++ others)
   pub all : IsHandled e others
   pub tail : List ℕ
-  pub is_tail : IfSome before.left (λ l. tail ≡ tail_by e (meets_limit before.read l))
-  pub told : WritesUnless (is_reply_fault e) before.held.written after.held.written (desk_text None replies ++ tail)
-  pub fails_at : is_reply_fault e ≡ true → FailsAt replies others tail before.held.written after.held.written
+  pub is_tail : IfSome before.left (λ l. tail ≡ tail_at number e (meets_limit before.read l))
+  pub told : WritesUnless (is_reply_fault e) before.held.written after.held.written (desk_text number replies ++ tail)
+  pub fails_at : is_reply_fault e ≡ true → FailsAt number replies others tail before.held.written after.held.written
 
 -- so lines were handled, none of them a `go` where that is waited for: the lines up to the first `go` go on with the others
-pub record Working (until_go : Bool) (before after : Standing) : Type 0 where
+pub record Working (number : Option ℕ) (until_go : Bool) (before after : Standing) : Type 0 where
   pub text : List ℕ
-  pub works : Works text before after
-  pub no_go : until_go ≡ true → (more : List (List ℕ)) → prelude false (works.handled ++ more) ≡ works.handled ++ prelude false more
+  pub works : Works number text before after
+  pub no_go : until_go ≡ true → (more : List (List ℕ))
+      → prelude (is_several number) (works.handled ++ more) ≡ works.handled ++ prelude (is_several number) more
   pub printed : Appends before.held.written after.held.written text
 
 -- lines were handled up to and with a `go`, where that was to be waited for, and all their replies written
-pub record Pauses (until_go : Bool) (before after : Standing) : Type 0 where
+pub record Pauses (number : Option ℕ) (until_go : Bool) (before after : Standing) : Type 0 where
   pub waited : until_go ≡ true
   pub text : List ℕ
-  pub works : Works text before after
-  pub is_prelude : (more : List (List ℕ)) → prelude false (works.handled ++ more) ≡ works.handled
+  pub works : Works number text before after
+  pub is_prelude : (more : List (List ℕ)) → prelude (is_several number) (works.handled ++ more) ≡ works.handled
   pub printed : Appends before.held.written after.held.written text
 
 -- or the script ended, before a `go` where that was to be waited for
-pub record EndsEarly (until_go : Bool) (e : DeskEnd) (before after : Standing) : Type 0 where
-  pub ends : Ends e before after
-  pub is_prelude : until_go ≡ true → prelude false ends.handled ≡ ends.handled
+pub record EndsEarly (number : Option ℕ) (until_go : Bool) (e : DeskEnd) (before after : Standing) : Type 0 where
+  pub ends : Ends number e before after
+  pub is_prelude : until_go ≡ true → prelude (is_several number) ends.handled ≡ ends.handled
 
--- what a desk did
-abbrev pub Worked : Bool → Option DeskEnd → Standing → Standing → Type 0
-Worked until_go None before after = Pauses until_go before after
-Worked until_go (Some e) before after = EndsEarly until_go e before after
+-- what the desk of this number did
+abbrev pub Worked : Option ℕ → Bool → Option DeskEnd → Standing → Standing → Type 0
+Worked number until_go None before after = Pauses number until_go before after
+Worked number until_go (Some e) before after = EndsEarly number until_go e before after
 
 -- the count of the desk rose where it failed, and else stays as it was
 abbrev pub HasDeskCause : Option DeskEnd → ℕ → ℕ → Type 0
@@ -125,12 +128,10 @@ fails_to_reply (Some e) = is_reply_fault e
 
 -- ---- a desk's whole script
 
--- the line LIMIT, where a script reaches it, unless its desk failed
-abbrev pub limit_text : DeskEnd → List ℕ → List ℕ
-limit_text e octets = tail_by e (reaches_limit octets)
-
--- what a desk did with its script: the lines up to the first `go`, and then the others. The moves of the first stand before the first stamp
-pub record Desked (e : DeskEnd) (first : Database) (entries : Calls) (seen : RegisterHistory) (left behind old new : Option (List ℕ)) : Type 0 where
+-- what the desk of this number did with its script: the lines up to the first `go`, and then the others. The moves of the first stand before
+-- the first stamp
+pub record DeskedAt (number : Option ℕ) (e : DeskEnd) (first : Database) (entries : Calls) (seen : RegisterHistory)
+    (left behind old new : Option (List ℕ)) : Type 0 where
   pub given : List ℕ
   pub taken : Consumes left behind given
   pub handled : List (List ℕ)
@@ -145,19 +146,23 @@ pub record Desked (e : DeskEnd) (first : Database) (entries : Calls) (seen : Reg
   pub late_replies : List DeskReply
   pub middle : DeskState
   pub last : DeskState
-  pub at_first : IsDesk false (desk_start first) (prelude false handled) early early_replies middle
-  pub later : IsDesk false middle (drop (length (prelude false handled)) handled) late late_replies last
+  pub at_first : IsDesk (is_several number) (desk_start first) (prelude (is_several number) handled) early early_replies middle
+  pub later : IsDesk (is_several number) middle (drop (length (prelude (is_several number) handled)) handled) late late_replies last
   pub entered : entries ≡ early ++ late
   pub tail : List ℕ
-  pub is_tail : IfSome left (λ octets. tail ≡ limit_text e octets)
-  pub told : WritesUnless (is_reply_fault e) old new (desk_text None (early_replies ++ late_replies) ++ tail)
-  pub fails_at : is_reply_fault e ≡ true → FailsAt (early_replies ++ late_replies) others tail old new
+  pub is_tail : IfSome left (λ octets. tail ≡ tail_at number e (reaches_limit octets))
+  pub told : WritesUnless (is_reply_fault e) old new (desk_text number (early_replies ++ late_replies) ++ tail)
+  pub fails_at : is_reply_fault e ≡ true → FailsAt number (early_replies ++ late_replies) others tail old new
   pub front : RegisterHistory
   pub starts : StartsWith seen front
   pub no_stamp : moves_of 0 front ≡ []
-  pub before : StartsWith (moves_of 1 front) (moves_by early)
+  pub before : StartsWith (moves_of (seat_of number) front) (moves_at (seat_of number) early)
 
--- what a desk did with its script, by where it stood before and stands behind it, and by the moves of its seat
-abbrev pub DeskedBy : DeskEnd → Database → RegisterHistory → Standing → Standing → Type 0
-DeskedBy e first seen before after =
-    (entries : Calls) × (after.held.own ≡ moves_by entries) × Desked e first entries seen before.left after.left before.held.written after.held.written
+-- so by where it stood before and stands behind it, and by the moves of its seat
+abbrev pub DeskedFrom : Option ℕ → DeskEnd → Database → RegisterHistory → Standing → Standing → Type 0
+DeskedFrom number e first seen before after = (entries : Calls) × (after.held.own ≡ moves_at (seat_of number) entries)
+    × DeskedAt number e first entries seen before.left after.left before.held.written after.held.written
+
+-- what a single desk did with its script
+abbrev pub Desked : DeskEnd → Database → Calls → RegisterHistory → Option (List ℕ) → Option (List ℕ) → Option (List ℕ) → Option (List ℕ) → Type 0
+Desked e first entries seen left behind old new = DeskedAt None e first entries seen left behind old new

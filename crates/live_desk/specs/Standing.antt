@@ -1,7 +1,5 @@
 -- Where a desk stands before and behind lines. [This profile.]
 use Rattle.std.specs.Prelude.{ℕ, List, Option}
-use Rattle.desk.specs.declared.desk.Desk.{Desk}
-use Rattle.desk.specs.State.{desk_of}
 use Rattle.desk_lines.specs.declared.reader.DeskReader.{DeskReader}
 use Rattle.desk_lines.specs.Ahead.{Reading}
 use Rattle.desk_lines.specs.Reader.{reading_of, source_of}
@@ -24,11 +22,11 @@ pub record Standing : Type 0 where
   pub left : Option (List ℕ)
   pub held : DeskHeld
 
--- what is held by a desk, by its seat, and by the object that its replies go to
-abbrev pub held_by : {S C P : Type 0} → (P → Option (List ℕ)) → Desk → Seat S (View C Entry Answer) → P → DeskHeld
-held_by written desk seat replies = record { state = desk_of desk; own = own_moves seat; written = written replies }
+-- what is held by an operator, by its seat, and by the object that its replies go to
+abbrev pub held_by : {O S C P : Type 0} → (O → DeskState) → (P → Option (List ℕ)) → O → Seat S (View C Entry Answer) → P → DeskHeld
+held_by state written operator seat replies = record { state = state operator; own = own_moves seat; written = written replies }
 
--- where a desk stands, by its reader, by itself, by its seat, and by the object that its replies go to
-abbrev pub standing_of : {S C D P : Type 0} → (D → Option (List ℕ)) → (P → Option (List ℕ)) → DeskReader D → Desk → Seat S (View C Entry Answer) → P → Standing
-standing_of left written reader desk seat replies =
-    record { read = reading_of reader; left = left (source_of reader); held = held_by written desk seat replies }
+module _ {O S C D P : Type 0} (state : O → DeskState) (left : D → Option (List ℕ)) (written : P → Option (List ℕ)) where
+  -- where a desk stands, by its reader, by its operator, by its seat, and by the object that its replies go to
+  abbrev pub standing_of : DeskReader D → O → Seat S (View C Entry Answer) → P → Standing
+  standing_of reader operator seat replies = record { read = reading_of reader; left = left (source_of reader); held = held_by state written operator seat replies }

@@ -1,11 +1,10 @@
 // The lines of a desk, one after the other.
-ghost use Rattle.std.specs.Prelude.{◌≡◌, ◌≤◌, true, false, length, IsTrue};
-ghost use Rattle.desk.specs.State.{editions_of};
+ghost use Rattle.std.specs.Prelude.{◌≡◌, ◌≤◌, ◌*◌, true, false, length, IsTrue};
 ghost use Rattle.desk_lines.specs.Reader.{reading_of, source_of};
 ghost use Rattle.desk_lines.specs.declared.reader.TheConstants.{LINE_ROOM};
-ghost use Rattle.edition_register.specs.Seats.{IsSeat, first_of, shown_in};
 ghost use Rattle.histories.specs.History.{StartsWith};
 ghost use Rattle.live_desk.specs.Lines.{HandsOn};
+ghost use Rattle.live_desk.specs.Operators.{IsSeated, number_if};
 ghost use Rattle.live_desk.specs.Scripts.{HasDeskCause, HasRepliesCause, Worked, fails_to_reply};
 ghost use Rattle.live_desk.specs.Standing.{standing_of};
 ghost use Rattle.packet_feed.specs.Feed.{SourceStays};
@@ -13,13 +12,12 @@ ghost use Rattle.turn_cell.specs.Seats.{own_moves, seen_by};
 
 use crate::desk_end::DeskEnd;
 use crate::line::{Came, next_line};
-use desk::Desk;
+use crate::operator::{Operator, Place};
 use desk_lines::DeskReader;
 use edition::Edition;
-use edition_register::{Editions, Register};
+use edition_register::Editions;
 use fold_state::Board;
 use mib_model::Steps;
-use std::alloc::Global;
 use std::sync::Wait;
 use std::sync::ledger::Ledger;
 use tm_io::{Sink, Source};
@@ -34,27 +32,24 @@ fn is_awaited(go: bool, until_go: bool) -> bool
 }
 
 /// Handles the lines of a script to its end, or up to and with a `go` where that is to be waited for: then there is no end.
-pub fn work<L: Ledger, R: Wait, D: Source, P: Sink>(
-    rt: &R,
-    alloc: Global,
-    register: &Register<Edition, Board>,
+pub(crate) fn handle_lines<L: Ledger, R: Wait, O: Operator, D: Source, P: Sink>(
+    place: &Place<'_, R>,
     seat: &mut Seat<Editions<Edition, Board>>,
-    desk: &mut Desk,
+    operator: &mut O,
     reader: &mut DeskReader<D>,
     buffer: &mut [u8],
     replies: &mut P,
     steps: &mut Steps<L>,
     until_go: bool,
 ) -> Option<DeskEnd>
-    requires seat { IsSeat 1 register.now seat.old }
-    requires room { length (own_moves seat.old) ≤ (reading_of reader.old).lines }
-    requires editions { editions_of desk.old ≡ shown_in (first_of register.now) (own_moves seat.old) }
+    requires seated { IsSeated (number_if O.several place.now.desk) place.now.register.now seat.old (O.keeps operator.old) }
+    requires room { length (own_moves seat.old) ≤ 2 * (reading_of reader.old).lines }
     requires buffer { length buffer.old ≡ LINE_ROOM }
-    ensures seat { IsSeat 1 register.now seat.new }
-    ensures editions { editions_of desk.new ≡ shown_in (first_of register.now) (own_moves seat.new) }
-    ensures worked { Worked until_go result (standing_of D.left P.written reader.old desk.old seat.old replies.old)
-        (standing_of D.left P.written reader.new desk.new seat.new replies.new) }
-    ensures room { length (own_moves seat.new) ≤ (reading_of reader.new).lines }
+    ensures seated { IsSeated (number_if O.several place.now.desk) place.now.register.now seat.new (O.keeps operator.new) }
+    ensures worked { Worked (number_if O.several place.now.desk) until_go result
+        (standing_of O.state D.left P.written reader.old operator.old seat.old replies.old)
+        (standing_of O.state D.left P.written reader.new operator.new seat.new replies.new) }
+    ensures room { length (own_moves seat.new) ≤ 2 * (reading_of reader.new).lines }
     ensures seen { StartsWith (seen_by seat.new) (seen_by seat.old) }
     ensures desk { HasDeskCause result (D.faults (source_of reader.old)) (D.faults (source_of reader.new)) }
     ensures replies { HasRepliesCause result (P.faults replies.old) (P.faults replies.new) }
@@ -63,9 +58,7 @@ pub fn work<L: Ledger, R: Wait, D: Source, P: Sink>(
     ensures kept { SourceStays D.holds D.missed D.borrow (source_of reader.old) (source_of reader.new) }
 {
     loop {
-        match next_line(
-            rt, alloc, register, seat, desk, reader, buffer, replies, steps,
-        ) {
+        match next_line(place, seat, operator, reader, buffer, replies, steps) {
             Came::Handled { go } => {
                 if is_awaited(go, until_go) {
                     return None;

@@ -1,11 +1,11 @@
 -- A whole live run, by what its two sides did and by the history at its end.
-use Rattle.std.proofs.Common.{◌≡◌, ℕ, ◌+◌, ◌<◌, ◌^◌, Bool, true, false, arith, List, [], ◌∷◌, ◌++◌, map, length, Some, Result, refl, sym, ap, ◌∙◌, subst}
+use Rattle.std.proofs.Common.{◌≡◌, ℕ, ◌+◌, ◌<◌, ◌^◌, Bool, true, false, arith, List, [], ◌∷◌, ◌++◌, map, length, Some, None, Result, refl, sym, ap, ◌∙◌, subst}
 use Rattle.decode_session.specs.declared.ending.RunEnd.{RunEnd}
 use Rattle.decode_session.specs.declared.ending.RunFault.{RunFault}
 use Rattle.decode_session.specs.Causes.{HasOutCause}
 use Rattle.histories.specs.History.{IsOfSeatsBelow, Permits, StartsWith, calls_of, moves_of}
 use Rattle.live_desk.specs.declared.desk_end.DeskEnd.{DeskEnd}
-use Rattle.live_desk.specs.Scripts.{Desked, DeskedBy, HasDeskCause, HasRepliesCause}
+use Rattle.live_desk.specs.Scripts.{Desked, DeskedFrom, HasDeskCause, HasRepliesCause}
 use Rattle.live_desk.specs.Standing.{Standing}
 use Rattle.live_desk.proofs.DeskFacts.{starts-more}
 use Rattle.mib_model.specs.Texts.{rest_unless}
@@ -86,7 +86,7 @@ module _ {W : Type 0} (stands : W → List Member → Type 0) (watch watched : W
 
   -- a live run
   pub lives-of : (c : Code) (e : DeskEnd) (seen : RegisterHistory) (stood behind : Standing) (before now desk_before desk_now out_before out_now reply_before reply_now : ℕ) (l0 l1 w0 w1 : Known) → c ≡ code_by ended e → IsOfSeatsBelow 2 history → moves_of 1 history ≡ behind.held.own
-      → StartsWith history seen → HasOutCause ended out_before out_now → Runs stands ended (begun first watch w0) own before now l0 l1 watched w1 → DeskedBy e first seen stood behind → HasDeskCause (Some e) desk_before desk_now → HasRepliesCause (Some e) reply_before reply_now
+      → StartsWith history seen → HasOutCause ended out_before out_now → Runs stands ended (begun first watch w0) own before now l0 l1 watched w1 → DeskedFrom None e first seen stood behind → HasDeskCause (Some e) desk_before desk_now → HasRepliesCause (Some e) reply_before reply_now
       → Lives c first history (object l0 l1 before now) (object stood.left behind.left desk_before desk_now) (object w0 w1 out_before out_now) (object stood.held.written behind.held.written reply_before reply_now)
   unfolding prints-of
   lives-of c e seen stood behind before now desk_before desk_now out_before out_now reply_before reply_now l0 l1 w0 w1 is_code below desk_is on cause i desked desk_cause reply_cause =
@@ -109,7 +109,7 @@ module _ {W : Type 0} (stands : W → List Member → Type 0) (watch watched : W
 
   -- and what its watch was told
   pub watched-of : (c : Code) (e : DeskEnd) (seen : RegisterHistory) (stood behind : Standing) (before now desk_before desk_now out_before out_now reply_before reply_now : ℕ) (l0 l1 w0 w1 : Known) → c ≡ code_by ended e → IsOfSeatsBelow 2 history → moves_of 1 history ≡ behind.held.own
-      → StartsWith history seen → HasOutCause ended out_before out_now → Runs stands ended (begun first watch w0) own before now l0 l1 watched w1 → DeskedBy e first seen stood behind → HasDeskCause (Some e) desk_before desk_now → HasRepliesCause (Some e) reply_before reply_now
+      → StartsWith history seen → HasOutCause ended out_before out_now → Runs stands ended (begun first watch w0) own before now l0 l1 watched w1 → DeskedFrom None e first seen stood behind → HasDeskCause (Some e) desk_before desk_now → HasRepliesCause (Some e) reply_before reply_now
       → IsWatched stands c first history (object l0 l1 before now) (object stood.left behind.left desk_before desk_now) (object w0 w1 out_before out_now) (object stood.held.written behind.held.written reply_before reply_now) watch watched
   unfolding lives-of prints-of reads-ahead
   watched-of c e seen stood behind before now desk_before desk_now out_before out_now reply_before reply_now l0 l1 w0 w1 is_code below desk_is on cause i desked desk_cause reply_cause = record {

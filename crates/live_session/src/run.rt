@@ -1,5 +1,5 @@
 // A run: the lines up to the first `go`, and then the packets beside the other lines.
-ghost use Rattle.std.specs.Prelude.{◌≡◌, ◌≢◌, ◌≤◌, [], Err, Some, false, length};
+ghost use Rattle.std.specs.Prelude.{◌≡◌, ◌≢◌, ◌≤◌, ◌*◌, [], Err, Some, None, false, length};
 ghost use Rattle.decode_session.specs.Causes.{HasOutCause};
 ghost use Rattle.desk.specs.State.{desk_of, editions_of};
 ghost use Rattle.desk_lines.specs.Ahead.{reading_start};
@@ -8,7 +8,7 @@ ghost use Rattle.edition_register.specs.Seats.{IsSeat, first_of, shown_in};
 ghost use Rattle.histories.specs.History.{StartsWith};
 ghost use Rattle.live_desk.specs.Lines.{HandsOn};
 ghost use Rattle.live_desk.specs.DeskEnds.{is_reply_fault};
-ghost use Rattle.live_desk.specs.Scripts.{DeskedBy, HasDeskCause, HasRepliesCause, Worked, fails_to_reply};
+ghost use Rattle.live_desk.specs.Scripts.{DeskedFrom, HasDeskCause, HasRepliesCause, Worked, fails_to_reply};
 ghost use Rattle.live_desk.specs.Standing.{standing_of};
 ghost use Rattle.live_session.specs.Sides.{Intakes, IsReady};
 ghost use Rattle.mib_model.specs.Desk.{desk_start};
@@ -57,7 +57,7 @@ fn run_both<
     requires unused { own_moves intake.old.seat ≡ [] }
     requires ready { IsReady (first_of register.now) intake.old.first intake.old.stock }
     requires seat { IsSeat 1 register.now seat.old }
-    requires room { length (own_moves seat.old) ≤ (reading_of reader.old).lines }
+    requires room { length (own_moves seat.old) ≤ 2 * (reading_of reader.old).lines }
     requires editions { editions_of desk.old ≡ shown_in (first_of register.now) (own_moves seat.old) }
     ensures intake { IsSeat 0 register.now intake.new.seat }
     ensures seen { StartsWith (seen_by intake.new.seat) (seen_by intake.old.seat) }
@@ -68,8 +68,8 @@ fn run_both<
     ensures handed { result.0 ≢ Err (RunFault.Print Stop.Out) → O.handed out.new ≡ O.written out.new }
     ensures feed_kept { (F.holds feed.new ≡ F.holds feed.old) × (F.missed feed.new ≡ F.missed feed.old) }
     ensures seat { IsSeat 1 register.now seat.new }
-    ensures worked { Worked false result.1 (standing_of D.left P.written reader.old desk.old seat.old replies.old)
-        (standing_of D.left P.written reader.new desk.new seat.new replies.new) }
+    ensures worked { Worked None false result.1 (standing_of desk_of D.left P.written reader.old desk.old seat.old replies.old)
+        (standing_of desk_of D.left P.written reader.new desk.new seat.new replies.new) }
     ensures desk_cause { HasDeskCause result.1 (D.faults (source_of reader.old)) (D.faults (source_of reader.new)) }
     ensures replies { HasRepliesCause result.1 (P.faults replies.old) (P.faults replies.new) }
     ensures replied { HandsOn (fails_to_reply result.1) P.written P.handed replies.old replies.new }
@@ -126,8 +126,8 @@ pub(crate) fn run<
     ensures feed_kept { (F.holds feed.new ≡ F.holds feed.old) × (F.missed feed.new ≡ F.missed feed.old) }
     ensures seat { IsSeat 1 register.now seat.new }
     ensures desked { let first = first_of register.now in
-        DeskedBy result.1 first (seen_by intake.new.seat) (standing_of D.left P.written reader.old desk.old seat.old replies.old)
-        (standing_of D.left P.written reader.new desk.new seat.new replies.new) }
+        DeskedFrom None result.1 first (seen_by intake.new.seat) (standing_of desk_of D.left P.written reader.old desk.old seat.old replies.old)
+        (standing_of desk_of D.left P.written reader.new desk.new seat.new replies.new) }
     ensures desk_cause { HasDeskCause (Some result.1) (D.faults (source_of reader.old)) (D.faults (source_of reader.new)) }
     ensures replies { HasRepliesCause (Some result.1) (P.faults replies.old) (P.faults replies.new) }
     ensures replied { HandsOn (is_reply_fault result.1) P.written P.handed replies.old replies.new }

@@ -1,7 +1,7 @@
 // The two sides of a live run: what the intake owns, and what each does.
-ghost use Rattle.std.specs.Prelude.{◌≡◌, ◌≢◌, ◌≤◌, [], Err, length};
+ghost use Rattle.std.specs.Prelude.{◌≡◌, ◌≢◌, ◌≤◌, ◌*◌, [], Err, None, length};
 ghost use Rattle.decode_session.specs.Causes.{HasOutCause};
-ghost use Rattle.desk.specs.State.{editions_of};
+ghost use Rattle.desk.specs.State.{desk_of, editions_of};
 ghost use Rattle.desk_lines.specs.Reader.{reading_of, source_of};
 ghost use Rattle.edition_register.specs.Seats.{IsSeat, first_of, shown_in};
 ghost use Rattle.histories.specs.History.{StartsWith};
@@ -14,17 +14,14 @@ ghost use Rattle.turn_cell.specs.Seats.{own_moves, seen_by};
 
 use decode_session::{RunEnd, RunFault, Stop};
 use desk::Desk;
-use desk_lines::{DeskReader, LINE_ROOM};
+use desk_lines::DeskReader;
 use edition::Edition;
 use edition_register::{Editions, Register, Start};
 use fold_state::Board;
-use live_desk::{DeskEnd, work};
-use mib_model::Steps;
+use live_desk::{DeskEnd, Place, work};
 use packet_run::{Stock, Watch, run_packets};
 use std::alloc::Global;
-use std::marker::Brand;
 use std::sync::Wait;
-use std::sync::ledger::{Blank, Ledger};
 use std::thread::Threads;
 use tm_io::{Gate, Sink, Source};
 use turn_cell::Seat;
@@ -86,51 +83,6 @@ pub(crate) fn run_intake<F: Source, O: Sink, G: Gate + Sync, W: Watch, R: Thread
     )
 }
 
-// Handles the lines of a desk, and counts the plans that it compiles on a ledger of its own.
-fn work_counted<L: Ledger, R: Wait, D: Source, P: Sink>(
-    rt: &R,
-    alloc: Global,
-    register: &Register<Edition, Board>,
-    seat: &mut Seat<Editions<Edition, Board>>,
-    desk: &mut Desk,
-    reader: &mut DeskReader<D>,
-    replies: &mut P,
-    until_go: bool,
-    blank: Blank,
-) -> Option<DeskEnd>
-    requires name { blank.name ≡ L.name }
-    requires parts { blank.parts ≡ L.parts }
-    requires one { blank.parts ≡ 1 }
-    requires seat { IsSeat 1 register.now seat.old }
-    requires room { length (own_moves seat.old) ≤ (reading_of reader.old).lines }
-    requires editions { editions_of desk.old ≡ shown_in (first_of register.now) (own_moves seat.old) }
-    ensures seat { IsSeat 1 register.now seat.new }
-    ensures editions { editions_of desk.new ≡ shown_in (first_of register.now) (own_moves seat.new) }
-    ensures worked { Worked until_go result (standing_of D.left P.written reader.old desk.old seat.old replies.old)
-        (standing_of D.left P.written reader.new desk.new seat.new replies.new) }
-    ensures room { length (own_moves seat.new) ≤ (reading_of reader.new).lines }
-    ensures seen { StartsWith (seen_by seat.new) (seen_by seat.old) }
-    ensures desk { HasDeskCause result (D.faults (source_of reader.old)) (D.faults (source_of reader.new)) }
-    ensures replies { HasRepliesCause result (P.faults replies.old) (P.faults replies.new) }
-    ensures handed { HandsOn (fails_to_reply result) P.written P.handed replies.old replies.new }
-    ensures kept { SourceStays D.holds D.missed D.borrow (source_of reader.old) (source_of reader.new) }
-{
-    let mut steps = Steps::<L>::new(blank);
-    let mut buffer = [0; LINE_ROOM];
-    work(
-        rt,
-        alloc,
-        register,
-        seat,
-        desk,
-        reader,
-        &mut buffer,
-        replies,
-        &mut steps,
-        until_go,
-    )
-}
-
 /// Handles the lines of a desk to the end of its script, or up to and with a `go` where that is to be waited for.
 pub(crate) fn run_desk<R: Wait, D: Source, P: Sink>(
     rt: &R,
@@ -143,21 +95,24 @@ pub(crate) fn run_desk<R: Wait, D: Source, P: Sink>(
     until_go: bool,
 ) -> Option<DeskEnd>
     requires seat { IsSeat 1 register.now seat.old }
-    requires room { length (own_moves seat.old) ≤ (reading_of reader.old).lines }
+    requires room { length (own_moves seat.old) ≤ 2 * (reading_of reader.old).lines }
     requires editions { editions_of desk.old ≡ shown_in (first_of register.now) (own_moves seat.old) }
     ensures seat { IsSeat 1 register.now seat.new }
     ensures editions { editions_of desk.new ≡ shown_in (first_of register.now) (own_moves seat.new) }
-    ensures worked { Worked until_go result (standing_of D.left P.written reader.old desk.old seat.old replies.old)
-        (standing_of D.left P.written reader.new desk.new seat.new replies.new) }
-    ensures room { length (own_moves seat.new) ≤ (reading_of reader.new).lines }
+    ensures worked { Worked None until_go result (standing_of desk_of D.left P.written reader.old desk.old seat.old replies.old)
+        (standing_of desk_of D.left P.written reader.new desk.new seat.new replies.new) }
+    ensures room { length (own_moves seat.new) ≤ 2 * (reading_of reader.new).lines }
     ensures seen { StartsWith (seen_by seat.new) (seen_by seat.old) }
     ensures desk { HasDeskCause result (D.faults (source_of reader.old)) (D.faults (source_of reader.new)) }
     ensures replies { HasRepliesCause result (P.faults replies.old) (P.faults replies.new) }
     ensures handed { HandsOn (fails_to_reply result) P.written P.handed replies.old replies.new }
     ensures kept { SourceStays D.holds D.missed D.borrow (source_of reader.old) (source_of reader.new) }
 {
-    let blank = Blank::new(1);
-    work_counted::<Brand, R, D, P>(
-        rt, alloc, register, seat, desk, reader, replies, until_go, blank,
-    )
+    let place = Place {
+        rt,
+        alloc,
+        register,
+        desk: 1,
+    };
+    work(&place, seat, desk, reader, replies, until_go)
 }

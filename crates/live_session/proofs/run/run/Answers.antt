@@ -1,8 +1,9 @@
-use Rattle.std.proofs.Common.{◌≡◌, [], Option, false, sym, ap, subst, ◌∙◌}
+use Rattle.std.proofs.Common.{◌≡◌, [], Option, None, false, sym, ap, subst, ◌∙◌}
+use Rattle.desk.specs.State.{desk_of}
 use Rattle.edition_register.specs.Seats.{first_of}
 use Rattle.histories.specs.History.{moves_of}
 use Rattle.live_desk.specs.declared.desk_end.DeskEnd.{DeskEnd}
-use Rattle.live_desk.specs.Scripts.{DeskedBy, EndsEarly, Worked}
+use Rattle.live_desk.specs.Scripts.{DeskedFrom, EndsEarly, Worked}
 use Rattle.live_desk.specs.Standing.{Standing, standing_of}
 use Rattle.live_desk.proofs.DeskFacts.{desked-both, desked-early}
 use Rattle.live_session.proofs.run.run.Goals as goal
@@ -21,10 +22,10 @@ returns-in-Some-clause-desked g c =
     let front = seen_by c.meet.new.intake in let all = seen_by c.run_intake-ended.new.side.seat in
     let none : moves_of 0 front ≡ [] = intake.listed ∙ sym (ap (λ hs. listed (least hs) hs) intake.holds) ∙ c.meet.ensures.own.0 ∙ c.requires.unused in
     let own = seat.listed ∙ sym (ap (λ hs. listed (least hs) hs) seat.holds) in
-    let before = standing_of g.D.Source.left g.P.Sink.written c.args.reader.now c.args.desk.now c.args.seat.now c.args.replies.now in
-    let after = standing_of g.D.Source.left g.P.Sink.written begun.reader begun.desk begun.seat begun.replies in
-    subst (λ (o : RegisterHistory). DeskedBy e first all before (moved after o)) (sym c.meet.ensures.own.1)
-    (desked-early e first all front (seen_by begun.seat) c.run_intake-ended.ensures.seen none c.meet.ensures.intake.1 before after own c.requires.start c.requires.seat_unused c.requires.draft c.in-Some.ensures.worked)
+    let before = standing_of desk_of g.D.Source.left g.P.Sink.written c.args.reader.now c.args.desk.now c.args.seat.now c.args.replies.now in
+    let after = standing_of desk_of g.D.Source.left g.P.Sink.written begun.reader begun.desk begun.seat begun.replies in
+    subst (λ (o : RegisterHistory). DeskedFrom None e first all before (moved after o)) (sym c.meet.ensures.own.1)
+    (desked-early None e first all front (seen_by begun.seat) c.run_intake-ended.ensures.seen none c.meet.ensures.intake.1 before after own c.requires.start c.requires.seat_unused c.requires.draft c.in-Some.ensures.worked)
 
 pub returns-in-None-clause-desked : goal.returns-in-None-clause-desked
 returns-in-None-clause-desked g c =
@@ -33,9 +34,9 @@ returns-in-None-clause-desked g c =
     let front = seen_by c.meet.new.intake in let all = seen_by ended.intake.seat in
     let none : moves_of 0 front ≡ [] = intake.listed ∙ sym (ap (λ hs. listed (least hs) hs) intake.holds) ∙ c.meet.ensures.own.0 ∙ c.requires.unused in
     let own = seat.listed ∙ sym (ap (λ hs. listed (least hs) hs) seat.holds) in
-    let before = standing_of g.D.Source.left g.P.Sink.written c.args.reader.now c.args.desk.now c.args.seat.now c.args.replies.now in
-    let middle = standing_of g.D.Source.left g.P.Sink.written begun.reader begun.desk begun.seat begun.replies in
-    let after = standing_of g.D.Source.left g.P.Sink.written ended.reader ended.desk ended.seat ended.replies in
-    desked-both e first all front (seen_by begun.seat) c.run_both-ended.ensures.seen none c.meet.ensures.intake.1 before middle after own c.requires.start c.requires.seat_unused c.requires.draft c.in-None.ensures.worked
-    (subst (λ (o : RegisterHistory). EndsEarly false e (moved middle o) after) c.meet.ensures.own.1
-    (subst (λ (r : Option DeskEnd). Worked false r (moved middle (own_moves c.meet.new.desk)) after) c.in-Some-rest.is c.run_both-ended.ensures.worked))
+    let before = standing_of desk_of g.D.Source.left g.P.Sink.written c.args.reader.now c.args.desk.now c.args.seat.now c.args.replies.now in
+    let middle = standing_of desk_of g.D.Source.left g.P.Sink.written begun.reader begun.desk begun.seat begun.replies in
+    let after = standing_of desk_of g.D.Source.left g.P.Sink.written ended.reader ended.desk ended.seat ended.replies in
+    desked-both None e first all front (seen_by begun.seat) c.run_both-ended.ensures.seen none c.meet.ensures.intake.1 before middle after own c.requires.start c.requires.seat_unused c.requires.draft c.in-None.ensures.worked
+    (subst (λ (o : RegisterHistory). EndsEarly None false e (moved middle o) after) c.meet.ensures.own.1
+    (subst (λ (r : Option DeskEnd). Worked None false r (moved middle (own_moves c.meet.new.desk)) after) c.in-Some-rest.is c.run_both-ended.ensures.worked))

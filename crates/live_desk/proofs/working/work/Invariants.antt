@@ -1,4 +1,4 @@
-use Rattle.live_session.proofs.sides.run_desk.Given as goal
+use Rattle.live_desk.proofs.working.work.Given as goal
 
 abbrev pub ghosts-work_counted : goal.ghosts-work_counted
 ghosts-work_counted g a = record { name = a.blank.name; parts = a.blank.parts }
