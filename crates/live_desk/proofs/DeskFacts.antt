@@ -93,83 +93,91 @@ module _ (was : Reading) (unread : was ≡ reading_start) where
   tail-one number e None tail is = tt
   tail-one number e (Some l) tail is = is ∙ ap (tail_at number e) (limit-of-start l)
 
--- ---- the two parts
+-- ---- the two parts; the first part of the history is the one that is given
 
 module _ (number : Option ℕ) (e : DeskEnd) (first : Database) (all front seen : RegisterHistory) (starts : StartsWith all front) (no_stamp : moves_of 0 front ≡ []) (later : StartsWith front seen) where
   -- the first lines, and then others
-  pub desked-both : (before middle after : Standing) → moves_of (seat_of number) seen ≡ middle.held.own → before.read ≡ reading_start → before.held.own ≡ [] → before.held.state ≡ desk_start first → Pauses number true before middle → EndsEarly number false e middle after → DeskedFrom number e first all before after
+  pub desked-both : (before middle after : Standing) → moves_of (seat_of number) seen ≡ middle.held.own → before.read ≡ reading_start → before.held.own ≡ [] → before.held.state ≡ desk_start first → Pauses number true before middle → EndsEarly number false e middle after
+      → (d : DeskedFrom number e first all before after) × (d.2.front ≡ front)
   desked-both before middle after listed unread unused begins p x =
       let w = p.works in let r = x.ends in
       let s1 = middle.held.state in let s2 = after.held.state in
       let w0 = before.held.written in let w1 = middle.held.written in let w2 = after.held.written in
       let early : middle.held.own ≡ moves_at (seat_of number) w.calls = w.own ∙ ap (λ l. l ++ moves_at (seat_of number) w.calls) unused in
       let front_is : prelude (is_several number) (w.handled ++ r.handled) ≡ w.handled = p.is_prelude r.handled in (
-        w.calls ++ r.calls,
-        r.own ∙ ap (λ l. l ++ moves_at (seat_of number) r.calls) early ∙ sym (moves-append (seat_of number) w.calls r.calls),
-        record {
-          given = w.given ++ r.given;
-          taken = Consumes-trans before.left middle.left after.left w.given r.given w.consumed r.consumed;
-          handled = w.handled ++ r.handled;
-          others = r.others;
-          of_script = script-both before.read unread middle.read before.left middle.left w.given w.handled r.handled r.others w.consumed w.ahead r.parted;
-          all = r.all;
-          whole = omega (arith, given-append w.given r.given, w.whole, r.whole, length-append w.handled r.handled);
-          no_more = more-given middle.read before.left middle.left w.given r.given w.handled r.handled r.others w.consumed w.upto r.parted r.no_more;
-          early = w.calls;
-          late = r.calls;
-          early_replies = w.replies;
-          late_replies = r.replies;
-          middle = s1;
-          last = s2;
-          at_first = subst (λ ls. IsDesk (is_several number) (desk_start first) ls w.calls w.replies s1) (sym front_is) (subst (λ s. IsDesk (is_several number) s w.handled w.calls w.replies s1) begins w.is_desk);
-          later = subst (λ ls. IsDesk (is_several number) s1 ls r.calls r.replies s2) (sym (ap (λ (ls : List (List ℕ)). drop (length ls) (w.handled ++ r.handled)) front_is ∙ drop-append_seam w.handled r.handled)) r.is_desk;
-          entered = refl;
-          tail = r.tail;
-          is_tail = tail-both before.read unread number e middle.read before.left middle.left w.given r.tail w.consumed w.limit r.is_tail;
-          told = subst (WritesUnless (is_reply_fault e) w0 w2) (sym (append_assoc (desk_text number w.replies) (desk_text number r.replies) r.tail) ∙ ap (λ t. t ++ r.tail) (sym (text-append number w.replies r.replies)))
-              (gives-behind (is_reply_fault e) (desk_text number w.replies) (desk_text number r.replies ++ r.tail) w0 w1 w2 (subst (Appends w0 w1) w.told p.printed) r.told);
-          fails_at = λ is. fails-behind number w.replies r.replies r.others r.tail w0 w1 w2 (subst (Appends w0 w1) w.told p.printed) (r.fails_at is);
-          front = front;
-          starts = starts;
-          no_stamp = no_stamp;
-          before = in-front (seat_of number) front seen middle.held.own w.calls later listed early;
-        },
+        (
+          w.calls ++ r.calls,
+          r.own ∙ ap (λ l. l ++ moves_at (seat_of number) r.calls) early ∙ sym (moves-append (seat_of number) w.calls r.calls),
+          record {
+            given = w.given ++ r.given;
+            taken = Consumes-trans before.left middle.left after.left w.given r.given w.consumed r.consumed;
+            handled = w.handled ++ r.handled;
+            others = r.others;
+            of_script = script-both before.read unread middle.read before.left middle.left w.given w.handled r.handled r.others w.consumed w.ahead r.parted;
+            all = r.all;
+            whole = omega (arith, given-append w.given r.given, w.whole, r.whole, length-append w.handled r.handled);
+            no_more = more-given middle.read before.left middle.left w.given r.given w.handled r.handled r.others w.consumed w.upto r.parted r.no_more;
+            early = w.calls;
+            late = r.calls;
+            early_replies = w.replies;
+            late_replies = r.replies;
+            middle = s1;
+            last = s2;
+            at_first = subst (λ ls. IsDesk (is_several number) (desk_start first) ls w.calls w.replies s1) (sym front_is) (subst (λ s. IsDesk (is_several number) s w.handled w.calls w.replies s1) begins w.is_desk);
+            later = subst (λ ls. IsDesk (is_several number) s1 ls r.calls r.replies s2) (sym (ap (λ (ls : List (List ℕ)). drop (length ls) (w.handled ++ r.handled)) front_is ∙ drop-append_seam w.handled r.handled)) r.is_desk;
+            entered = refl;
+            tail = r.tail;
+            is_tail = tail-both before.read unread number e middle.read before.left middle.left w.given r.tail w.consumed w.limit r.is_tail;
+            told = subst (WritesUnless (is_reply_fault e) w0 w2) (sym (append_assoc (desk_text number w.replies) (desk_text number r.replies) r.tail) ∙ ap (λ t. t ++ r.tail) (sym (text-append number w.replies r.replies)))
+                (gives-behind (is_reply_fault e) (desk_text number w.replies) (desk_text number r.replies ++ r.tail) w0 w1 w2 (subst (Appends w0 w1) w.told p.printed) r.told);
+            fails_at = λ is. fails-behind number w.replies r.replies r.others r.tail w0 w1 w2 (subst (Appends w0 w1) w.told p.printed) (r.fails_at is);
+            front = front;
+            starts = starts;
+            no_stamp = no_stamp;
+            before = in-front (seat_of number) front seen middle.held.own w.calls later listed early;
+          },
+        ),
+        refl,
       )
 
   -- the script ended before a `go`
-  pub desked-early : (before after : Standing) → moves_of (seat_of number) seen ≡ after.held.own → before.read ≡ reading_start → before.held.own ≡ [] → before.held.state ≡ desk_start first → EndsEarly number true e before after → DeskedFrom number e first all before after
+  pub desked-early : (before after : Standing) → moves_of (seat_of number) seen ≡ after.held.own → before.read ≡ reading_start → before.held.own ≡ [] → before.held.state ≡ desk_start first → EndsEarly number true e before after
+      → (d : DeskedFrom number e first all before after) × (d.2.front ≡ front)
   desked-early before after listed unread unused begins x =
       let r = x.ends in
       let s1 = after.held.state in
       let early : after.held.own ≡ moves_at (seat_of number) r.calls = r.own ∙ ap (λ l. l ++ moves_at (seat_of number) r.calls) unused in
       let front_is : prelude (is_several number) r.handled ≡ r.handled = x.is_prelude refl in (
-        r.calls,
-        early,
-        record {
-          given = r.given;
-          taken = r.consumed;
-          handled = r.handled;
-          others = r.others;
-          of_script = script-one before.read unread before.left r.handled r.others r.parted;
-          all = r.all;
-          whole = r.whole;
-          no_more = r.no_more;
-          early = r.calls;
-          late = [];
-          early_replies = r.replies;
-          late_replies = [];
-          middle = s1;
-          last = s1;
-          at_first = subst (λ ls. IsDesk (is_several number) (desk_start first) ls r.calls r.replies s1) (sym front_is) (subst (λ s. IsDesk (is_several number) s r.handled r.calls r.replies s1) begins r.is_desk);
-          later = subst (λ ls. IsDesk (is_several number) s1 ls [] [] s1) (sym (ap (λ (ls : List (List ℕ)). drop (length ls) r.handled) front_is ∙ drop-length r.handled)) (desk-none (is_several number) s1);
-          entered = sym (append-nil r.calls);
-          tail = r.tail;
-          is_tail = tail-one before.read unread number e before.left r.tail r.is_tail;
-          told = subst (λ rs. WritesUnless (is_reply_fault e) before.held.written after.held.written (desk_text number rs ++ r.tail)) (sym (append-nil r.replies)) r.told;
-          fails_at = λ is. subst (λ rs. FailsAt number rs r.others r.tail before.held.written after.held.written) (sym (append-nil r.replies)) (r.fails_at is);
-          front = front;
-          starts = starts;
-          no_stamp = no_stamp;
-          before = in-front (seat_of number) front seen after.held.own r.calls later listed early;
-        },
+        (
+          r.calls,
+          early,
+          record {
+            given = r.given;
+            taken = r.consumed;
+            handled = r.handled;
+            others = r.others;
+            of_script = script-one before.read unread before.left r.handled r.others r.parted;
+            all = r.all;
+            whole = r.whole;
+            no_more = r.no_more;
+            early = r.calls;
+            late = [];
+            early_replies = r.replies;
+            late_replies = [];
+            middle = s1;
+            last = s1;
+            at_first = subst (λ ls. IsDesk (is_several number) (desk_start first) ls r.calls r.replies s1) (sym front_is) (subst (λ s. IsDesk (is_several number) s r.handled r.calls r.replies s1) begins r.is_desk);
+            later = subst (λ ls. IsDesk (is_several number) s1 ls [] [] s1) (sym (ap (λ (ls : List (List ℕ)). drop (length ls) r.handled) front_is ∙ drop-length r.handled)) (desk-none (is_several number) s1);
+            entered = sym (append-nil r.calls);
+            tail = r.tail;
+            is_tail = tail-one before.read unread number e before.left r.tail r.is_tail;
+            told = subst (λ rs. WritesUnless (is_reply_fault e) before.held.written after.held.written (desk_text number rs ++ r.tail)) (sym (append-nil r.replies)) r.told;
+            fails_at = λ is. subst (λ rs. FailsAt number rs r.others r.tail before.held.written after.held.written) (sym (append-nil r.replies)) (r.fails_at is);
+            front = front;
+            starts = starts;
+            no_stamp = no_stamp;
+            before = in-front (seat_of number) front seen after.held.own r.calls later listed early;
+          },
+        ),
+        refl,
       )

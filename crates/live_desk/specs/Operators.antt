@@ -40,12 +40,14 @@ module _ {E B P Q : Type 0} {rows : Rows.Ghosts E} {boards : MadeFor.Ghosts B} w
   IsSeatAt (Some number) register seat = IsDeskSeat number register seat
 
   -- the seat is that of the desk of this number, and what its operator keeps fits the moves that the seat made behind edition 1
-  abbrev pub IsSeated : Option ℕ → Over (Lock P (View Register Entry Answer) (About (Editions E B rows boards)) Q) → RegisterSeat P → (Database → RegisterHistory → Type 0) → Type 0
+  abbrev pub IsSeated : Option ℕ → Over (Lock P (View Register Entry Answer) (About (Editions E B rows boards)) Q) → RegisterSeat P
+      → (Database → RegisterHistory → Type 0) → Type 0
   IsSeated number register seat keeps = IsSeatAt number register seat × keeps (first_of register) (own_moves seat)
 
 -- at the desk of this number a line went the way of its request, or want of memory refused it; the seat's moves grew by the entries that were
 -- made, and this is the line of its reply, where it has one
-pub record Operates (number : Option ℕ) (line : List ℕ) (old : DeskState) (before after : RegisterHistory) (reply : Option (List ℕ)) (new : DeskState) : Type 0 where
+pub record Operates (number : Option ℕ) (line : List ℕ) (old : DeskState) (before after : RegisterHistory) (reply : Option (List ℕ))
+    (new : DeskState) : Type 0 where
   pub given : Option DeskReply
   pub handles : HandlesLineAt (is_several number) (seat_of number) line old before after given new
   pub told : reply ≡ option_map (desk_line number) given

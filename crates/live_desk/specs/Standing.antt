@@ -29,4 +29,8 @@ held_by state written operator seat replies = record { state = state operator; o
 module _ {O S C D P : Type 0} (state : O → DeskState) (left : D → Option (List ℕ)) (written : P → Option (List ℕ)) where
   -- where a desk stands, by its reader, by its operator, by its seat, and by the object that its replies go to
   abbrev pub standing_of : DeskReader D → O → Seat S (View C Entry Answer) → P → Standing
-  standing_of reader operator seat replies = record { read = reading_of reader; left = left (source_of reader); held = held_by state written operator seat replies }
+  standing_of reader operator seat replies = record {
+    read = reading_of reader;
+    left = left (source_of reader);
+    held = held_by state written operator seat replies;
+  }

@@ -25,7 +25,7 @@ returns-in-Some-clause-desked g c =
     let before = standing_of desk_of g.D.Source.left g.P.Sink.written c.args.reader.now c.args.desk.now c.args.seat.now c.args.replies.now in
     let after = standing_of desk_of g.D.Source.left g.P.Sink.written begun.reader begun.desk begun.seat begun.replies in
     subst (λ (o : RegisterHistory). DeskedFrom None e first all before (moved after o)) (sym c.meet.ensures.own.1)
-    (desked-early None e first all front (seen_by begun.seat) c.run_intake-ended.ensures.seen none c.meet.ensures.intake.1 before after own c.requires.start c.requires.seat_unused c.requires.draft c.in-Some.ensures.worked)
+    (desked-early None e first all front (seen_by begun.seat) c.run_intake-ended.ensures.seen none c.meet.ensures.intake.1 before after own c.requires.start c.requires.seat_unused c.requires.draft c.in-Some.ensures.worked).0
 
 pub returns-in-None-clause-desked : goal.returns-in-None-clause-desked
 returns-in-None-clause-desked g c =
@@ -37,6 +37,6 @@ returns-in-None-clause-desked g c =
     let before = standing_of desk_of g.D.Source.left g.P.Sink.written c.args.reader.now c.args.desk.now c.args.seat.now c.args.replies.now in
     let middle = standing_of desk_of g.D.Source.left g.P.Sink.written begun.reader begun.desk begun.seat begun.replies in
     let after = standing_of desk_of g.D.Source.left g.P.Sink.written ended.reader ended.desk ended.seat ended.replies in
-    desked-both None e first all front (seen_by begun.seat) c.run_both-ended.ensures.seen none c.meet.ensures.intake.1 before middle after own c.requires.start c.requires.seat_unused c.requires.draft c.in-None.ensures.worked
+    (desked-both None e first all front (seen_by begun.seat) c.run_both-ended.ensures.seen none c.meet.ensures.intake.1 before middle after own c.requires.start c.requires.seat_unused c.requires.draft c.in-None.ensures.worked
     (subst (λ (o : RegisterHistory). EndsEarly None false e (moved middle o) after) c.meet.ensures.own.1
-    (subst (λ (r : Option DeskEnd). Worked None false r (moved middle (own_moves c.meet.new.desk)) after) c.in-Some-rest.is c.run_both-ended.ensures.worked))
+    (subst (λ (r : Option DeskEnd). Worked None false r (moved middle (own_moves c.meet.new.desk)) after) c.in-Some-rest.is c.run_both-ended.ensures.worked))).0
