@@ -60,12 +60,12 @@ module _ {S T E : Type 0} (written : S → Option (List ℕ)) (faults : S → �
   -- the count of the screen rose where it failed, in the run or behind it
   count-of : HasCause (faults before) (faults mid) shown → OnOk shown (HasCause (faults mid) (faults now) ended) → OnErr shown ((now ≡ mid) × IsErr ended)
       → RisesWhere (is_err ended) (faults before) (faults now)
-  count-of cause then stopped = by shown ended cause then stopped
+  count-of cause behind stopped = by shown ended cause behind stopped
     where
       by : (s e : Result T E) → HasCause (faults before) (faults mid) s → OnOk s (HasCause (faults mid) (faults now) e) → OnErr s ((now ≡ mid) × IsErr e) → RisesWhere (is_err e) (faults before) (faults now)
-      by (Ok t) e cause then stopped = subst (λ n. RisesWhere (is_err e) n (faults now)) cause.ok (rises-where (faults mid) (faults now) e then)
-      by (Err f) (Err g) cause then stopped = subst (λ n. RisesWhere true (faults before) n) (sym (ap faults stopped.0)) (cause.later, cause.failed)
-      by (Err f) (Ok t) cause then stopped = absurd stopped.1
+      by (Ok t) e cause behind stopped = subst (λ n. RisesWhere (is_err e) n (faults now)) cause.ok (rises-where (faults mid) (faults now) e behind)
+      by (Err f) (Err g) cause behind stopped = subst (λ n. RisesWhere true (faults before) n) (sym (ap faults stopped.0)) (cause.later, cause.failed)
+      by (Err f) (Ok t) cause behind stopped = absurd stopped.1
 
   -- what it was given are pages of the run
   pages-of : (names : List (List ℕ)) (members : List Member) (noted seen : List Page) (last : Page) (first at end number : ℕ) → first ≡ 0 → NumbersRise 0 members → StandsFor names noted last members
@@ -98,7 +98,7 @@ module _ {S T E : Type 0} (written : S → Option (List ℕ)) (faults : S → �
       → OnOk shown (Shows names (λ page. IsShownBy noted page ⊎ (page ≡ last)) (is_err ended) at end (written mid) (written now)) → OnOk ended (end ≡ max (max at number) last.number)
       → OnErr shown ((now ≡ mid) × IsErr ended) → HasCause (faults before) (faults mid) shown → OnOk shown (HasCause (faults mid) (faults now) ended)
       → LivesShown c (is_err ended) db names history feed desk out replies (object (written before) (written now) (faults before) (faults now))
-  lives-shown stands watch watched c db history feed desk out replies names noted seen last first at end number w begun of none begins is s t is_end stopped cause then =
+  lives-shown stands watch watched c db history feed desk out replies names noted seen last first at end number w begun of none begins is s t is_end stopped cause behind =
       let printed = w.lives.prints.ahead.printed in
       record {
         lives = w.lives;
@@ -106,5 +106,5 @@ module _ {S T E : Type 0} (written : S → Option (List ℕ)) (faults : S → �
         shows =
             pages-of names (members_by db history printed) noted seen last first at end number none (numbers-rise db history w.lives.is_history.legal printed)
             (of (members_by db history printed) (w.told [] begun)) begins is s t is_end stopped;
-        count = count-of cause then stopped;
+        count = count-of cause behind stopped;
       }
