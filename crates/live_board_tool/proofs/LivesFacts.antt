@@ -34,10 +34,11 @@ rise-from register c low (g ∷ gs) [] is = tt
 rise-from register c low (g ∷ gs) (p ∷ ps) is =
     let numbers = map (λ (s : ℕ × ℕ). s.0) gs in let others = range_with_len (low + 1 + 1) (length gs) in
     let number : g.0 ≡ low + 1 = cons-head g.0 (low + 1) numbers others is in
-    let behind = course_after c (stamped_in register (g, p)) in
-    (omega (arith, number),
-    subst (λ n. NumbersRise n (members_from behind (map (stamped_in register) (zip gs ps)))) (sym number)
-    (rise-from register behind (low + 1) gs ps (cons-tail g.0 (low + 1) numbers others is)))
+    let behind = course_after c (stamped_in register (g, p)) in (
+      omega (arith, number),
+      subst (λ n. NumbersRise n (members_from behind (map (stamped_in register) (zip gs ps)))) (sym number)
+          (rise-from register behind (low + 1) gs ps (cons-tail g.0 (low + 1) numbers others is)),
+    )
 
 -- the packets of a live run have numbers that rise from 1 on
 numbers-rise : (first : Database) (history : RegisterHistory) → IsRegisterHistory first history → (packets : List (List ℕ)) → NumbersRise 0 (members_by first history packets)
