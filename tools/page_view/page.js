@@ -74,7 +74,7 @@ function show(told) {
   find("alarms").replaceChildren(...alarms.map(([kind, number]) => made("li", `kind ${kind}`, `${number} ${kind}`)));
   find("said").replaceChildren(...told.said.map((it) => made("li", "", it)));
   document.querySelector("footer").hidden = !told.said.length;
-  if (isNew || cells.length !== shown.page.cells.length) draw(cells, isNew);
+  if (isNew) draw(cells, true);
   shown = told;
 }
 
