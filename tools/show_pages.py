@@ -21,7 +21,7 @@ COLOURS = {"HARD": "bold white on red", "STATUS": "bold white on magenta", "DELT
 CHIPS = {"waiting": ("bold black on bright_white", "WAITING"), "live": ("bold black on green", "LIVE"), "ended": ("bold white on grey37", "ENDED")}
 HERE = os.path.dirname(os.path.abspath(__file__))
 EACH = 0.1  # seconds from one drawing to the next, at least
-WIDTH, ABOVE = 34, 4  # columns of a block of names, lines above its rows
+LEAST, GAPS, ABOVE = 8, 9, 4  # columns of a number or a class at least, and between them; lines above the rows of a block
 LOCAL = ("127.0.0.1", "localhost")
 
 
@@ -52,11 +52,11 @@ def block(rich, cells, changed):
     """A table of some names."""
     table = rich.table.Table(box=rich.box.SIMPLE_HEAD, padding=(0, 1), pad_edge=False, header_style="dim")
     table.add_column("name", no_wrap=True)
-    table.add_column("raw", justify="right", no_wrap=True, min_width=8)
-    table.add_column("class", no_wrap=True, min_width=8)
+    table.add_column("raw", justify="right", no_wrap=True, min_width=LEAST)
+    table.add_column("class", no_wrap=True, min_width=LEAST)
     for it in cells:
         raw = ("\N{EN DASH}", "dim") if it.raw == "-" else (it.raw, "bold" if it.name in changed else "")
-        kind = "\N{EN DASH}" if it.kind == "-" else f" {it.kind} "
+        kind = " \N{EN DASH}" if it.kind == "-" else f" {it.kind} "
         table.add_row(it.name, rich.text.Text(*raw), rich.text.Text(kind, COLOURS[it.kind]))
     return table
 
@@ -66,8 +66,8 @@ def drawing(rich, shown, width, height):
     parts, changed = [header(rich.text, shown)], shown.changed()
     cells = shown.page.cells if shown.page else []
     rows = max(1, height - ABOVE - len(shown.said) - 2)
-    most = max(1, width // WIDTH)
-    blocks = min(most, math.ceil(len(cells) / rows)) or 1
+    wide = max((len(it.name) for it in cells), default=0) + max([LEAST, *(len(it.raw) for it in cells)]) + LEAST + GAPS
+    blocks = min(max(1, width // wide), math.ceil(len(cells) / rows)) or 1
     rows = min(rows, math.ceil(len(cells) / blocks))
     if cells:
         grid = rich.table.Table.grid(padding=(0, 3))
