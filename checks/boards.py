@@ -11,6 +11,7 @@ import fcntl
 import os
 import random
 import re
+import signal
 import subprocess
 import sys
 import tempfile
@@ -252,7 +253,7 @@ def run(program, seed, folder):
     way = rng.choice(WAYS)
     board = Board(rng, folder, way in ("at once", "slow"))
     nothing = [os.devnull] * 3
-    if subprocess.run([program, "board", board.path("tables"), *nothing], stdout=subprocess.DEVNULL, stderr=subprocess.DEVNULL, timeout=SECONDS).returncode == 3:
+    if subprocess.run([program, "board", board.path("tables"), *nothing], stdout=subprocess.DEVNULL, stderr=subprocess.DEVNULL).returncode == 3:
         return way, "refused", []
     does = {"at once": read_screen, "slow": slow_screen, "full": full_screen, "failing screen": failing_screen, "failing page": failing_page}
     differs, pages = does[way](program, board)
@@ -265,6 +266,7 @@ def main():
     counts, ways, seen = collections.Counter(), collections.Counter(), 0
     for seed in range(first, first + runs):
         with tempfile.TemporaryDirectory() as folder:
+            signal.alarm(SECONDS)  # a run that never ends ends the check
             way, found, pages = run(program, seed, folder)
             if found.startswith("differs"):
                 subprocess.run(["cp", "-r", folder, "differs_%d" % seed], check=False)
