@@ -1,0 +1,3 @@
+pub mod LivesFacts
+pub mod BoardFacts
+pub mod WholeFacts

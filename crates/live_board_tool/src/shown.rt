@@ -106,7 +106,7 @@ pub(crate) fn run_shown<
         rt,
         &mut || display.show_until(rt, &ended, screen),
         &mut || -> Watched<W>
-            requires opened { IsSomeAnd opened.now (λ run. IsOpened run) }
+            requires opened { IsSomeAnd opened (λ run. IsOpened run) }
         {
             run_told(
                 rt,
