@@ -135,10 +135,10 @@ def begun(program, words, **given):
 def fed(board, stream):
     """Writes the feed in pieces of some packets with a pause behind each."""
     with stream:
-        for at in range(0, len(board.packets), 20):
-            stream.write(b"".join(board.packets[at : at + 20]))
+        for at in range(0, len(board.packets), 10):
+            stream.write(b"".join(board.packets[at : at + 10]))
             stream.flush()
-            time.sleep(0.002)
+            time.sleep(0.005)
         stream.write(board.octets[len(board.octets) - board.rest :])
 
 
