@@ -100,7 +100,7 @@ impl Sink for Counted<'_> {
 fn a_page_comes_while_the_feed_waits(rt: HostRuntime) -> Result<(), Fail> {
     let alloc = rt.alloc();
     let octets = packets(alloc, &[2000; 65])?;
-    for workers in ["1", "2", "4"] {
+    for workers in ["1", "4"] {
         let shown = AtomicU64::new(0);
         let mut feed = Waiting {
             first: &octets[..768],
