@@ -40,8 +40,8 @@ module _ {T F D P O R S : Type 0} (f0 f1 f2 : F) (d0 d1 d2 : D) (fholds : F → 
   pub boarded : (closed : Option RegisterHistory) → Opened
       → RanBy c closed first names (shelf f1 f2 fholds fleft ffaults fmissed) (shelf d1 d2 dholds dleft dfaults dmissed) out replies screen
       → Boarded c closed w tables (shelf f0 f2 fholds fleft ffaults fmissed) (shelf d0 d2 dholds dleft dfaults dmissed) page out replies screen
-  boarded None opened (is, same_feed, same_desk, unwritten) =
-      (inr (is, opened.sound.stood, ap ffaults same_feed ∙ opened.had.of_feed.stood, ap dfaults same_desk ∙ opened.had.of_desk.stood, opened.had.of_page.stood), unwritten)
+  boarded None opened (is, same_feed, same_desk, unwritten, unreplied, unshown) =
+      (inr (is, opened.sound.stood, ap ffaults same_feed ∙ opened.had.of_feed.stood, ap dfaults same_desk ∙ opened.had.of_desk.stood, opened.had.of_page.stood), unwritten, unreplied, unshown)
   boarded (Some history) opened r = record {
     first = first;
     names = names;

@@ -99,9 +99,9 @@ module _ {T F D P : Type 0} (w : BoardWords) (db : Database) (octets script text
 
   -- no other input was refused than the page
   only-page : (c : BoardCode) → AreRefused c w tables feed desk page → (c ≡ code.Want) ⊎ Unpaged c w.page page
-  only-page c (inl (u, uncalled)) = inl (unread c u.refusal u.is_code u.cause u.refused)
-  only-page c (inr (d, sound, inl (unfed, uncalled))) = absurd (fed c unfed)
-  only-page c (inr (d, sound, inr (inl (turned, undesked, uncalled)))) = absurd (asked c undesked)
+  only-page c (inl (u, unfed, unasked, unpaged)) = inl (unread c u.refusal u.is_code u.cause u.refused)
+  only-page c (inr (d, sound, inl (unfed, unasked, unpaged))) = absurd (fed c unfed)
+  only-page c (inr (d, sound, inr (inl (turned, undesked, unpaged)))) = absurd (asked c undesked)
   only-page c (inr (d, sound, inr (inr (turned, ready, unpaged)))) = inr unpaged
 
   good : (c : BoardCode) → {names : List (List ℕ)} → IsPageOf names text → Unpaged c w.page page → c ≡ code.Want
@@ -219,7 +219,7 @@ module _ {T F D P O R S : Type 0} (w : BoardWords) (db : Database) (octets scrip
 
   pub completes : (c : BoardCode) (closed : Option RegisterHistory) (names : List (List ℕ)) → IsPageOf names text → IsCalmSink out → IsCalmSink replies → IsCalmSink screen
       → Boarded c closed w tables feed desk page out replies screen → CompletesBoard c closed db names octets script feed desk out replies screen
-  completes c None names is calm_out calm_replies calm_screen (said, unwritten) = by (no-run c said)
+  completes c None names is calm_out calm_replies calm_screen (said, unwritten, unreplied, unshown) = by (no-run c said)
     where
       by : (c ≡ code.Want) ⊎ Unpaged c w.page page → c ≡ code.Want
       by (inl want) = want
@@ -228,7 +228,7 @@ module _ {T F D P O R S : Type 0} (w : BoardWords) (db : Database) (octets scrip
 
   pub refuses : (c : BoardCode) (closed : Option RegisterHistory) (line : ℕ) → bad_line text ≡ Some line → Boarded c closed w tables feed desk page out replies screen
       → RefusesBoard (code.BadPage line) c closed
-  refuses c None line is (said, unwritten) = (refl, by (no-run c said))
+  refuses c None line is (said, unwritten, unreplied, unshown) = (refl, by (no-run c said))
     where
       by : (c ≡ code.Want) ⊎ Unpaged c w.page page → (c ≡ code.BadPage line) ⊎ (c ≡ code.Want)
       by (inl want) = inr want
