@@ -28,6 +28,7 @@ CASES = [
     (("plot.py", f"{SAMPLE}/live.txt", "never.pdf", "EPS_VBAT"), 2, b"usage: "), (("plot.py", "nosuch", "never.svg", "EPS_VBAT"), None, b"nosuch"),
     (("plot.py", f"{SAMPLE}/live.txt", "never.svg", "NOPE"), 1, b"NOPE"), (("replay.py", DESK, "nosuch"), 2, b"nosuch"),
     (("replay_archive.py", "summary", "nosuch"), 2, b"nosuch"), (("replay_archive.py", "parallel", "nosuch"), 2, b"nosuch"), (("pace.py", FEED, "-1"), 2, b"usage: "),
+    (("show_pages.py", "--help"), 0, b"usage: "), (("show_pages.py", "nosuch"), 2, b"nosuch"), (("show_pages.py", "--web", "70000"), 2, b"usage: "),
 ]
 
 
@@ -146,7 +147,7 @@ def main():
         os.chdir(folder)
         wrong = words_are_told() + an_edited_row_is_whole(folder) + a_draft_is_written(folder, program) + faults_of_form_come_first(folder)
         wrong += packets_come_with_a_pause() + a_span_ends_at_an_edition(folder, program) + asks_build_their_packets(folder, program)
-    print(*wrong, f"{len(CASES)} calls of {len(HELPERS)} helpers, {len(wrong)} wrong", sep="\n")
+    print(*wrong, f"{len(CASES)} calls of {len({it[0][0] for it in CASES})} helpers, {len(wrong)} wrong", sep="\n")
     return 1 if wrong else 0
 
 

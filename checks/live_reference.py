@@ -160,8 +160,8 @@ class Desk:
         self.expect(reply, "BADLINE")
 
 
-def output(tables, octets, script, replies):
-    """What a live run has to print, by a schedule that its replies allow."""
+def output(tables, octets, script, replies, **told):
+    """What a live run has to print, by a schedule that its replies allow; `told` is that of reference.output."""
     packets = len(reference.cut(octets)[0])
     desk = Desk(tables, packets)
     given = iter(replies)
@@ -169,4 +169,4 @@ def output(tables, octets, script, replies):
         desk.line(line, given)
     if next(given, None) is not None:
         raise Differs("replies to no line")
-    return reference.output(desk.editions, desk.edition_of, octets)
+    return reference.output(desk.editions, desk.edition_of, octets, **told)

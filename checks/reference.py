@@ -526,14 +526,16 @@ def cut(octets):
     return packets, len(octets) - at
 
 
-def output(editions, edition_of, octets):
-    """The text of a run: `editions` are the tables by number, `edition_of` gives the edition of a packet's number."""
+def output(editions, edition_of, octets, told=lambda number, interpreter: None):
+    """The text of a run: `editions` are the tables by number, `edition_of` gives the edition of a packet's number. Behind each packet `told` is
+    handed its number and the interpreter, with what it keeps then."""
     packets, rest = cut(octets)
     interpreter = Interpreter(editions[1])
     records = []
     for number, packet in enumerate(packets, 1):
         edition = edition_of(number)
         records.append(interpreter.record(number, packet, edition, editions[edition]))
+        told(number, interpreter)
     return "".join(records) + ("CUT %d\n" % rest if rest else "")
 
 

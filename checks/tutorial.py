@@ -1,11 +1,11 @@
 #!/usr/bin/env python3
 """Runs all blocks of commands of docs/TUTORIAL.md one behind the other, in `sh`, dash and bash, and looks for each line that the page shows.
 
-    checks/tutorial.py PROGRAM
+    checks/tutorial.py PROGRAM BOARD
 
-Each runs in a copy of the samples, tools and checks with the program where `rt run` leaves it. A line of a block of text has to stand in
+Each runs in a copy of the samples, tools and checks with the programs, mibtm and live_board, where `rt run` leaves them. A line of a block of text has to stand in
 what was printed or written, and a line `command   # words` has to print these words where they are a fault's. The files that are left are those that the page
-takes away. The helpers run by the python3 that runs this check, which needs Debian's matplotlib: /usr/bin/python3 has it.
+takes away. The helpers run by the python3 that runs this check, which needs Debian's matplotlib and rich: /usr/bin/python3 has them.
 """
 import os
 import re
@@ -31,8 +31,9 @@ def main():
         with tempfile.TemporaryDirectory() as folder:
             for name in COPIED:
                 shutil.copytree(f"{TOP}/{name}", f"{folder}/{name}")
-            os.makedirs(f"{folder}/crates/mibtm/out")
-            shutil.copy(sys.argv[1], f"{folder}/crates/mibtm/out/mibtm")
+            for name, program in zip(("mibtm", "live_board"), sys.argv[1:]):
+                os.makedirs(f"{folder}/crates/{name}/out")
+                shutil.copy(program, f"{folder}/crates/{name}/out/{name}")
             with open(f"{folder}/script", "w", encoding="utf-8") as file:
                 file.write(script)
             before = {os.path.join(at, it) for at, _, files in os.walk(folder) for it in files}
