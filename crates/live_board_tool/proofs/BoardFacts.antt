@@ -1,5 +1,5 @@
 -- What a board says of its objects, from what its run says of them.
-use Rattle.std.proofs.Common.{◌≡◌, ◌∙◌, ℕ, List, Option, None, Some, inr, ap, subst}
+use Rattle.std.proofs.Common.{◌∙◌, ℕ, List, Option, None, Some, inr, ap, subst}
 use Rattle.board_inputs.specs.Inputs.{AreOpened}
 use Rattle.live_session.specs.Live.{object}
 use Rattle.mib_model.specs.declared.database.Database.{Database}

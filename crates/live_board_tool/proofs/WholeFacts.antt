@@ -1,6 +1,6 @@
 -- Where nothing fails, a board shows all pages that it should, and a page that isn't accepted is refused.
-use Rattle.std.proofs.Common.{◌≡◌, ◌⊎◌, ◌∙◌, ◌==◌, ℕ, Bool, true, false, List, length, Option, None, Some, Result, Ok, Err, IfSome, IsSomeAnd, inl, inr, refl, sym, ap, subst, arith}
-use Rattle.board_inputs.specs.Inputs.{AreNotHad, AreRefused, AreUnread, Undesked, Unfed, Unpaged}
+use Rattle.std.proofs.Common.{◌≡◌, ◌⊎◌, ◌∙◌, ◌==◌, ℕ, Bool, true, false, List, length, Option, None, Some, Ok, Err, IfSome, IsSomeAnd, inl, inr, refl, sym, ap, subst, arith}
+use Rattle.board_inputs.specs.Inputs.{AreRefused, Undesked, Unfed, Unpaged}
 use Rattle.decode_session.specs.Run.{most_packets}
 use Rattle.folder_tables.specs.Refusals.{HasRefusalCause, Refuses}
 use Rattle.folder_tables.specs.declared.folder.Refusal.{Refusal}
@@ -12,7 +12,6 @@ use Rattle.live_session.specs.Live.{ending_of}
 use Rattle.mib_model.specs.declared.code.Code.{Code}
 use Rattle.mib_model.specs.declared.code.Code.TheVariants as live
 use Rattle.mib_model.specs.declared.database.Database.{Database}
-use Rattle.mib_model.specs.declared.fault.MibFault.{MibFault}
 use Rattle.mib_model.specs.Endings.{code_of_ending, code_of_rest}
 use Rattle.mib_model.specs.RegisterHistories.{RegisterHistory}
 use Rattle.page_files.specs.Files.{IsPageOf}

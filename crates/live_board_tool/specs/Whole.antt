@@ -8,10 +8,8 @@ use Rattle.mib_model.specs.declared.database.Database.{Database}
 use Rattle.mib_model.specs.Endings.{code_of_rest}
 use Rattle.mib_model.specs.RegisterHistories.{RegisterHistory}
 use Rattle.decode_session.specs.Run.{most_packets}
-use Rattle.page_files.specs.Files.{IsPageOf}
 use Rattle.page_texts.specs.declared.code.BoardCode.{BoardCode}
 use Rattle.page_texts.specs.declared.code.BoardCode.TheVariants as code
-use Rattle.page_texts.specs.PageFiles.{bad_line}
 use Rattle.session.specs.Sources.{Files}
 use Rattle.tool_objects.specs.Objects.{ShelfView, SinkView}
 use Rattle.tool_objects.specs.Sources.{sound_in}
