@@ -17,6 +17,21 @@ use std::sync::atomic::{AtomicBool, Ordering};
 use std::thread;
 use tm_io::{Failed, Sink};
 
+// For how many turns other threads go on between two looks. A look copies the words that a page is published in, which whoever publishes
+// then waits for.
+const TURNS: u32 = 256;
+
+// Lets other threads go on for a while, or until it is told that no more pages come: whether it was.
+fn rest(ended: &AtomicBool) -> bool {
+    for _ in 0..TURNS {
+        if ended.load(Ordering::Acquire) {
+            return true;
+        }
+        thread::yield_now();
+    }
+    false
+}
+
 impl Display {
     /// A display of at most 64 names that has written nothing.
     pub fn new(names: Vec<Name>, viewer: Viewer) -> Display
@@ -84,10 +99,9 @@ impl Display {
     {
         for _ in rt.forever() {
             self.show(rt, screen)?;
-            if ended.load(Ordering::Acquire) {
+            if rest(ended) {
                 return Ok(());
             }
-            thread::yield_now();
         }
         unreachable!()
     }

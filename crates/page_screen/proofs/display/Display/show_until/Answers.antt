@@ -12,8 +12,8 @@ returns-in_err-show-clause-shows g c =
     (shows-on (names_of first) (names_of at) (seen_by at) (seen_by after) true first.shown at.shown after.shown old mid new
     c.loop.invariant.names c.show.ensures.later c.loop.invariant.shows c.in_err-show.ensures.shows)
 
-pub returns-then-load-clause-shows : goal.returns-then-load-clause-shows
-returns-then-load-clause-shows g c =
+pub returns-then-rest-clause-shows : goal.returns-then-rest-clause-shows
+returns-then-rest-clause-shows g c =
     let first = c.args.self.now in let at = c.loop.self in let after = c.show.new.self in
     shows-on (names_of first) (names_of at) (seen_by at) (seen_by after) false first.shown at.shown after.shown
     (g.S.Sink.written c.args.screen.now) (g.S.Sink.written c.loop.screen) (g.S.Sink.written c.show.new.screen)
