@@ -1,5 +1,5 @@
 -- What a desk of a panel did in a whole run.
-use Rattle.std.proofs.Common.{◌≡◌, ◌∙◌, ℕ, false, true, List, [], ◌∷◌, map, Option, Some, None, refl, sym, ap, subst}
+use Rattle.std.proofs.Common.{◌≡◌, ◌∙◌, ℕ, false, [], ◌∷◌, map, Some, None, refl, sym, ap, subst}
 use Rattle.desk.specs.Handling.{moves_at}
 use Rattle.desk_lines.specs.Ahead.{reading_start}
 use Rattle.histories.specs.History.{StartsWith, calls_of, moves_of}
