@@ -1,1 +1,2 @@
 mod BeginningFacts
+pub mod StandFacts
