@@ -1,9 +1,4 @@
-use Rattle.std.proofs.Common.{◌≡◌, ◌+◌, ◌≤◌, List}
-use Rattle.commit_order.specs.Windows.{next_of}
-use Rattle.mib_model.specs.Interpreter.{StampedPacket}
-use Rattle.work_queue.specs.Passes.{IsOf}
-use Rattle.packet_run.specs.Piping.{GoesOn, Keeps, Piping, StaysInUse}
-use Rattle.packet_run.specs.Told.{From}
+use Rattle.packet_run.proofs.Common.{◌+◌, ◌≡◌, ◌≤◌, From, GoesOn, IsOf, Keeps, List, next_of, Piping, StampedPacket, StaysInUse}
 use Rattle.packet_run.proofs.commit.commit_to.Given as goal
 
 abbrev pub invariant-loop : goal.invariant-loop

@@ -1,7 +1,5 @@
-use Rattle.std.proofs.Common.{sym, ◌∙◌}
+use Rattle.packet_run.proofs.Common.{◌∙◌, first_of, holdings_of, own_moves, seen_by, sym}
 use Rattle.edition_register.proofs.SeatFacts.{own-listed}
-use Rattle.edition_register.specs.Seats.{first_of}
-use Rattle.turn_cell.specs.Seats.{holdings_of, own_moves, seen_by}
 use Rattle.packet_run.proofs.OpeningFacts.{same-tables}
 use Rattle.packet_run.proofs.ReadingFacts.{number-next}
 use Rattle.packet_run.proofs.reading.read_stamped.Goals as goal
