@@ -9,14 +9,17 @@ use Rattle.packet_run.specs.declared.reading.Stamped.{Stamped}
 use Rattle.packet_run.specs.declared.until.Until.{Until}
 use Rattle.packet_run.specs.declared.until.Until.TheVariants as until
 
-unstarted : {P : Type 0} (rows : P → Database) (start : Option (Start P Slots)) (A : Type 0) (shown : Database) → start ≡ None → MatchOption start A (λ x. IsStart rows is_made_for shown x) → A
+unstarted : {P : Type 0} (rows : P → Database) (start : Option (Start P Slots)) (A : Type 0) (shown : Database) → start ≡ None
+    → MatchOption start A (λ x. IsStart rows is_made_for shown x) → A
 unstarted rows start A shown none begins = subst (λ o. MatchOption o A (λ x. IsStart rows is_made_for shown x)) none begins
 
 module _ {P : Type 0} {plans : Ghosts P} {tables rows : P → Database} where
   -- without a start it is of the edition in use
-  pub of_use : {u : InUse P plans} {s : StampedPacket} {start : Option (Start P Slots)} → start ≡ None → ComesBehind tables rows u s.edition s.tables start → IsOfInUse tables u s
+  pub of_use : {u : InUse P plans} {s : StampedPacket} {start : Option (Start P Slots)} → start ≡ None → ComesBehind tables rows u s.edition s.tables start
+      → IsOfInUse tables u s
   of_use {u} {s} {start} none comes =
-      let e = unstarted rows start _ s.tables none comes.begins in record { edition = ap (λ (p : ℕ × Database). p.0) e; shown = ap (λ (p : ℕ × Database). p.1) e }
+      let e = unstarted rows start _ s.tables none comes.begins in
+      record { edition = ap (λ (p : ℕ × Database). p.0) e; shown = ap (λ (p : ℕ × Database). p.1) e }
 
   -- the edition in use stays, so it still comes behind it
   pub comes_still : {u v : InUse P plans} {edition : ℕ} {shown : Database} {start : Option (Start P Slots)} → StaysInUse u v
@@ -48,7 +51,8 @@ module _ {P : Type 0} {plans : Ghosts P} {tables : P → Database} {W : Type 0} 
   }
 
   -- packets were committed, and the edition in use stays
-  pub feeding_on : {own : RegisterHistory} {p q r : Pipeline P plans} {u v : InUse P plans} {w w' : W} {old left x y : Known} → Feeding tables stands from own p u w old left x → StaysInUse u v
+  pub feeding_on : {own : RegisterHistory} {p q r : Pipeline P plans} {u v : InUse P plans} {w w' : W} {old left x y : Known}
+      → Feeding tables stands from own p u w old left x → StaysInUse u v
       → ((stamped : List StampedPacket) → Piping tables stands from stamped p u w x → Piping tables stands from stamped q v w' y)
       → Keeps tables q r → put_by r ≡ put_by q → r.done ≡ q.done → r.read ≡ q.read → Feeding tables stands from own r v w' old left y
   feeding_on f stays on k put done read = record {
@@ -60,29 +64,35 @@ module _ {P : Type 0} {plans : Ghosts P} {tables : P → Database} {W : Type 0} 
   }
 
   -- no packet more is read
-  pub fed : (u : Until) {own : RegisterHistory} {p : Pipeline P plans} {v : InUse P plans} {w : W} {old left new x : Known} {stamped : List StampedPacket} {packets : List (List ℕ)} → Reads own stamped packets old left
-      → EndsUntil u (length own) left new → p.read ≤ p.done + 32 → PipesUntil tables stands u from stamped p v w x → Fed tables stands u from own p v w old new x
-  fed u {left = left} {stamped = stamped} {packets = packets} reads ends ahead pipes = record { stamped = stamped; packets = packets; left = left; reads = reads; ends = ends; ahead = ahead; pipes = pipes }
+  pub fed : (u : Until) {own : RegisterHistory} {p : Pipeline P plans} {v : InUse P plans} {w : W} {old left new x : Known} {stamped : List StampedPacket}
+      {packets : List (List ℕ)} → Reads own stamped packets old left
+      → EndsUntil u (length own) left new → p.read ≤ p.done + 32 → PipesUntil tables stands u from stamped p v w x
+      → Fed tables stands u from own p v w old new x
+  fed u {left = left} {stamped = stamped} {packets = packets} reads ends ahead pipes =
+      record { stamped = stamped; packets = packets; left = left; reads = reads; ends = ends; ahead = ahead; pipes = pipes }
 
-module _ {P : Type 0} {plans : Ghosts P} {tables rows : P → Database} {W : Type 0} {stands : W → List Member → Type 0} {from : From W} where
+module _ {P : Type 0} {plans : Ghosts P} {tables rows : P → Database} {W : Type 0} {stands : W → List Member → Type 0} {from : From W} {first : Database}
+    {own after : RegisterHistory} {p : Pipeline P plans} {u : InUse P plans} {w : W} {old left new x : Known} {read : Stamped P}
+    (f : Feeding tables stands from own p u w old left x) (e : from.first ≡ first)
+    (is : IsStamped rows (last_stamped (1, first) own) read own after left new) (count : length own ≡ p.read) where
   -- one packet more was read: it comes behind those of the edition in use, and its number is the next
-  one_more : (Goes : List StampedPacket → StampedPacket → Type 0) {own after : RegisterHistory} {p : Pipeline P plans} {u : InUse P plans} {w : W} {old left new x : Known} {first : Database} {read : Stamped P}
-      → (f : Feeding tables stands from own p u w old left x) → from.first ≡ first → (is : IsStamped rows (last_stamped (1, first) own) read own after left new) → length own ≡ p.read
-      → ((stamped : List StampedPacket) (shown : Database) → ComesBehind tables rows u read.edition shown read.start → read.cell.number ≡ length stamped + 1
-      → Piping tables stands from stamped p u w x → Goes stamped (stamped_as read shown)) → Goes f.stamped (stamped_as read is.shown)
-  one_more Goes {own} {read = read} f e is count goes =
+  one_more : (Goes : List StampedPacket → StampedPacket → Type 0)
+      → ((stamped : List StampedPacket) (shown : Database) → ComesBehind tables rows u read.edition shown read.start
+      → read.cell.number ≡ length stamped + 1 → Piping tables stands from stamped p u w x → Goes stamped (stamped_as read shown))
+      → Goes f.stamped (stamped_as read is.shown)
+  one_more Goes goes =
       let at = ap (λ (d : Database). last_stamped (1, d) own) (sym e) ∙ f.last in let n = is.number in let r = f.piping.work.read in
       goes f.stamped is.shown (record {
         same = subst (λ (l : ℕ × Database). read.edition ≡ l.0 → is.shown ≡ l.1) at is.same;
         begins = subst (λ (l : ℕ × Database). MatchOption read.start ((read.edition, is.shown) ≡ l) (λ x. IsStart rows is_made_for is.shown x)) at is.begins;
       }) (omega (arith, n, r, count)) f.piping
 
-  pub feeding_more : {own after : RegisterHistory} {p q : Pipeline P plans} {u v : InUse P plans} {w w' : W} {old left new x y : Known} {first : Database} {read : Stamped P}
-      → Feeding tables stands from own p u w old left x → from.first ≡ first → IsStamped rows (last_stamped (1, first) own) read own after left new → length own ≡ p.read
-      → ((stamped : List StampedPacket) (shown : Database) → ComesBehind tables rows u read.edition shown read.start → read.cell.number ≡ length stamped + 1
-      → Piping tables stands from stamped p u w x → Takes tables stands from stamped (stamped_as read shown) q v w' y) → Feeding tables stands from after q v w' old new y
-  feeding_more {own} {after} {q = q} {v = v} {w' = w'} {y = y} {read = read} f e is count goes =
-      let takes = one_more (λ stamped s. Takes tables stands from stamped s q v w' y) f e is count goes in record {
+  pub feeding_more : {q : Pipeline P plans} {v : InUse P plans} {w' : W} {y : Known}
+      → ((stamped : List StampedPacket) (shown : Database) → ComesBehind tables rows u read.edition shown read.start
+      → read.cell.number ≡ length stamped + 1 → Piping tables stands from stamped p u w x → Takes tables stands from stamped (stamped_as read shown) q v w' y)
+      → Feeding tables stands from after q v w' old new y
+  feeding_more {q} {v} {w'} {y} goes =
+      let takes = one_more (λ stamped s. Takes tables stands from stamped s q v w' y) goes in record {
         stamped = f.stamped ++ stamped_as read is.shown ∷ [];
         packets = f.packets ++ packet_in read.cell ∷ [];
         reads = reads-more is f.reads;
@@ -90,11 +100,11 @@ module _ {P : Type 0} {plans : Ghosts P} {tables rows : P → Database} {W : Typ
         piping = takes.piping;
       }
 
-  -- the output failed in the record of one packet more
-  pub fed_stopped : {own after : RegisterHistory} {p q : Pipeline P plans} {u v : InUse P plans} {w w' : W} {old left new x y : Known} {first : Database} {read : Stamped P}
-      → Feeding tables stands from own p u w old left x → from.first ≡ first → IsStamped rows (last_stamped (1, first) own) read own after left new → length own ≡ p.read
-      → ((stamped : List StampedPacket) (shown : Database) → ComesBehind tables rows u read.edition shown read.start → read.cell.number ≡ length stamped + 1
-      → Piping tables stands from stamped p u w x → Stopped tables stands from (stamped ++ stamped_as read shown ∷ []) q w' y)
+  -- the output failed in its record
+  pub fed_stopped : {q : Pipeline P plans} {v : InUse P plans} {w' : W} {y : Known}
+      → ((stamped : List StampedPacket) (shown : Database) → ComesBehind tables rows u read.edition shown read.start
+      → read.cell.number ≡ length stamped + 1 → Piping tables stands from stamped p u w x
+      → Stopped tables stands from (stamped ++ stamped_as read shown ∷ []) q w' y)
       → length after ≤ 1000000000 → q.read ≤ q.done + 32 → Fed tables stands until.OutFault from after q v w' old new y
-  fed_stopped {q = q} {w' = w'} {y = y} f e is count goes few ahead =
-      fed until.OutFault (reads-more is f.reads) (refl, few) ahead (one_more (λ stamped s. Stopped tables stands from (stamped ++ s ∷ []) q w' y) f e is count goes)
+  fed_stopped {q} {w' = w'} {y} goes few ahead =
+      fed until.OutFault (reads-more is f.reads) (refl, few) ahead (one_more (λ stamped s. Stopped tables stands from (stamped ++ s ∷ []) q w' y) goes)

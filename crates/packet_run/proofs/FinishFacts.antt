@@ -45,18 +45,22 @@ module _ (law : SoundValues) (db : Database) (sound : IsSound db) (packet : List
 
   -- what was finished by the tables is a step of the interpreter
   pub has-stepped : FinishIsAStep → (number : ℕ) (title : Option (List ℕ)) (before after : Memory) (old new : List ℕ)
-      → title ≡ title_of db half.found → after ≡ (all_finished db (all_entered before vs) vs).0 → new ≡ old ++ lines_behind (head_text number half.header half.found title) packet db before
+      → title ≡ title_of db half.found → after ≡ (all_finished db (all_entered before vs) vs).0
+      → new ≡ old ++ lines_behind (head_text number half.header half.found title) packet db before
       → (c : Course) (s : StampedPacket) → ComesTo c s number packet db before → HasStepped c s after old new
   has-stepped steps number title before after old new titled left text c s comes =
       let given : ◌≡◌ {A = Extracted} (vs, half.ended) (values_of s.tables s.packet (match_of s.tables s.packet)) =
       is.values ∙ sym (λ i. values_of (comes.tables i) (comes.packet i) (match_of (comes.tables i) (comes.packet i))) in
       let step = steps c s vs half.ended given in
       let named : title ≡ title_of db (match_of db packet) = titled ∙ ap (title_of db) is.found in
-      let told : record_body (record_for c s) ≡ lines_behind (head_text number (header_of packet) (match_of db packet) (title_of db (match_of db packet))) packet db before =
+      let told : record_body (record_for c s) ≡ lines_behind
+      (head_text number (header_of packet) (match_of db packet) (title_of db (match_of db packet))) packet db before =
       step.text ∙ (λ i. lines_behind
-      (head_text (comes.number i) (header_of (comes.packet i)) (match_of (comes.tables i) (comes.packet i)) (title_of (comes.tables i) (match_of (comes.tables i) (comes.packet i))))
+      (head_text (comes.number i) (header_of (comes.packet i)) (match_of (comes.tables i) (comes.packet i))
+      (title_of (comes.tables i) (match_of (comes.tables i) (comes.packet i))))
       (comes.packet i) (comes.tables i) (comes.memory i)) in
-      let kept : (course_after c s).memory ≡ (all_finished db (all_entered before vs) vs).0 = step.memory ∙ (λ i. (all_finished (comes.tables i) (all_entered (comes.memory i) vs) vs).0) in
+      let kept : (course_after c s).memory ≡ (all_finished db (all_entered before vs) vs).0 = step.memory
+      ∙ (λ i. (all_finished (comes.tables i) (all_entered (comes.memory i) vs) vs).0) in
       record {
         text = text ∙ ap (λ (t : List ℕ). old ++ t) ((λ i. lines_behind (head_text number (is.header i) (is.found i) (named i)) packet db before) ∙ sym told);
         memory = kept ∙ sym left;

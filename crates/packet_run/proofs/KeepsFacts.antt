@@ -42,7 +42,8 @@ module _ {P : Type 0} {plans : Ghosts P} {tables : P → Database} {p q : Pipeli
   -- more results came from the queue, or the caller made them
   keeps_with : SharesStay p q → (a b : List (Task P plans)) → results_of q ≡ results_of p ++ a
       → ((made : List (Task P plans)) → WorksItself (IsWorked tables) number_in (got_by p) made → WorksItself (IsWorked tables) number_in (got_by q) (made ++ b))
-      → ((n : ℕ) (t : Task P plans) → waiting q.window n ≡ Some t → (waiting p.window n ≡ Some t) ⊎ ((number_in t ≡ n) × Contains (a ++ b) t)) → Keeps tables p q
+      → ((n : ℕ) (t : Task P plans) → waiting q.window n ≡ Some t → (waiting p.window n ≡ Some t) ⊎ ((number_in t ≡ n) × Contains (a ++ b) t))
+      → Keeps tables p q
   keeps_with shares a b results works waits = record {
     shares = shares;
     taken = a;
@@ -73,12 +74,15 @@ module _ {P : Type 0} {plans : Ghosts P} {tables : P → Database} {p q : Pipeli
   keeps_less e f less = keeps_same (record { jobs = cc; results = cc; none = cc }) (cc) (cc) less
 
   -- a result came from the queue
-  pub keeps_result : (t : Task P plans) → q.first ≡ p.first → account_of q.second ≡ with_got (account_of p.second) t → Held p.window q.window t → Keeps tables p q
+  pub keeps_result : (t : Task P plans) → q.first ≡ p.first → account_of q.second ≡ with_got (account_of p.second) t → Held p.window q.window t
+      → Keeps tables p q
   keeps_result t e f waits =
-      keeps_with (record { jobs = cc; results = cc; none = cc }) (t ∷ []) [] (cc) (λ made works. rw (ap (λ x. (account_of x).got) e, append-nil) works) (held t waits)
+      keeps_with (record { jobs = cc; results = cc; none = cc }) (t ∷ []) [] (cc) (λ made works. rw (ap (λ x. (account_of x).got) e, append-nil) works)
+      (held t waits)
 
   -- a job was put
-  pub keeps_put : (put : List (Task P plans)) → account_of q.first ≡ account (account_of p.first).shares put (got_by p) → q.second ≡ p.second → WaitsLess p.window q.window → Keeps tables p q
+  pub keeps_put : (put : List (Task P plans)) → account_of q.first ≡ account (account_of p.first).shares put (got_by p) → q.second ≡ p.second
+      → WaitsLess p.window q.window → Keeps tables p q
   keeps_put put e f less = keeps_same (record { jobs = cc; results = cc; none = cc }) (cc) (cc) less
 
   -- the caller worked a job itself
@@ -89,10 +93,12 @@ module _ {P : Type 0} {plans : Ghosts P} {tables : P → Database} {p q : Pipeli
       (λ made works. rw (ap (λ (a : Account _). a.got) e) (works_job (IsWorked tables) number_in (got_by p) made job t works is isnt)) (held t waits)
 
   -- it got an end
-  pub keeps_other : (cell : Task P plans) → account_of q.first ≡ with_got (account_of p.first) cell → q.second ≡ p.second → WaitsLess p.window q.window → Keeps tables p q
+  pub keeps_other : (cell : Task P plans) → account_of q.first ≡ with_got (account_of p.first) cell → q.second ≡ p.second → WaitsLess p.window q.window
+      → Keeps tables p q
   keeps_other cell e f less =
       keeps_with (record { jobs = cc; results = cc; none = cc }) [] [] (ap (λ x. (account_of x).got) f ∙ sym (append-nil (results_of p)))
-      (λ made works. rw (ap (λ (a : Account _). a.got) e, append-nil) (works_other (IsWorked tables) number_in (got_by p) made cell works)) (λ n t is. inl (less n t is))
+      (λ made works. rw (ap (λ (a : Account _). a.got) e, append-nil) (works_other (IsWorked tables) number_in (got_by p) made cell works))
+      (λ n t is. inl (less n t is))
 
   -- only ends were put
   pub keeps_ends : PutsEnds p q → Keeps tables p q

@@ -25,7 +25,8 @@ pub made-names : (db : Database) (board : Slots) → is_made_for db board ≡ tr
 made-names db board made = (slice_eq-Decides bytes_eq-Decides board.names (planned_names db) (is_made_for db board) refl).0 made ∙ sym (planned-names db)
 
 -- the last of moves that have their tables has its tables too
-last-has : (editions : List Database) (p : ℕ × Database) (ms : RegisterHistory) → p.1 ≡ slice_index_or editions (p.0 - 1) no_rows → AllByRecursion (λ m. HasItsTables editions m.reply) ms
+last-has : (editions : List Database) (p : ℕ × Database) (ms : RegisterHistory) → p.1 ≡ slice_index_or editions (p.0 - 1) no_rows
+    → AllByRecursion (λ m. HasItsTables editions m.reply) ms
     → (last_stamped p ms).1 ≡ slice_index_or editions ((last_stamped p ms).0 - 1) no_rows
 last-has editions p [] has all = has
 last-has editions p (m ∷ ms) has all = last-has editions (stamped_by p m.reply) ms (step m.reply all.0) all.1
@@ -34,12 +35,15 @@ last-has editions p (m ∷ ms) has all = last-has editions (stamped_by p m.reply
     step (answer.Stamped n e tables) is = is
     step other is = has
 
-first-stands : (first : Database) (before : RegisterHistory) → IsRegisterHistory first before → first ≡ slice_index_or (register_after first before).editions 0 no_rows
+first-stands : (first : Database) (before : RegisterHistory) → IsRegisterHistory first before
+    → first ≡ slice_index_or (register_after first before).editions 0 no_rows
 first-stands first before legal = sym (ap (λ es. slice_index_or es 0 no_rows) (editions-of (opening first) before legal))
 
 -- one edition has the same tables in the stamp before and in this one
-pub same-tables : (first : Database) (before own after : RegisterHistory) (n e : ℕ) (shown : Database) → IsRegisterHistory first before → after ≡ own ++ move 0 entry.Stamp (answer.Stamped n e shown) ∷ []
-    → AllByRecursion (λ m. HasItsTables (register_after first before).editions m.reply) after → e ≡ (last_stamped (1, first) own).0 → shown ≡ (last_stamped (1, first) own).1
+pub same-tables : (first : Database) (before own after : RegisterHistory) (n e : ℕ) (shown : Database) → IsRegisterHistory first before
+    → after ≡ own ++ move 0 entry.Stamp (answer.Stamped n e shown) ∷ []
+    → AllByRecursion (λ m. HasItsTables (register_after first before).editions m.reply) after → e ≡ (last_stamped (1, first) own).0
+    → shown ≡ (last_stamped (1, first) own).1
 same-tables first before own after n e shown legal grows all is =
     let editions = (register_after first before).editions in let ms = move 0 entry.Stamp (answer.Stamped n e shown) ∷ [] in
     let has : RegisterHistory → Type 0 = AllByRecursion (λ m. HasItsTables editions m.reply) in let whole = subst has grows all in

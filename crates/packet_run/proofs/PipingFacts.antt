@@ -1,5 +1,5 @@
 -- What a run's steps do to what is kept while packets are in work.
-use Rattle.packet_run.proofs.Common.{[], ℕ, ◌++◌, ◌+◌, ◌<◌, ◌∙◌, ◌∷◌, ◌≡◌, ◌≤◌, All, All-append, All-cons, All-drop, All-nil, All-weaker, AllRight, ap, append-nil, append_assoc, Appends-nil, Appends-trans, arc_value, arith, Contains-append_left, Contains-push, Course, course_of, Database, drop, drop-append-le, drop-append_seam, drop-drop, drop_all, Extends, From, Ghosts, GoesOn, Going, HasPrinted, InUse, InWork, IsFirst, IsJob, IsOfInUse, IsOfStamp, IsResultOf, IsRight, IsUnused, IsWorked, jobs_among, Keeps, Known, length, length-append, List, Member, next_of, number_in, Pipeline, Piping, Prints, put_by, PutsJobs, record_for, record_text, refl, results_of, Some, StampedPacket, start, StaysInUse, Stopped, subst, sym, take, take-append-drop, Takes, Task, waiting, works_nothing, zero}
+use Rattle.packet_run.proofs.Common.{[], ℕ, ◌++◌, ◌+◌, ◌<◌, ◌∙◌, ◌∷◌, ◌≡◌, ◌≤◌, All, All-append, All-cons, All-drop, All-nil, All-weaker, AllRight, ap, append-nil, append_assoc, Appends-nil, Appends-trans, arc_value, arith, Contains-append_left, Contains-push, Course, course_of, Database, drop, drop-append-le, drop-append_seam, drop-drop, drop_all, Extends, From, Ghosts, GoesOn, Going, HasPrinted, InUse, InWork, IsFirst, IsJob, IsOfInUse, IsOfStamp, IsResultOf, IsRight, IsUnused, IsWorked, jobs_among, Keeps, Known, length, length-append, List, Member, next_of, number_in, Pipeline, Piping, Prints, put_by, PutsJobs, record_for, record_text, refl, results_of, Some, StampedPacket, start, StaysInUse, Stopped, subst, sym, take, take-append-drop, Takes, Task, waiting, works_nothing}
 use Rattle.decode_pool.proofs.PutFacts.{puts_further, puts_job, puts_nothing}
 use Rattle.decode_session.specs.Finishing.{standing}
 use Rattle.mib_model.specs.Interpreter.{course_after_all, interpret}
@@ -13,7 +13,8 @@ use Rattle.packet_run.specs.declared.job.Task.TheVariants as task
 
 -- a packet that comes behind all that were read
 at_end : (stamped all : List StampedPacket) (s : StampedPacket) (n : ℕ) → n ≡ length stamped → (e : Extends (stamped ++ s ∷ []) all) → drop n all ≡ s ∷ e.more
-at_end stamped all s n is e = ap (λ k. drop k all) is ∙ ap (drop (length stamped)) (e.parts ∙ append_assoc stamped (s ∷ []) e.more) ∙ drop-append_seam stamped (s ∷ e.more)
+at_end stamped all s n is e = ap (λ k. drop k all) is ∙ ap (drop (length stamped)) (e.parts ∙ append_assoc stamped (s ∷ []) e.more)
+    ∙ drop-append_seam stamped (s ∷ e.more)
 
 module _ {P : Type 0} {plans : Ghosts P} where
   pub goes_on_trans : {p q r : Pipeline P plans} → GoesOn p q → GoesOn q r → GoesOn p r
@@ -35,7 +36,8 @@ module _ {P : Type 0} {plans : Ghosts P} (tables : P → Database) where
     of_use : IsOfInUse tables u s
     is : IsResultOf tables s t
 
-  next_of_right : (stamped all : List StampedPacket) (n : ℕ) (u : InUse P plans) (t : Task P plans) → Extends stamped all → number_in t ≡ n + 1 → n < length stamped
+  next_of_right : (stamped all : List StampedPacket) (n : ℕ) (u : InUse P plans) (t : Task P plans) → Extends stamped all → number_in t ≡ n + 1
+      → n < length stamped
       → All (IsOfInUse tables u) (drop n stamped) → IsRight tables all t → Next all n u t
   next_of_right stamped all n u task.End extends number lt of_use right = absurd right
   next_of_right stamped all n u (task.Packet job) extends number lt of_use ((s, there, of), decoded) =
@@ -73,7 +75,8 @@ module _ {P : Type 0} {plans : Ghosts P} {tables : P → Database} where
           puts = puts (record {
             rise = w.puts.rise;
             below = w.puts.below;
-            each = All-weaker (IsJob tables stamped) (IsJob tables (stamped ++ s ∷ [])) (job_more tables stamped s) (jobs_among number_in (put_by p)) w.puts.each;
+            each = All-weaker (IsJob tables stamped) (IsJob tables (stamped ++ s ∷ [])) (job_more tables stamped s)
+                (jobs_among number_in (put_by p)) w.puts.each;
           });
           read = omega (arith, longer, r, read);
           numbered = numbered_push 1 stamped s w.numbered (omega (arith, number));
@@ -81,10 +84,12 @@ module _ {P : Type 0} {plans : Ghosts P} {tables : P → Database} where
         }
 
     -- and no job of it was put
-    work_alone : (s : StampedPacket) → Keeps tables p q → put_by q ≡ put_by p → q.read ≡ p.read + 1 → s.number ≡ length stamped + 1 → InWork tables stamped p Said
+    work_alone : (s : StampedPacket) → Keeps tables p q → put_by q ≡ put_by p → q.read ≡ p.read + 1 → s.number ≡ length stamped + 1
+        → InWork tables stamped p Said
         → ((all : List StampedPacket) → Extends (stamped ++ s ∷ []) all → Said all → SaidNow all) → InWork tables (stamped ++ s ∷ []) q SaidNow
     work_alone s k put read number w on =
-        work_more s k read number w (λ puts. rw put (puts_further number_in (IsJob tables (stamped ++ s ∷ [])) (put_by p) (p.read + 1) (q.read + 1) puts (omega (arith, read)))) on
+        work_more s k read number w
+        (λ puts. rw put (puts_further number_in (IsJob tables (stamped ++ s ∷ [])) (put_by p) (p.read + 1) (q.read + 1) puts (omega (arith, read)))) on
 
   module _ {W : Type 0} {stands : W → List Member → Type 0} {from : From W} where
     -- calls that neither read nor commit
@@ -93,7 +98,8 @@ module _ {P : Type 0} {plans : Ghosts P} {tables : P → Database} where
     piping_keeps k put done read pp = record { work = work_on k put read pp.work (λ all extends right g. rw done g); of_use = rw done pp.of_use }
 
     -- one more packet is committed
-    going_more : (all : List StampedPacket) (n : ℕ) (s : StampedPacket) (rest : List StampedPacket) {u v : InUse P plans} {w w' : W} {x y : Known} → drop n all ≡ s ∷ rest
+    going_more : (all : List StampedPacket) (n : ℕ) (s : StampedPacket) (rest : List StampedPacket) {u v : InUse P plans} {w w' : W} {x y : Known}
+        → drop n all ≡ s ∷ rest
         → HasPrinted tables stands (course_of tables u) s v x y w w' → Going tables stands from all n u w x → Going tables stands from all (n + 1) v w' y
     going_more all n s rest {u} {v} {w} {w'} {x} {y} at h g =
         let front = take n all in
@@ -102,12 +108,14 @@ module _ {P : Type 0} {plans : Ghosts P} {tables : P → Database} where
         let c = course_after_all (start from.first) front in
         record {
           printed = rw (next, text-next) (Appends-trans from.written x y (text_of from.first front) (record_text (record_for c s)) g.printed h'.printed);
-          course = (λ i. standing (h.edition i) (h.shown i) (sym h'.memory i)) ∙ sym (course-is c s) ∙ sym (course-next from.first front s) ∙ ap (course_after_all (start from.first)) (sym next);
+          course = (λ i. standing (h.edition i) (h.shown i) (sym h'.memory i)) ∙ sym (course-is c s) ∙ sym (course-next from.first front s)
+              ∙ ap (course_after_all (start from.first)) (sym next);
           watched = λ told is. rw (next, members-next, ← append_assoc) (h'.told (told ++ members_from (start from.first) front) (g.watched told is));
         }
 
     -- a first part of a record, behind the text of the packets before
-    prints_part : (all : List StampedPacket) (n : ℕ) (s : StampedPacket) (rest : List StampedPacket) {u : InUse P plans} {w : W} {x y : Known} → drop n all ≡ s ∷ rest
+    prints_part : (all : List StampedPacket) (n : ℕ) (s : StampedPacket) (rest : List StampedPacket) {u : InUse P plans} {w : W} {x y : Known}
+        → drop n all ≡ s ∷ rest
         → AppendsPrefix x y (record_text (record_for (course_of tables u) s)) → Going tables stands from all n u w x → Prints stands from all n w y
     prints_part all n s rest {u} {w} {x} {y} at part g =
         let front = take n all in
@@ -119,20 +127,25 @@ module _ {P : Type 0} {plans : Ghosts P} {tables : P → Database} where
         record {
           over = take p.0 whole;
           more = drop p.0 whole ++ behind.0;
-          parts = behind.1 ∙ ap (λ t. t ++ behind.0) (ap (text_of from.first) next ∙ text-next from.first front s ∙ ap (λ t. text ++ t) (sym (take-append-drop p.0 whole)) ∙ sym (append_assoc text (take p.0 whole) (drop p.0 whole)))
+          parts = behind.1 ∙ ap (λ t. t ++ behind.0) (ap (text_of from.first) next ∙ text-next from.first front s
+              ∙ ap (λ t. text ++ t) (sym (take-append-drop p.0 whole)) ∙ sym (append_assoc text (take p.0 whole) (drop p.0 whole)))
               ∙ append_assoc (text ++ take p.0 whole) (drop p.0 whole) behind.0;
           printed = Appends-trans from.written x y text (take p.0 whole) g.printed p.1;
           watched = g.watched;
         }
 
-    next_in : {stamped : List StampedPacket} {p : Pipeline P plans} {u : InUse P plans} {w : W} {x : Known} (t : Task P plans) → Some t ≡ waiting p.window (next_of p.window) → next_of p.window ≡ p.done + 1 → p.done < p.read
-        → (pp : Piping tables stands from stamped p u w x) (all : List StampedPacket) → Extends stamped all → AllRight tables all (results_of p ++ pp.work.made) → Next tables all p.done u t
+    next_in : {stamped : List StampedPacket} {p : Pipeline P plans} {u : InUse P plans} {w : W} {x : Known} (t : Task P plans)
+        → Some t ≡ waiting p.window (next_of p.window) → next_of p.window ≡ p.done + 1 → p.done < p.read
+        → (pp : Piping tables stands from stamped p u w x) (all : List StampedPacket) → Extends stamped all
+        → AllRight tables all (results_of p ++ pp.work.made) → Next tables all p.done u t
     next_in {stamped} {p} {u} t taken next lt pp all extends right =
         let h = pp.work.holds in let r = pp.work.read in
-        next_of_right tables stamped all p.done u t extends (h.numbered (next_of p.window) t (sym taken) ∙ next) (omega (arith, lt, r)) pp.of_use (right t (h.known (next_of p.window) t (sym taken)))
+        next_of_right tables stamped all p.done u t extends (h.numbered (next_of p.window) t (sym taken) ∙ next) (omega (arith, lt, r)) pp.of_use
+        (right t (h.known (next_of p.window) t (sym taken)))
 
     -- a result in its turn is committed
-    pub piping_commit : {stamped : List StampedPacket} {p q : Pipeline P plans} {u v : InUse P plans} {w w' : W} {x y : Known} (t : Task P plans) → Some t ≡ waiting p.window (next_of p.window) → next_of p.window ≡ p.done + 1 → p.done < p.read
+    pub piping_commit : {stamped : List StampedPacket} {p q : Pipeline P plans} {u v : InUse P plans} {w w' : W} {x y : Known} (t : Task P plans)
+        → Some t ≡ waiting p.window (next_of p.window) → next_of p.window ≡ p.done + 1 → p.done < p.read
         → Keeps tables p q → put_by q ≡ put_by p → q.done ≡ p.done + 1 → q.read ≡ p.read → StaysInUse u v
         → ((s : StampedPacket) → IsOfInUse tables u s → IsResultOf tables s t → HasPrinted tables stands (course_of tables u) s v x y w w')
         → Piping tables stands from stamped p u w x → Piping tables stands from stamped q v w' y
@@ -140,12 +153,14 @@ module _ {P : Type 0} {plans : Ghosts P} {tables : P → Database} where
       work = work_on k put read pp.work (λ all extends right g.
           let n = next_in t taken next lt pp all extends right in rw done (going_more all p.done n.s n.rest n.at (printed n.s n.of_use n.is) g));
       of_use = rw done (All-weaker (IsOfInUse tables u) (IsOfInUse tables v)
-          (λ s is. record { edition = is.edition ∙ sym stays.edition; shown = is.shown ∙ ap (λ h. tables (arc_value h)) (sym stays.handle) }) (drop (p.done + 1) stamped)
+          (λ s is. record { edition = is.edition ∙ sym stays.edition; shown = is.shown ∙ ap (λ h. tables (arc_value h)) (sym stays.handle) })
+          (drop (p.done + 1) stamped)
           (rw drop-drop at (All-drop (IsOfInUse tables u) 1 (drop p.done stamped) pp.of_use)));
     }
 
     -- the output failed in the record of a result
-    pub stopped_commit : {stamped : List StampedPacket} {p q : Pipeline P plans} {u : InUse P plans} {w w' : W} {x y : Known} (t : Task P plans) → Some t ≡ waiting p.window (next_of p.window) → next_of p.window ≡ p.done + 1 → p.done < p.read
+    pub stopped_commit : {stamped : List StampedPacket} {p q : Pipeline P plans} {u : InUse P plans} {w w' : W} {x y : Known} (t : Task P plans)
+        → Some t ≡ waiting p.window (next_of p.window) → next_of p.window ≡ p.done + 1 → p.done < p.read
         → Keeps tables p q → put_by q ≡ put_by p → q.done ≡ p.done → q.read ≡ p.read → w' ≡ w
         → ((s : StampedPacket) → IsOfInUse tables u s → IsResultOf tables s t → AppendsPrefix x y (record_text (record_for (course_of tables u) s)))
         → Piping tables stands from stamped p u w x → Stopped tables stands from stamped q w' y
@@ -153,7 +168,8 @@ module _ {P : Type 0} {plans : Ghosts P} {tables : P → Database} where
         let n = next_in t taken next lt pp all extends right in rw (done, untold) (prints_part all p.done n.s n.rest n.at (part n.s n.of_use n.is) g))
 
     -- it failed where nothing was being written
-    pub stopped_unflushed : {stamped : List StampedPacket} {p : Pipeline P plans} {u : InUse P plans} {w : W} {x y : Known} → y ≡ x → Piping tables stands from stamped p u w x → Stopped tables stands from stamped p w y
+    pub stopped_unflushed : {stamped : List StampedPacket} {p : Pipeline P plans} {u : InUse P plans} {w : W} {x y : Known} → y ≡ x
+        → Piping tables stands from stamped p u w x → Stopped tables stands from stamped p w y
     stopped_unflushed {p = p} same pp = work_on keeps_refl refl refl pp.work (λ all extends right g.
         let behind = text-front from.first p.done all in record {
           over = [];
@@ -164,25 +180,30 @@ module _ {P : Type 0} {plans : Ghosts P} {tables : P → Database} where
         })
 
     -- a job was put of a packet that was read
-    pub piping_offer : {stamped : List StampedPacket} {p q : Pipeline P plans} {u : InUse P plans} {w : W} {x : Known} (s : StampedPacket) (job : Job P plans) → Keeps tables p q → put_by q ≡ put_by p ++ task.Packet job ∷ [] → q.done ≡ p.done → q.read ≡ p.read + 1
+    pub piping_offer : {stamped : List StampedPacket} {p q : Pipeline P plans} {u : InUse P plans} {w : W} {x : Known} (s : StampedPacket) (job : Job P plans)
+        → Keeps tables p q → put_by q ≡ put_by p ++ task.Packet job ∷ [] → q.done ≡ p.done → q.read ≡ p.read + 1
         → p.done ≤ p.read → s.number ≡ length stamped + 1 → IsOfStamp tables s job → IsOfInUse tables u s
         → Piping tables stands from stamped p u w x → Piping tables stands from (stamped ++ s ∷ []) q u w x
     piping_offer {stamped} {p} {q} {u} s job k put done read below number of of_use pp =
         let r = pp.work.read in let num = of.number in let same : q.read + 1 ≡ job.cell.number + 1 = omega (arith, num, number, r, read) in record {
           work = work_more s k read number pp.work
-              (λ puts. rw (put, same) (puts_job number_in (IsJob tables (stamped ++ s ∷ [])) (put_by p) (p.read + 1) (task.Packet job) puts (omega (arith, num, number, r)) (λ zero. omega (arith, zero, num, number)) (s, Contains-push stamped s, of)))
+              (λ puts. rw (put, same) (puts_job number_in (IsJob tables (stamped ++ s ∷ [])) (put_by p) (p.read + 1) (task.Packet job) puts
+              (omega (arith, num, number, r)) (λ zero. omega (arith, zero, num, number)) (s, Contains-push stamped s, of)))
               (λ all extends g. rw done g);
           of_use = rw (done, drop-append-le p.done stamped (s ∷ []) (omega (arith, below, r)))
-              (All-append (IsOfInUse tables u) (drop p.done stamped) (s ∷ []) pp.of_use (All-cons (IsOfInUse tables u) s [] of_use (All-nil (IsOfInUse tables u))));
+              (All-append (IsOfInUse tables u) (drop p.done stamped) (s ∷ []) pp.of_use
+              (All-cons (IsOfInUse tables u) s [] of_use (All-nil (IsOfInUse tables u))));
         }
 
     -- the caller did it itself
-    pub piping_alone : {stamped : List StampedPacket} {p q : Pipeline P plans} {u v : InUse P plans} {w w' : W} {x y : Known} (s : StampedPacket) → Keeps tables p q → put_by q ≡ put_by p → p.done ≡ p.read → q.done ≡ p.done + 1 → q.read ≡ p.read + 1 → s.number ≡ length stamped + 1
+    pub piping_alone : {stamped : List StampedPacket} {p q : Pipeline P plans} {u v : InUse P plans} {w w' : W} {x y : Known} (s : StampedPacket)
+        → Keeps tables p q → put_by q ≡ put_by p → p.done ≡ p.read → q.done ≡ p.done + 1 → q.read ≡ p.read + 1 → s.number ≡ length stamped + 1
         → HasPrinted tables stands (course_of tables u) s v x y w w' → Piping tables stands from stamped p u w x → Takes tables stands from stamped s q v w' y
     piping_alone {stamped} {p} {q} {v = v} s k put all_done done read number h pp =
         let r = pp.work.read in let longer = length-append stamped (s ∷ []) in let at : p.done ≡ length stamped = omega (arith, all_done, r) in record {
           piping = record {
-            work = work_alone s k put read number pp.work (λ all extends g. rw done (going_more all p.done s extends.more (at_end stamped all s p.done at extends) h g));
+            work = work_alone s k put read number pp.work
+                (λ all extends g. rw done (going_more all p.done s extends.more (at_end stamped all s p.done at extends) h g));
             of_use = rw (drop_all q.done (stamped ++ s ∷ []) (omega (arith, longer, done, at))) (All-nil (IsOfInUse tables v));
           };
           edition = h.edition;
@@ -190,19 +211,24 @@ module _ {P : Type 0} {plans : Ghosts P} {tables : P → Database} where
         }
 
     -- the output failed in its record
-    pub stopped_alone : {stamped : List StampedPacket} {p q : Pipeline P plans} {u : InUse P plans} {w w' : W} {x y : Known} (s : StampedPacket) → Keeps tables p q → put_by q ≡ put_by p → p.done ≡ p.read → q.done ≡ p.done → q.read ≡ p.read + 1 → s.number ≡ length stamped + 1
-        → w' ≡ w → AppendsPrefix x y (record_text (record_for (course_of tables u) s)) → Piping tables stands from stamped p u w x → Stopped tables stands from (stamped ++ s ∷ []) q w' y
+    pub stopped_alone : {stamped : List StampedPacket} {p q : Pipeline P plans} {u : InUse P plans} {w w' : W} {x y : Known} (s : StampedPacket)
+        → Keeps tables p q → put_by q ≡ put_by p → p.done ≡ p.read → q.done ≡ p.done → q.read ≡ p.read + 1 → s.number ≡ length stamped + 1
+        → w' ≡ w → AppendsPrefix x y (record_text (record_for (course_of tables u) s)) → Piping tables stands from stamped p u w x
+        → Stopped tables stands from (stamped ++ s ∷ []) q w' y
     stopped_alone {stamped} {p} s k put all_done done read number untold part pp =
         let r = pp.work.read in let at : p.done ≡ length stamped = omega (arith, all_done, r) in
-        work_alone s k put read number pp.work (λ all extends g. rw (done, untold) (prints_part all p.done s extends.more (at_end stamped all s p.done at extends) part g))
+        work_alone s k put read number pp.work
+        (λ all extends g. rw (done, untold) (prints_part all p.done s extends.more (at_end stamped all s p.done at extends) part g))
 
     -- a packet more was read, and no job put of it
-    pub stopped_more : {stamped : List StampedPacket} {p q : Pipeline P plans} {w : W} {x : Known} (s : StampedPacket) → Keeps tables p q → put_by q ≡ put_by p → q.done ≡ p.done → q.read ≡ p.read + 1 → s.number ≡ length stamped + 1
+    pub stopped_more : {stamped : List StampedPacket} {p q : Pipeline P plans} {w : W} {x : Known} (s : StampedPacket) → Keeps tables p q → put_by q ≡ put_by p
+        → q.done ≡ p.done → q.read ≡ p.read + 1 → s.number ≡ length stamped + 1
         → Stopped tables stands from stamped p w x → Stopped tables stands from (stamped ++ s ∷ []) q w x
     stopped_more s k put done read number st = work_alone s k put read number st (λ all extends g. rw done g)
 
     -- nothing was read
-    pub piping_start : {p : Pipeline P plans} {u : InUse P plans} → IsUnused p → IsFirst tables from.first u → Piping tables stands from [] p u from.watch from.written
+    pub piping_start : {p : Pipeline P plans} {u : InUse P plans} → IsUnused p → IsFirst tables from.first u
+        → Piping tables stands from [] p u from.watch from.written
     unfolding text_of interpret course_after_all members_from
     piping_start {p} {u} unused first = record {
       work = record {

@@ -18,12 +18,17 @@ module _ {P : Type 0} {plans : Ghosts P} (tables : P → Database) where
       ((s, there, record { number = made.number ∙ of.number; packet = made.packet ∙ of.packet; edition = made.edition ∙ of.edition }), made.is_decoded)
 
   -- once the workers have served and all passes are joined
-  pub all_right : (jobs results : Queue (Task P plans)) (old new : List (Pass (Task P plans))) (p q : Pipeline P plans) (stamped : List StampedPacket) (made : List (Task P plans)) (limit : ℕ)
-      → IsStocked (account_of p.first) (account_of p.second) old → (account_of p.second).put ≡ [] → SharesStay p q → Holds tables made q → PutsJobs number_in (IsJob tables stamped) (put_by q) limit
-      → AllServe jobs results (IsWorked tables) number_in old new → TellsBalance (joined_jobs (account_of q.first) new) → TellsBalance (joined_results (account_of q.second) new)
+  pub all_right : (jobs results : Queue (Task P plans)) (old new : List (Pass (Task P plans))) (p q : Pipeline P plans) (stamped : List StampedPacket)
+      (made : List (Task P plans)) (limit : ℕ)
+      → IsStocked (account_of p.first) (account_of p.second) old → (account_of p.second).put ≡ [] → SharesStay p q → Holds tables made q
+      → PutsJobs number_in (IsJob tables stamped) (put_by q) limit
+      → AllServe jobs results (IsWorked tables) number_in old new → TellsBalance (joined_jobs (account_of q.first) new)
+      → TellsBalance (joined_results (account_of q.second) new)
       → AllRight tables stamped (results_of q ++ made)
   all_right jobs results old new p q stamped made limit stocked none shares holds puts serves tell_jobs tell_results result there =
-      let law = each_joined (IsWorked tables) number_in keeps_number jobs results old new (account_of p.first) (account_of p.second) (account_of q.first) (account_of q.second) made stocked
-      (record { rise = puts.rise; works = holds.works; no_result = shares.none ∙ none; job_shares = shares.jobs; result_shares = shares.results }) serves tell_jobs tell_results in
+      let law = each_joined (IsWorked tables) number_in keeps_number jobs results old new (account_of p.first) (account_of p.second) (account_of q.first)
+      (account_of q.second) made stocked
+      (record { rise = puts.rise; works = holds.works; no_result = shares.none ∙ none; job_shares = shares.jobs; result_shares = shares.results }) serves
+      tell_jobs tell_results in
       let of = law.0 result there in
       right_of stamped of.job result (joined_of_such (IsWorked tables) number_in (IsJob tables stamped) (put_by q) limit result puts of) of.is_made

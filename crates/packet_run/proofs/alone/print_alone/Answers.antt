@@ -6,9 +6,11 @@ pub returns-clause-printed : goal.returns-clause-printed
 returns-clause-printed g c = on_ok c.write_record.result _ _ _ (λ all told shown comes.
     let t = c.turn.ensures.turned shown comes in let f = c.finish_alone.ensures in
     has_printed all (record_turned (stamped_cell c.args.edition shown c.args.cell.now) t c.clear.ensures f.step)
-    (f.edition ∙ t.edition) (ap (λ h. g.P.Structures.tables (arc_value h)) f.handle ∙ t.shown) f.number told) c.write_record.ensures.all c.write_record.ensures.told
+    (f.edition ∙ t.edition) (ap (λ h. g.P.Structures.tables (arc_value h)) f.handle ∙ t.shown) f.number told)
+    c.write_record.ensures.all c.write_record.ensures.told
 
 pub returns-clause-part : goal.returns-clause-part
 returns-clause-part g c = on_err c.write_record.result _ _ (λ part shown comes.
-    rw ((record_turned (stamped_cell c.args.edition shown c.args.cell.now) (c.turn.ensures.turned shown comes) c.clear.ensures c.finish_alone.ensures.step).text) at part)
+    let t = c.turn.ensures.turned shown comes in
+    rw ((record_turned (stamped_cell c.args.edition shown c.args.cell.now) t c.clear.ensures c.finish_alone.ensures.step).text) at part)
     c.write_record.ensures.part

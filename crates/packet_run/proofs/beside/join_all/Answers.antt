@@ -11,6 +11,7 @@ loop-taken-preserved g c =
       own = (c.join.ensures.pass, c.join-in-Some.ensures.pass);
       ready = (subst (λ (l : List (Pass _)). Ready c.args.crew.now.jobs c.args.crew.now.results l) rev i.ready).2;
       jobs = ap (λ (a : Account _). joined_jobs a rest) c.join.ensures.account ∙ sym (ap (joined_jobs (account_of c.loop-taken.first)) rev) ∙ i.jobs;
-      results = ap (λ (a : Account _). joined_results a rest) c.join-in-Some.ensures.account ∙ sym (ap (joined_results (account_of c.loop-taken.second)) rev) ∙ i.results;
+      results = ap (λ (a : Account _). joined_results a rest) c.join-in-Some.ensures.account ∙ sym (ap (joined_results (account_of c.loop-taken.second)) rev)
+          ∙ i.results;
       told = inr (c.join.ensures.balance, c.join-in-Some.ensures.balance);
     }

@@ -14,7 +14,8 @@ returns-in_default-printed-clause-keeps g c = keeps_less refl refl (less_advance
 
 pub returns-in_default-printed-clause-stopped : goal.returns-in_default-printed-clause-stopped
 returns-in_default-printed-clause-stopped g c from stamped pp =
-    stopped_commit c.in-Some.task c.in-Some.ensures.taken c.requires.next c.requires.some (keeps_less refl refl (less_advanced c.in-Some.ensures.after)) refl refl refl
+    stopped_commit c.in-Some.task c.in-Some.ensures.taken c.requires.next c.requires.some
+    (keeps_less refl refl (less_advanced c.in-Some.ensures.after)) refl refl refl
     c.in_default-printed.ensures.untold c.in_default-printed.ensures.part pp
 
 pub returns-clause-keeps : goal.returns-clause-keeps
@@ -22,5 +23,6 @@ returns-clause-keeps g c = keeps_less refl refl (less_advanced c.in-Some.ensures
 
 pub returns-clause-piping : goal.returns-clause-piping
 returns-clause-piping g c from stamped pp =
-    piping_commit c.in-Some.task c.in-Some.ensures.taken c.requires.next c.requires.some (keeps_less refl refl (less_advanced c.in-Some.ensures.after)) refl refl refl
+    piping_commit c.in-Some.task c.in-Some.ensures.taken c.requires.next c.requires.some
+    (keeps_less refl refl (less_advanced c.in-Some.ensures.after)) refl refl refl
     c.print_result-printed.ensures.in_use c.in-Ok.ensures.printed pp

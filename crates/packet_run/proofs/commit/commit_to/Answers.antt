@@ -38,7 +38,8 @@ loop-preserved g c =
       passes = (k.first, k.second);
       next = k.stays.next ∙ ok.next ∙ (λ j. sym d j + 1);
       least = let l = i.least in omega (arith, m, l, r);
-      goes_on = goes_on_trans i.goes_on (goes_on_trans n.goes_on (record { put = k.put; read = r; more = omega (arith, d); below = λ b. omega (arith, b, d, r) }));
+      goes_on = goes_on_trans i.goes_on
+          (goes_on_trans n.goes_on (record { put = k.put; read = r; more = omega (arith, d); below = λ b. omega (arith, b, d, r) }));
       keeps = keeps_trans i.keeps (keeps_trans n.keeps k.keeps);
       in_use = stays_trans i.in_use n.in_use;
       piping = λ from stamped pp. piping_keeps k.keeps k.put d r (ok.piping from stamped (i.piping from stamped pp));

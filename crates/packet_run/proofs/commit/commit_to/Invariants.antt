@@ -9,7 +9,8 @@ invariant-loop g l = record {
   goes_on : GoesOn l.initial.pipeline l.pipeline;
   keeps : Keeps g.P.Structures.tables l.initial.pipeline l.pipeline;
   in_use : StaysInUse l.initial.in_use l.in_use;
-  piping : (from : From g.row.W.Denot) (stamped : List StampedPacket) → Piping g.P.Structures.tables g.W.Watch.stands from stamped l.initial.pipeline l.initial.in_use l.initial.watch (g.O.Sink.written l.initial.out)
+  piping : (from : From g.row.W.Denot) (stamped : List StampedPacket)
+      → Piping g.P.Structures.tables g.W.Watch.stands from stamped l.initial.pipeline l.initial.in_use l.initial.watch (g.O.Sink.written l.initial.out)
       → Piping g.P.Structures.tables g.W.Watch.stands from stamped l.pipeline l.in_use l.watch (g.O.Sink.written l.out);
   faults : g.O.Sink.faults l.out ≡ g.O.Sink.faults l.initial.out;
 }

@@ -19,7 +19,8 @@ returns-in_default-commit_to g c =
       keeps = k.keeps;
       drove = λ from own origin after before now cause fed.
           drove_stopped fed cause c.requires.below k.goes_on (e.stopped from fed.stamped (pipes_of c.args.until isnt fed.pipes));
-      out = λ before cause. subst (λ (n : ℕ). HasRisen n (g.O.Sink.faults c.commit_to.new.out)) (write_same c.args.until isnt cause) (e.cause.later, e.cause.failed);
+      out = λ before cause. subst (λ (n : ℕ). HasRisen n (g.O.Sink.faults c.commit_to.new.out)) (write_same c.args.until isnt cause)
+          (e.cause.later, e.cause.failed);
       handed = λ ne. absurd (ne refl);
     }
 

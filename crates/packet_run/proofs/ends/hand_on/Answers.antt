@@ -8,4 +8,5 @@ returns-in-Ok-clause-cause g c before cause = rw (c.in-Ok.ensures.cause.ok) caus
 pub returns-in-Err-clause-cause : goal.returns-in-Err-clause-cause
 returns-in-Err-clause-cause g c before was =
     let cause = c.in-Err.ensures.cause in
-    subst (λ (n : ℕ). HasRisen n (g.O.Sink.faults c.flush.new.self)) (out_same c.args.ended (sym c.is_out_fault.ensures ∙ c.if-is_out_fault.false) was) (cause.later, cause.failed)
+    subst (λ (n : ℕ). HasRisen n (g.O.Sink.faults c.flush.new.self)) (out_same c.args.ended (sym c.is_out_fault.ensures ∙ c.if-is_out_fault.false) was)
+    (cause.later, cause.failed)

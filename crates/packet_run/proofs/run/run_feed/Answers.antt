@@ -66,13 +66,15 @@ returns-in-Err-clause-fed g c from is pp =
     let f = feeding_on (i.feeding from is pp) w.in_use (c.in-Ok.ensures.piping from) (keeps_on keeps_refl refl refl refl) refl refl refl in
     let n = i.count in let a = i.ahead in let r = w.goes_on.read in let m = w.goes_on.more in let t = c.if-pipeline-ge-MOST_PACKETS.false in
     let less : length (own_moves c.loop.seat) < 1000000000 = omega (arith, n, t) in
-    fed (until.FeedEnds c.in-Err.field-0.why) {stamped = f.stamped} {packets = f.packets} (rw (u.1) f.reads) (u.0, rw (u.1) less) (omega (arith, a, r, m)) f.piping
+    fed (until.FeedEnds c.in-Err.field-0.why) {stamped = f.stamped} {packets = f.packets} (rw (u.1) f.reads) (u.0, rw (u.1) less)
+    (omega (arith, a, r, m)) f.piping
 
 pub loop-preserved : goal.loop-preserved
 loop-preserved g c =
     let i = c.loop.invariant in let w = c.make_way.ensures in let ok = c.in-Ok.ensures in let rs = c.read_stamped.ensures in let tp = c.take_packet.ensures in
     let done = c.in-Ok-take_packet.ensures in let is = c.in-Ok-read_stamped.ensures.read in let more = more_moves is in
-    let n = i.count in let r = w.goes_on.read in let room = ok.room in let t = c.if-pipeline-ge-MOST_PACKETS.false in let p = tp.read.0 in let m = tp.read.1 in record {
+    let n = i.count in let r = w.goes_on.read in let room = ok.room in let t = c.if-pipeline-ge-MOST_PACKETS.false in let p = tp.read.0 in let m = tp.read.1 in
+    record {
       seat = rs.seat;
       seen = starts-more (seen_by c.args.seat.now) (seen_by c.loop.seat) (seen_by c.read_stamped.new.seat) i.seen rs.seen;
       passes = tp.passes;
@@ -91,11 +93,13 @@ loop-preserved g c =
     }
 
 pub returns-in_default-take_packet-clause-keeps : goal.returns-in_default-take_packet-clause-keeps
-returns-in_default-take_packet-clause-keeps g c = keeps_trans (keeps_on (keeps_trans c.loop.invariant.keeps c.make_way.ensures.keeps) refl refl refl) c.take_packet.ensures.keeps
+returns-in_default-take_packet-clause-keeps g c = keeps_trans
+    (keeps_on (keeps_trans c.loop.invariant.keeps c.make_way.ensures.keeps) refl refl refl) c.take_packet.ensures.keeps
 
 pub returns-in_default-take_packet-clause-fed : goal.returns-in_default-take_packet-clause-fed
 returns-in_default-take_packet-clause-fed g c from e pp =
     let i = c.loop.invariant in let w = c.make_way.ensures in let tp = c.take_packet.ensures in let is = c.in-Ok-read_stamped.ensures.read in
     let f = feeding_on (i.feeding from e pp) w.in_use (c.in-Ok.ensures.piping from) (keeps_on keeps_refl refl refl refl) refl refl refl in
-    let n = i.count in let r = w.goes_on.read in let room = c.in-Ok.ensures.room in let t = c.if-pipeline-ge-MOST_PACKETS.false in let p = tp.read.0 in let m = tp.read.1 in let more = more_moves is in
+    let n = i.count in let r = w.goes_on.read in let room = c.in-Ok.ensures.room in let t = c.if-pipeline-ge-MOST_PACKETS.false in let p = tp.read.0 in
+    let m = tp.read.1 in let more = more_moves is in
     fed_stopped f e is (n ∙ sym r) (c.in_default-take_packet.ensures.stopped from) (omega (arith, more, n, t)) (omega (arith, p, m, room))

@@ -23,14 +23,16 @@ returns-in_default-commit_to-clause-keeps g c = keeps_on c.commit_to.ensures.kee
 
 pub returns-in_default-commit_to-clause-stopped : goal.returns-in_default-commit_to-clause-stopped
 returns-in_default-commit_to-clause-stopped g c from stamped shown comes number pp =
-    stopped_more (stamped_as c.args.read shown) (keeps_on keeps_refl refl refl refl) refl refl refl number (c.in_default-commit_to.ensures.stopped from stamped pp)
+    stopped_more (stamped_as c.args.read shown) (keeps_on keeps_refl refl refl refl) refl refl refl number
+    (c.in_default-commit_to.ensures.stopped from stamped pp)
 
 pub returns-clause-keeps : goal.returns-clause-keeps
 returns-clause-keeps g c = keeps_trans c.commit_to.ensures.keeps c.do_alone.ensures.keeps
 
 pub returns-clause-piping : goal.returns-clause-piping
 returns-clause-piping g c = on_ok c.do_alone.result _ _ _ (λ goes same from stamped shown comes number pp.
-    goes from stamped shown (comes_still c.commit_to.ensures.in_use comes) number (c.in-Ok.ensures.piping from stamped pp)) c.do_alone.ensures.piping c.do_alone.ensures.piping
+    goes from stamped shown (comes_still c.commit_to.ensures.in_use comes) number (c.in-Ok.ensures.piping from stamped pp))
+    c.do_alone.ensures.piping c.do_alone.ensures.piping
 
 pub returns-clause-stopped : goal.returns-clause-stopped
 returns-clause-stopped g c = on_err c.do_alone.result _ _ (λ stops from stamped shown comes number pp.
