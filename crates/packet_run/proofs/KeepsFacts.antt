@@ -41,7 +41,8 @@ module _ {P : Type 0} {plans : Ghosts P} where
 module _ {P : Type 0} {plans : Ghosts P} {tables : P → Database} {p q : Pipeline P plans} where
   -- more results came from the queue, or the caller made them
   keeps_with : SharesStay p q → (a b : List (Task P plans)) → results_of q ≡ results_of p ++ a
-      → ((made : List (Task P plans)) → WorksItself (IsWorked tables) number_in (got_by p) made → WorksItself (IsWorked tables) number_in (got_by q) (made ++ b))
+      → ((made : List (Task P plans)) → WorksItself (IsWorked tables) number_in (got_by p) made
+      → WorksItself (IsWorked tables) number_in (got_by q) (made ++ b))
       → ((n : ℕ) (t : Task P plans) → waiting q.window n ≡ Some t → (waiting p.window n ≡ Some t) ⊎ ((number_in t ≡ n) × Contains (a ++ b) t))
       → Keeps tables p q
   keeps_with shares a b results works waits = record {

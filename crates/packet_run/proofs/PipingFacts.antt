@@ -66,7 +66,8 @@ module _ {P : Type 0} {plans : Ghosts P} {tables : P → Database} where
 
     -- one packet more was read
     work_more : (s : StampedPacket) → Keeps tables p q → q.read ≡ p.read + 1 → s.number ≡ length stamped + 1 → InWork tables stamped p Said
-        → (PutsJobs number_in (IsJob tables (stamped ++ s ∷ [])) (put_by p) (p.read + 1) → PutsJobs number_in (IsJob tables (stamped ++ s ∷ [])) (put_by q) (q.read + 1))
+        → (PutsJobs number_in (IsJob tables (stamped ++ s ∷ [])) (put_by p) (p.read + 1)
+        → PutsJobs number_in (IsJob tables (stamped ++ s ∷ [])) (put_by q) (q.read + 1))
         → ((all : List StampedPacket) → Extends (stamped ++ s ∷ []) all → Said all → SaidNow all) → InWork tables (stamped ++ s ∷ []) q SaidNow
     work_more s k read number w puts on =
         let more = k.holds w.made w.holds in let longer = length-append stamped (s ∷ []) in let r = w.read in record {

@@ -39,7 +39,8 @@ record_turned {tables = tables} {u} s {after} {old} {mid} {new} t none step =
 -- a packet of the edition in use: it has no line of its edition, and goes on with what is kept
 pub record_use : {P : Type 0} {plans : Ghosts P} {tables : P → Database} {u : InUse P plans} {s : StampedPacket} {job : Job P plans} {after : Memory}
     {old new : List ℕ} → IsOfInUse tables u s → IsOfStamp tables s job → old ≡ []
-    → (tables (arc_value job.handle) ≡ tables (arc_value u.handle) → (c : Course) (s : StampedPacket) → ComesTo c s job.cell.number (packet_in job.cell) (tables (arc_value u.handle)) (memory_of u.board) → HasStepped c s after old new)
+    → (tables (arc_value job.handle) ≡ tables (arc_value u.handle) → (c : Course) (s : StampedPacket)
+    → ComesTo c s job.cell.number (packet_in job.cell) (tables (arc_value u.handle)) (memory_of u.board) → HasStepped c s after old new)
     → IsRecordOf (course_of tables u) s after new
 record_use {tables = tables} {u} {s} {after = after} {old} {new} here of none step =
     let c = course_of tables u in let e = same s.edition c.edition here.edition in
