@@ -1,3 +1,4 @@
+pub mod Common
 pub mod KeepsFacts
 pub mod OpeningFacts
 pub mod PipingFacts

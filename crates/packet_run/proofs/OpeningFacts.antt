@@ -1,21 +1,16 @@
 -- Boards and stamps, as an edition comes into use.
-use Rattle.std.proofs.Common.{◌≡◌, ℕ, ◌-◌, true, List, [], ◌∷◌, ◌++◌, map, refl, sym, ap, ◌∙◌, subst}
-use Rattle.std.proofs.lemmas.Slice.Eq.{slice_eq-Decides, bytes_eq-Decides}
-use Rattle.std.specs.List.{AllByRecursion, slice_index_or}
+use Rattle.packet_run.proofs.Common.{[], ℕ, ◌++◌, ◌-◌, ◌∙◌, ◌∷◌, ◌≡◌, AllByRecursion, ap, Database, drop-append_seam, HasItsTables, is_made_for, IsRegisterHistory, last_stamped, length, List, map, move, plan_names, planned_names, refl, register_after, RegisterHistory, slice_index_or, Slots, stamped_by, subst, sym, take-append_seam, true}
 use Rattle.edition_plans.specs.Params.{param_slices}
-use Rattle.edition_register.specs.Shown as Shown
 use Rattle.edition_register.proofs.RegisterFacts.{editions-of}
-use Rattle.fold_state.specs.Boards.{Slots, is_made_for, plan_names, planned_names}
-use Rattle.histories.specs.History.{move}
-use Rattle.mib_model.specs.declared.database.Database.{Database}
-use Rattle.mib_model.specs.declared.register.Answer.{Answer}
-use Rattle.mib_model.specs.declared.register.Answer.TheVariants as answer
-use Rattle.mib_model.specs.declared.register.Entry.TheVariants as entry
-use Rattle.mib_model.specs.declared.rows.PcfRow.{PcfRow}
 use Rattle.mib_model.specs.Database.{no_rows}
 use Rattle.mib_model.specs.Register.{opening}
-use Rattle.mib_model.specs.RegisterHistories.{RegisterHistory, IsRegisterHistory, register_after}
+use Rattle.mib_model.specs.declared.register.Answer.{Answer}
+use Rattle.mib_model.specs.declared.rows.PcfRow.{PcfRow}
 use Rattle.param_plan.specs.Slices.{slice_for}
+use Rattle.std.proofs.lemmas.Slice.Eq.{bytes_eq-Decides, slice_eq-Decides}
+use Rattle.std.proofs.ByRecursion
+use Rattle.mib_model.specs.declared.register.Answer.TheVariants as answer
+use Rattle.mib_model.specs.declared.register.Entry.TheVariants as entry
 
 names-of : (db : Database) (rows : List PcfRow) → map (λ slice. slice.pcf.name) (map (slice_for db) rows) ≡ map (λ row. row.name) rows
 names-of db [] = refl
@@ -30,26 +25,28 @@ pub made-names : (db : Database) (board : Slots) → is_made_for db board ≡ tr
 made-names db board made = (slice_eq-Decides bytes_eq-Decides board.names (planned_names db) (is_made_for db board) refl).0 made ∙ sym (planned-names db)
 
 -- the last of moves that have their tables has its tables too
-last-has : (editions : List Database) (p : ℕ × Database) (ms : RegisterHistory) → p.1 ≡ slice_index_or editions (p.0 - 1) no_rows → AllByRecursion (λ m. Shown.HasItsTables editions m.reply) ms
-    → (Shown.last_stamped p ms).1 ≡ slice_index_or editions ((Shown.last_stamped p ms).0 - 1) no_rows
+last-has : (editions : List Database) (p : ℕ × Database) (ms : RegisterHistory) → p.1 ≡ slice_index_or editions (p.0 - 1) no_rows
+    → AllByRecursion (λ m. HasItsTables editions m.reply) ms
+    → (last_stamped p ms).1 ≡ slice_index_or editions ((last_stamped p ms).0 - 1) no_rows
 last-has editions p [] has all = has
-last-has editions p (m ∷ ms) has all = last-has editions (Shown.stamped_by p m.reply) ms (step m.reply all.0) all.1
+last-has editions p (m ∷ ms) has all = last-has editions (stamped_by p m.reply) ms (step m.reply all.0) all.1
   where
-    step : (a : Answer) → Shown.HasItsTables editions a → (Shown.stamped_by p a).1 ≡ slice_index_or editions ((Shown.stamped_by p a).0 - 1) no_rows
+    step : (a : Answer) → HasItsTables editions a → (stamped_by p a).1 ≡ slice_index_or editions ((stamped_by p a).0 - 1) no_rows
     step (answer.Stamped n e tables) is = is
     step other is = has
 
-front-all : {X : Type 0} (P : X → Type 0) (xs ys : List X) → AllByRecursion P (xs ++ ys) → AllByRecursion P xs × AllByRecursion P ys
-front-all P [] ys all = (tt, all)
-front-all P (x ∷ xs) ys all = let rest = front-all P xs ys all.1 in ((all.0, rest.0), rest.1)
-
-first-stands : (first : Database) (before : RegisterHistory) → IsRegisterHistory first before → first ≡ slice_index_or (register_after first before).editions 0 no_rows
+first-stands : (first : Database) (before : RegisterHistory) → IsRegisterHistory first before
+    → first ≡ slice_index_or (register_after first before).editions 0 no_rows
 first-stands first before legal = sym (ap (λ es. slice_index_or es 0 no_rows) (editions-of (opening first) before legal))
 
 -- one edition has the same tables in the stamp before and in this one
-pub same-tables : (first : Database) (before own after : RegisterHistory) (n e : ℕ) (shown : Database) → IsRegisterHistory first before → after ≡ own ++ move 0 entry.Stamp (answer.Stamped n e shown) ∷ []
-    → AllByRecursion (λ m. Shown.HasItsTables (register_after first before).editions m.reply) after → e ≡ (Shown.last_stamped (1, first) own).0 → shown ≡ (Shown.last_stamped (1, first) own).1
+pub same-tables : (first : Database) (before own after : RegisterHistory) (n e : ℕ) (shown : Database) → IsRegisterHistory first before
+    → after ≡ own ++ move 0 entry.Stamp (answer.Stamped n e shown) ∷ []
+    → AllByRecursion (λ m. HasItsTables (register_after first before).editions m.reply) after → e ≡ (last_stamped (1, first) own).0
+    → shown ≡ (last_stamped (1, first) own).1
 same-tables first before own after n e shown legal grows all is =
-    let editions = (register_after first before).editions in
-    let parts = front-all (λ m. Shown.HasItsTables editions m.reply) own (move 0 entry.Stamp (answer.Stamped n e shown) ∷ []) (subst (AllByRecursion (λ m. Shown.HasItsTables editions m.reply)) grows all) in
-    parts.1.0 ∙ ap (λ (k : ℕ). slice_index_or editions (k - 1) no_rows) is ∙ sym (last-has editions (1, first) own (first-stands first before legal) parts.0)
+    let editions = (register_after first before).editions in let ms = move 0 entry.Stamp (answer.Stamped n e shown) ∷ [] in
+    let has : RegisterHistory → Type 0 = AllByRecursion (λ m. HasItsTables editions m.reply) in let whole = subst has grows all in
+    let front = subst has (take-append_seam own ms) (ByRecursion.All-take (λ m. HasItsTables editions m.reply) (length own) (own ++ ms) whole) in
+    let last = subst has (drop-append_seam own ms) (ByRecursion.All-drop (λ m. HasItsTables editions m.reply) (length own) (own ++ ms) whole) in
+    last.0 ∙ ap (λ (k : ℕ). slice_index_or editions (k - 1) no_rows) is ∙ sym (last-has editions (1, first) own (first-stands first before legal) front)

@@ -1,29 +1,10 @@
 -- The join of all passes: each result is right.
-use Rattle.std.proofs.Common.{◌≡◌, ℕ, List, [], ◌++◌, length, take, drop, sym, ap, ◌∙◌, subst}
-use Rattle.std.proofs.Math.Seq.{take-append_seam}
+use Rattle.packet_run.proofs.Common.{[], ℕ, ◌++◌, ◌∙◌, ◌≡◌, account_of, AllRight, AllServe, ap, Database, each_joined, Ghosts, Holds, IsJob, IsRight, IsStocked, IsWorked, joined_jobs, joined_of_such, joined_results, List, number_in, Pass, Pipeline, put_by, PutsJobs, results_of, SharesStay, StampedPacket, Task, TellsBalance}
 use Rattle.decode_pool.specs.Flow.{KeepsNumber}
-use Rattle.decode_pool.specs.Joins.{IsStocked, PutsJobs, TellsBalance, joined_jobs, joined_results}
-use Rattle.decode_pool.specs.Served.{AllServe}
-use Rattle.decode_pool.proofs.JoinFacts.{each_joined, joined_of_such}
-use Rattle.mib_model.specs.declared.database.Database.{Database}
-use Rattle.mib_model.specs.Interpreter.{StampedPacket}
-use Rattle.struct_plan.specs.declared.structure.Structures as Structures
-use Rattle.work_queue.specs.declared.queue.Pass.{Pass}
 use Rattle.work_queue.specs.declared.queue.Queue.{Queue}
-use Rattle.work_queue.specs.Passes.{account_of}
-use Rattle.packet_run.specs.declared.job.Task.{Task}
 use Rattle.packet_run.specs.declared.job.Task.TheVariants as task
-use Rattle.packet_run.specs.declared.parts.Pipeline.{Pipeline}
-use Rattle.packet_run.specs.Piping.{Holds, SharesStay, put_by, results_of}
-use Rattle.packet_run.specs.Tasks.{AllRight, IsJob, IsRight, IsWorked, number_in}
 
--- a list that was lent comes back as it was left
-pub came_back : {X : Type 0} (Q : List X → Type 0) (xs ys : List X) (n : ℕ) → length ys ≡ length xs → n ≡ length xs → Q ys → Q (take n (ys ++ drop (length ys) xs))
-came_back Q xs ys n same is holds =
-    let seam : n ≡ length ys = is ∙ sym same in
-    subst Q (sym (ap (λ k. take k (ys ++ drop (length ys) xs)) seam ∙ take-append_seam ys (drop (length ys) xs))) holds
-
-module _ {P : Type 0} {plans : Structures.Ghosts P} (tables : P → Database) where
+module _ {P : Type 0} {plans : Ghosts P} (tables : P → Database) where
   keeps_number : KeepsNumber (IsWorked {plans = plans} tables) number_in
   keeps_number task.End result is = ap (λ (t : Task P plans). number_in t) is
   keeps_number (task.Packet job) task.End is = absurd is
@@ -37,12 +18,17 @@ module _ {P : Type 0} {plans : Structures.Ghosts P} (tables : P → Database) wh
       ((s, there, record { number = made.number ∙ of.number; packet = made.packet ∙ of.packet; edition = made.edition ∙ of.edition }), made.is_decoded)
 
   -- once the workers have served and all passes are joined
-  pub all_right : (jobs results : Queue (Task P plans)) (old new : List (Pass (Task P plans))) (p q : Pipeline P plans) (stamped : List StampedPacket) (made : List (Task P plans)) (limit : ℕ)
-      → IsStocked (account_of p.first) (account_of p.second) old → (account_of p.second).put ≡ [] → SharesStay p q → Holds tables made q → PutsJobs number_in (IsJob tables stamped) (put_by q) limit
-      → AllServe jobs results (IsWorked tables) number_in old new → TellsBalance (joined_jobs (account_of q.first) new) → TellsBalance (joined_results (account_of q.second) new)
+  pub all_right : (jobs results : Queue (Task P plans)) (old new : List (Pass (Task P plans))) (p q : Pipeline P plans) (stamped : List StampedPacket)
+      (made : List (Task P plans)) (limit : ℕ)
+      → IsStocked (account_of p.first) (account_of p.second) old → (account_of p.second).put ≡ [] → SharesStay p q → Holds tables made q
+      → PutsJobs number_in (IsJob tables stamped) (put_by q) limit
+      → AllServe jobs results (IsWorked tables) number_in old new → TellsBalance (joined_jobs (account_of q.first) new)
+      → TellsBalance (joined_results (account_of q.second) new)
       → AllRight tables stamped (results_of q ++ made)
   all_right jobs results old new p q stamped made limit stocked none shares holds puts serves tell_jobs tell_results result there =
-      let law = each_joined (IsWorked tables) number_in keeps_number jobs results old new (account_of p.first) (account_of p.second) (account_of q.first) (account_of q.second) made stocked
-      (record { rise = puts.rise; works = holds.works; no_result = shares.none ∙ none; job_shares = shares.jobs; result_shares = shares.results }) serves tell_jobs tell_results in
+      let law = each_joined (IsWorked tables) number_in keeps_number jobs results old new (account_of p.first) (account_of p.second) (account_of q.first)
+      (account_of q.second) made stocked
+      (record { rise = puts.rise; works = holds.works; no_result = shares.none ∙ none; job_shares = shares.jobs; result_shares = shares.results }) serves
+      tell_jobs tell_results in
       let of = law.0 result there in
       right_of stamped of.job result (joined_of_such (IsWorked tables) number_in (IsJob tables stamped) (put_by q) limit result puts of) of.is_made

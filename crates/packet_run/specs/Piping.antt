@@ -89,6 +89,15 @@ module _ {P : Type 0} {plans : Structures.Ghosts P} (tables : P → Database) wh
     pub edition : s.edition ≡ in_use.edition
     pub shown : s.tables ≡ tables (arc_value in_use.handle)
 
+  -- these packets were read, and their jobs put; and if the results are right, whatever packets follow, then this is said of all
+  pub record InWork (stamped : List StampedPacket) (pipeline : Pipeline P plans) (IsSaid : List StampedPacket → Type 0) : Type 0 where
+    pub made : List (Task P plans)
+    pub holds : Holds made pipeline
+    pub puts : PutsJobs number_in (IsJob tables stamped) (put_by pipeline) (pipeline.read + 1)
+    pub read : length stamped ≡ pipeline.read
+    pub numbered : IsNumberedFrom 1 stamped
+    pub said : (all : List StampedPacket) → Extends stamped all → AllRight tables all (results_of pipeline ++ made) → IsSaid all
+
   module _ {W : Type 0} (stands : W → List Member → Type 0) where
     -- of these packets so many are committed: their text was written, this is kept after them, and the watch was told of each
     pub record Going (from : From W) (all : List StampedPacket) (done : ℕ) (in_use : InUse P plans) (watch : W) (written : Option (List ℕ)) : Type 0 where
@@ -96,29 +105,15 @@ module _ {P : Type 0} {plans : Structures.Ghosts P} (tables : P → Database) wh
       pub course : standing in_use.edition (tables (arc_value in_use.handle)) (memory_of in_use.board) ≡ course_after_all (start from.first) (take done all)
       pub watched : (told : List Member) → stands from.watch told → stands watch (told ++ members_from (start from.first) (take done all))
 
-    -- these packets were read, and their jobs put; those that aren't committed are of the edition in use; and if the results are right,
-    -- whatever packets follow, then the others are printed
+    -- these packets are in work, those that aren't committed are of the edition in use, and the others are printed
     pub record Piping (from : From W) (stamped : List StampedPacket) (pipeline : Pipeline P plans) (in_use : InUse P plans) (watch : W)
         (written : Option (List ℕ)) : Type 0 where
-      pub made : List (Task P plans)
-      pub holds : Holds made pipeline
-      pub puts : PutsJobs number_in (IsJob tables stamped) (put_by pipeline) (pipeline.read + 1)
-      pub read : length stamped ≡ pipeline.read
-      pub numbered : IsNumberedFrom 1 stamped
+      pub work : InWork stamped pipeline (λ all. Going from all pipeline.done in_use watch written)
       pub of_use : All (IsOfInUse in_use) (drop pipeline.done stamped)
-      pub going : (all : List StampedPacket) → Extends stamped all → AllRight tables all (results_of pipeline ++ made)
-          → Going from all pipeline.done in_use watch written
 
-    -- the output failed: these packets were read, and their jobs put; and if the results are right, whatever packets follow, then so much
-    -- is printed
-    pub record Stopped (from : From W) (stamped : List StampedPacket) (pipeline : Pipeline P plans) (watch : W) (written : Option (List ℕ)) : Type 0 where
-      pub made : List (Task P plans)
-      pub holds : Holds made pipeline
-      pub puts : PutsJobs number_in (IsJob tables stamped) (put_by pipeline) (pipeline.read + 1)
-      pub read : length stamped ≡ pipeline.read
-      pub numbered : IsNumberedFrom 1 stamped
-      pub prints : (all : List StampedPacket) → Extends stamped all → AllRight tables all (results_of pipeline ++ made)
-          → Prints stands from all pipeline.done watch written
+    -- the output failed: these packets are in work, and so much is printed
+    abbrev pub Stopped : From W → List StampedPacket → Pipeline P plans → W → Option (List ℕ) → Type 0
+    Stopped from stamped pipeline watch written = InWork stamped pipeline (λ all. Prints stands from all pipeline.done watch written)
 
     -- one more packet was read, and its edition is in use
     pub record Takes (from : From W) (stamped : List StampedPacket) (s : StampedPacket) (pipeline : Pipeline P plans) (in_use : InUse P plans)

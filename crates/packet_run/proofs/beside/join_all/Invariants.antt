@@ -1,7 +1,4 @@
-use Rattle.std.proofs.Common.{◌≡◌, ◌<◌, ◌⊎◌, length, reverse}
-use Rattle.work_queue.specs.Passes.{IsOf, account_of}
-use Rattle.decode_pool.specs.Joins.{TellsBalance, joined_jobs, joined_results}
-use Rattle.decode_pool.specs.Served.{Ready}
+use Rattle.packet_run.proofs.Common.{◌<◌, ◌≡◌, ◌⊎◌, account_of, IsOf, joined_jobs, joined_results, length, Ready, reverse, TellsBalance}
 use Rattle.packet_run.proofs.beside.join_all.Given as goal
 
 abbrev pub invariant-loop-taken : goal.invariant-loop-taken

@@ -1,6 +1,4 @@
-use Rattle.std.proofs.Common.{◌+◌, refl, sym, ◌∙◌, subst, arith}
-use Rattle.work_queue.specs.declared.queue.Pass.{Pass}
-use Rattle.work_queue.specs.Passes.{IsOf}
+use Rattle.packet_run.proofs.Common.{◌+◌, ◌∙◌, arith, refl, sym}
 use Rattle.packet_run.proofs.KeepsFacts.{keeps_refl, keeps_trans}
 use Rattle.packet_run.proofs.PipingFacts.{goes_on_trans, piping_keeps, stays_trans}
 use Rattle.packet_run.proofs.commit.commit_to.Goals as goal
@@ -11,38 +9,39 @@ loop-init g c = record {
   next = c.requires.next;
   least = c.requires.least;
   goes_on = record { put = refl; read = refl; more = omega arith; below = λ b. b };
-  keeps = keeps_refl g.P.Structures.tables c.args.pipeline.now;
+  keeps = keeps_refl;
   in_use = record { edition = refl; handle = refl };
   piping = λ from stamped pp. pp;
   faults = refl;
 }
 
 pub returns-in-Err-clause-keeps : goal.returns-in-Err-clause-keeps
-returns-in-Err-clause-keeps g c = keeps_trans g.P.Structures.tables c.args.pipeline.now c.loop.pipeline c.commit_next.new.pipeline c.loop.invariant.keeps c.commit_next.ensures.keeps
+returns-in-Err-clause-keeps g c = keeps_trans c.loop.invariant.keeps c.commit_next.ensures.keeps
 
 pub loop-preserved-in-Ok-true : goal.loop-preserved-in-Ok-true
 loop-preserved-in-Ok-true g c =
     let i = c.loop.invariant in let n = c.commit_next.ensures in let ok = c.in-Ok-true.ensures in record {
-      passes = (subst (λ (p : Pass _). IsOf c.args.crew.now.jobs p) (sym n.first) i.passes.0, subst (λ (p : Pass _). IsOf c.args.crew.now.results p) (sym n.second) i.passes.1);
+      passes = (rw (n.first) i.passes.0, rw (n.second) i.passes.1);
       next = ok.next;
       least = let r = n.goes_on.read in let l = i.least in omega (arith, r, l);
-      goes_on = goes_on_trans c.args.pipeline.now c.loop.pipeline c.commit_next.new.pipeline i.goes_on n.goes_on;
-      keeps = keeps_trans g.P.Structures.tables c.args.pipeline.now c.loop.pipeline c.commit_next.new.pipeline i.keeps n.keeps;
-      in_use = stays_trans c.args.in_use.now c.loop.in_use c.commit_next.new.in_use i.in_use n.in_use;
+      goes_on = goes_on_trans i.goes_on n.goes_on;
+      keeps = keeps_trans i.keeps n.keeps;
+      in_use = stays_trans i.in_use n.in_use;
       piping = λ from stamped pp. ok.piping from stamped (i.piping from stamped pp);
       faults = ok.cause.ok ∙ i.faults;
     }
 
 pub loop-preserved : goal.loop-preserved
 loop-preserved g c =
-    let i = c.loop.invariant in let n = c.commit_next.ensures in let ok = c.in-Ok-false.ensures in let k = c.collect.ensures in record {
+    let i = c.loop.invariant in let n = c.commit_next.ensures in let ok = c.in-Ok-false.ensures in let k = c.collect.ensures in
+    let d = k.stays.done in let r = k.stays.read in let m = n.goes_on.read in record {
       passes = (k.first, k.second);
-      next = k.stays.next ∙ ok.next ∙ (λ j. sym k.stays.done j + 1);
-      least = let r = n.goes_on.read in let l = i.least in let q = k.stays.read in omega (arith, r, l, q);
-      goes_on = goes_on_trans c.args.pipeline.now c.loop.pipeline _ i.goes_on (goes_on_trans c.loop.pipeline c.commit_next.new.pipeline _ n.goes_on
-          (record { put = k.put; read = k.stays.read; more = let d = k.stays.done in omega (arith, d); below = λ b. let d = k.stays.done in let r = k.stays.read in omega (arith, b, d, r) }));
-      keeps = keeps_trans g.P.Structures.tables c.args.pipeline.now c.loop.pipeline _ i.keeps (keeps_trans g.P.Structures.tables c.loop.pipeline c.commit_next.new.pipeline _ n.keeps k.keeps);
-      in_use = stays_trans c.args.in_use.now c.loop.in_use c.commit_next.new.in_use i.in_use n.in_use;
-      piping = λ from stamped pp. piping_keeps g.P.Structures.tables g.W.Watch.stands from stamped c.commit_next.new.pipeline c.collect.new.pipeline c.commit_next.new.in_use c.commit_next.new.watch _ k.keeps k.put k.stays.done k.stays.read (ok.piping from stamped (i.piping from stamped pp));
+      next = k.stays.next ∙ ok.next ∙ (λ j. sym d j + 1);
+      least = let l = i.least in omega (arith, m, l, r);
+      goes_on = goes_on_trans i.goes_on
+          (goes_on_trans n.goes_on (record { put = k.put; read = r; more = omega (arith, d); below = λ b. omega (arith, b, d, r) }));
+      keeps = keeps_trans i.keeps (keeps_trans n.keeps k.keeps);
+      in_use = stays_trans i.in_use n.in_use;
+      piping = λ from stamped pp. piping_keeps k.keeps k.put d r (ok.piping from stamped (i.piping from stamped pp));
       faults = ok.cause.ok ∙ i.faults;
     }

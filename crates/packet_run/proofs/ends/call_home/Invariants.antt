@@ -1,6 +1,4 @@
-use Rattle.std.proofs.Common.{◌≡◌}
-use Rattle.work_queue.specs.Passes.{IsOf}
-use Rattle.packet_run.specs.Piping.{Keeps, put_by}
+use Rattle.packet_run.proofs.Common.{◌≡◌, IsOf, Keeps, put_by}
 use Rattle.packet_run.proofs.ends.call_home.Given as goal
 
 abbrev pub invariant-loop : goal.invariant-loop

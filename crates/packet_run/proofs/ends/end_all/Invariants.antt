@@ -1,5 +1,4 @@
-use Rattle.work_queue.specs.Passes.{IsOf}
-use Rattle.packet_run.specs.Ending.{PutsEnds}
+use Rattle.packet_run.proofs.Common.{IsOf, PutsEnds}
 use Rattle.packet_run.proofs.ends.end_all.Given as goal
 
 abbrev pub invariant-loop : goal.invariant-loop

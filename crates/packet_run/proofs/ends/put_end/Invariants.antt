@@ -1,5 +1,4 @@
-use Rattle.std.proofs.Common.{◌≡◌}
-use Rattle.work_queue.specs.Passes.{IsOf, account_of}
+use Rattle.packet_run.proofs.Common.{◌≡◌, account_of, IsOf}
 use Rattle.packet_run.proofs.ends.put_end.Given as goal
 
 abbrev pub invariant-loop : goal.invariant-loop

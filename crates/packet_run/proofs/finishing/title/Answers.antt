@@ -1,4 +1,4 @@
-use Rattle.std.proofs.Common.{◌∙◌, ap, sym}
+use Rattle.packet_run.proofs.Common.{◌∙◌, ap, sym}
 use Rattle.mib_model.specs.Interpreter.{title_of}
 use Rattle.packet_run.proofs.finishing.title.Goals as goal
 

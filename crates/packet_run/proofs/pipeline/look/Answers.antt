@@ -2,4 +2,4 @@ use Rattle.packet_run.proofs.KeepsFacts.{keeps_refl}
 use Rattle.packet_run.proofs.pipeline.look.Goals as goal
 
 pub returns-then-has_begun-clause-keeps : goal.returns-then-has_begun-clause-keeps
-returns-then-has_begun-clause-keeps g c = keeps_refl g.P.Structures.tables c.args.pipeline.now
+returns-then-has_begun-clause-keeps g c = keeps_refl

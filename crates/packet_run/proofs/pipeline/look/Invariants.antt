@@ -1,4 +1,4 @@
-use Rattle.std.proofs.Common.{◌≡◌}
+use Rattle.packet_run.proofs.Common.{◌≡◌}
 use Rattle.packet_run.proofs.pipeline.look.Given as goal
 
 abbrev pub invariant-loop : goal.invariant-loop

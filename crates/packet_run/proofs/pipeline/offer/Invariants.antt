@@ -1,6 +1,4 @@
-use Rattle.std.proofs.Common.{◌≡◌}
-use Rattle.work_queue.specs.Passes.{IsOf}
-use Rattle.packet_run.specs.Piping.{Keeps, Stays, put_by}
+use Rattle.packet_run.proofs.Common.{◌≡◌, IsOf, Keeps, put_by, Stays}
 use Rattle.packet_run.proofs.pipeline.offer.Given as goal
 
 abbrev pub invariant-loop : goal.invariant-loop

@@ -1,13 +1,6 @@
-use Rattle.std.proofs.Common.{◌≡◌, ◌+◌, ◌≤◌, [], length}
-use Rattle.commit_order.specs.Windows.{next_of}
+use Rattle.packet_run.proofs.Common.{[], ◌+◌, ◌≡◌, ◌≤◌, first_of, From, IsOf, IsSeat, Keeps, length, next_of, own_moves, Piping, seen_by, StartsWith}
 use Rattle.decode_session.specs.Run.{most_packets}
-use Rattle.edition_register.specs.Seats.{IsSeat, first_of}
-use Rattle.histories.specs.History.{StartsWith}
-use Rattle.packet_feed.specs.Feed.{SourceStays, source_of}
-use Rattle.turn_cell.specs.Seats.{own_moves, seen_by}
-use Rattle.work_queue.specs.Passes.{IsOf}
-use Rattle.packet_run.specs.Piping.{Keeps, Piping}
-use Rattle.packet_run.specs.Told.{From}
+use Rattle.packet_feed.specs.Feed.{source_of, SourceStays}
 use Rattle.packet_run.proofs.FeedFacts.{Feeding}
 use Rattle.packet_run.proofs.run.run_feed.Given as goal
 
@@ -22,8 +15,10 @@ invariant-loop g l = record {
   limit : l.pipeline.read ≤ most_packets;
   count : length (own_moves l.seat) ≡ l.pipeline.read;
   keeps : Keeps g.P.Structures.tables l.initial.pipeline l.pipeline;
-  feeding : (from : From g.row.W.Denot) → from.first ≡ first_of l.register → Piping g.P.Structures.tables g.W.Watch.stands from [] l.initial.pipeline l.initial.in_use l.initial.watch (g.O.Sink.written l.initial.out)
-      → Feeding g.P.Structures.tables g.P.Rows.tables g.W.Watch.stands from (own_moves l.seat) l.pipeline l.in_use l.watch (g.S.Source.left (source_of l.initial.feed)) (g.S.Source.left (source_of l.feed)) (g.O.Sink.written l.out);
+  feeding : (from : From g.row.W.Denot) → from.first ≡ first_of l.register
+      → Piping g.P.Structures.tables g.W.Watch.stands from [] l.initial.pipeline l.initial.in_use l.initial.watch (g.O.Sink.written l.initial.out)
+      → Feeding g.P.Structures.tables g.W.Watch.stands from (own_moves l.seat) l.pipeline l.in_use l.watch (g.S.Source.left (source_of l.initial.feed))
+      (g.S.Source.left (source_of l.feed)) (g.O.Sink.written l.out);
   feed : g.S.Source.faults (source_of l.feed) ≡ g.S.Source.faults (source_of l.initial.feed);
   out : g.O.Sink.faults l.out ≡ g.O.Sink.faults l.initial.out;
   stays : SourceStays g.S.Source.holds g.S.Source.missed g.S.Source.borrow (source_of l.initial.feed) (source_of l.feed);

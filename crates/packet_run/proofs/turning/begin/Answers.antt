@@ -1,11 +1,7 @@
-use Rattle.std.proofs.Common.{◌≡◌, ◌∙◌, sym, ap, subst}
-use Rattle.std.specs.Arc.{arc_value}
+use Rattle.packet_run.proofs.Common.{◌∙◌, ◌≡◌, ap, arc_value, Database, InUse, memory_of, subst, sym}
 use Rattle.decode_one.proofs.ParamFacts.{params-of}
-use Rattle.fold_state.specs.Boards.{memory_of}
 use Rattle.fold_state.specs.Premises.{IsParamsOf}
 use Rattle.mib_model.specs.Carry.{carry}
-use Rattle.mib_model.specs.declared.database.Database.{Database}
-use Rattle.packet_run.specs.declared.in_use.InUse.{InUse}
 use Rattle.packet_run.proofs.OpeningFacts.{made-names}
 use Rattle.packet_run.proofs.turning.begin.Goals as goal
 
@@ -20,6 +16,8 @@ returns-clause-memory g c =
     let from : tables c.deref.result.now ≡ old = ap tables (c.deref.ensures ∙ ap (λ (u : InUse _ _). arc_value u.handle) c.replace-from.ensures.value) in
     let to : tables c.deref-2.result.now ≡ new = ap tables (c.deref-2.ensures ∙ ap (λ (u : InUse _ _). arc_value u.handle) c.replace-from.ensures.after) in
     c.carry.ensures.memory old new
-    (subst (λ (d : Database). IsParamsOf d c.params.result.now) from (subst (IsParamsOf (tables c.deref.result.now)) (sym c.params.ensures.slices) (params-of (tables c.deref.result.now) c.params.ensures.sound)))
-    (subst (λ (d : Database). IsParamsOf d c.params-2.result.now) to (subst (IsParamsOf (tables c.deref-2.result.now)) (sym c.params-2.ensures.slices) (params-of (tables c.deref-2.result.now) c.params-2.ensures.sound)))
+    (subst (λ (d : Database). IsParamsOf d c.params.result.now) from (subst (IsParamsOf (tables c.deref.result.now)) (sym c.params.ensures.slices)
+    (params-of (tables c.deref.result.now) c.params.ensures.sound)))
+    (subst (λ (d : Database). IsParamsOf d c.params-2.result.now) to (subst (IsParamsOf (tables c.deref-2.result.now)) (sym c.params-2.ensures.slices)
+    (params-of (tables c.deref-2.result.now) c.params-2.ensures.sound)))
     ∙ ap (λ (u : InUse _ _). carry (memory_of u.board) old new) c.replace-from.ensures.value

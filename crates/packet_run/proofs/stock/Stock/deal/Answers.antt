@@ -1,10 +1,6 @@
-use Rattle.std.proofs.Common.{◌≡◌, ap, ◌∙◌, arith}
-use Rattle.std.proofs.lemmas.List.Elements.{All-push}
+use Rattle.packet_run.proofs.Common.{◌∙◌, ◌≡◌, Account, account_of, All-push, ap, arith, Pass}
 use Rattle.decode_pool.proofs.Pairs.{ready_push}
 use Rattle.work_queue.specs.Accounts.{one_share}
-use Rattle.work_queue.specs.declared.account.Account.{Account}
-use Rattle.work_queue.specs.declared.queue.Pass.{Pass}
-use Rattle.work_queue.specs.Passes.{account_of}
 use Rattle.packet_run.proofs.stock.Stock.deal.Goals as goal
 
 pub loop-worker-preserved : goal.loop-worker-preserved
@@ -18,8 +14,11 @@ loop-worker-preserved g c =
     let r = i.room in let s = c.push_reserved.ensures.capacity in let t = c.push_reserved-in-loop-worker.ensures.capacity in
     record {
       passes = (c.split-taken.ensures.passes.0, c.split-given.ensures.passes.0);
-      ready = rw (c.push_reserved-in-loop-worker.ensures.items, c.push_reserved.ensures.items) (ready_push c.loop-worker.self.crew.jobs c.loop-worker.self.crew.results items a b i.ready c.split-taken.ensures.passes.1 c.split-given.ensures.passes.1);
-      unused = rw (c.push_reserved-in-loop-worker.ensures.items, c.push_reserved.ensures.items) (All-push unused _ b (All-push unused items a i.unused c.split-taken.ensures.new) c.split-given.ensures.new);
+      ready = rw (c.push_reserved-in-loop-worker.ensures.items, c.push_reserved.ensures.items)
+          (ready_push c.loop-worker.self.crew.jobs c.loop-worker.self.crew.results items a b i.ready c.split-taken.ensures.passes.1
+          c.split-given.ensures.passes.1);
+      unused = rw (c.push_reserved-in-loop-worker.ensures.items, c.push_reserved.ensures.items)
+          (All-push unused _ b (All-push unused items a i.unused c.split-taken.ensures.new) c.split-given.ensures.new);
       count = omega (arith, k, l, j);
       jobs = omega (arith, m, x, few, below);
       results = omega (arith, n, y, few, below);

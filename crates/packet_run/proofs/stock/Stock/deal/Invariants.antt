@@ -1,9 +1,5 @@
-use Rattle.std.proofs.Common.{◌≡◌, ◌+◌, ◌*◌, ◌≤◌, vec_len, vec_capacity}
-use Rattle.std.specs.List.{All}
-use Rattle.decode_pool.specs.Served.{Ready}
+use Rattle.packet_run.proofs.Common.{◌*◌, ◌+◌, ◌≡◌, ◌≤◌, account_of, All, HasPasses, IsUnused, Ready, vec_capacity, vec_len}
 use Rattle.work_queue.specs.Accounts.{ALL_SHARES, one_share}
-use Rattle.work_queue.specs.Passes.{account_of}
-use Rattle.packet_run.specs.Stocks.{HasPasses, IsUnused}
 use Rattle.packet_run.proofs.stock.Stock.deal.Given as goal
 
 abbrev pub invariant-loop-worker : goal.invariant-loop-worker
