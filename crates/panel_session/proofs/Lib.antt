@@ -1,2 +1,6 @@
 mod BeginningFacts
 pub mod StandFacts
+mod SideFacts
+mod LaneFacts
+mod EndFacts
+mod PanelFacts
