@@ -1,5 +1,6 @@
 mod BeginningFacts
 pub mod StandFacts
+mod Crossing
 mod SideFacts
 mod LaneFacts
 mod EndFacts

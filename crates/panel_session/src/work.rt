@@ -1,7 +1,7 @@
 // The packets of a feed beside the other lines of all desks.
 ghost use Rattle.std.specs.Prelude.{◌≡◌, ◌≢◌, ◌≤◌, ◌+◌, [], Err, length, map};
 ghost use Rattle.std.specs.List.{AllByRecursion};
-ghost use Rattle.std.specs.Thread.{IsSend, IsSync};
+ghost use Rattle.std.specs.Thread.{IsSync};
 ghost use Rattle.decode_session.specs.Causes.{HasOutCause};
 ghost use Rattle.edition_register.specs.Panels.{AreDesksFrom, IsDeskSeat};
 ghost use Rattle.edition_register.specs.Seats.{IsSeat, first_of};
@@ -76,7 +76,6 @@ fn all_go_on<R: Threads + Wait + Sync, S: Post + Send>(
         &mut || go_on(place, seat, side, station),
         &mut ||
             requires sync { IsSync R.row }
-            requires send { IsSend S.row }
             requires desks { AreDesksFrom next.desk next.register.now other_seats.now }
             requires room { AllByRecursion HasRoom (lanes other_seats.now other_sides.now (map S.seen other_stations.now)) }
             requires same { (length other_sides.now ≡ length other_seats.now) × (length other_stations.now ≡ length other_seats.now) }
