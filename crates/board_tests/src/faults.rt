@@ -12,8 +12,9 @@ const WORDS: [&str; 5] = ["board", "mib", "feed", "desk", "page"];
 // Two packets and a piece of a third, whose pages come to a screen that fails here.
 fn cut(alloc: Global, place: u64) -> Result<Objects, Fail> {
     let mut run = Objects::new(alloc, &[])?;
-    let octets = packets(alloc, &[500, 500, 500])?;
-    run.feed = shelf(alloc, "feed", &octets[..31], &[])?;
+    let mut octets = packets(alloc, &[500, 500, 500])?;
+    octets.truncate(31);
+    run.feed = shelf(alloc, "feed", &octets, &[])?;
     run.screen = sink(alloc, &[place])?;
     Ok(run)
 }

@@ -99,12 +99,13 @@ impl Sink for Counted<'_> {
 #[test]
 fn a_page_comes_while_the_feed_waits(rt: HostRuntime) -> Result<(), Fail> {
     let alloc = rt.alloc();
-    let octets = packets(alloc, &[2000; 65])?;
+    let first = packets(alloc, &[2000; 64])?;
+    let last = packets(alloc, &[2000])?;
     for workers in ["1", "4"] {
         let shown = AtomicU64::new(0);
         let mut feed = Waiting {
-            first: &octets[..768],
-            second: &octets[768..],
+            first: &first,
+            second: &last,
             shown: &shown,
             has_waited: false,
             is_late: false,

@@ -67,17 +67,15 @@ impl<R: Drop> Window<R> {
         ensures taken { result ≡ waiting self.old (next_of self.old) }
         ensures after { MatchOption result (IsUnchanged self.old self.new) (λ _. Advances self.old self.new) }
     {
-        match self.places.pop_front()? {
-            None => {
-                self.places.push_front_reserved(None);
-                None
-            }
-            Some(taken) => {
-                self.places.push_back_reserved(None);
-                self.next += 1;
-                Some(taken)
-            }
-        }
+        let Some(Some(_)) = self.places.front() else {
+            return None;
+        };
+        let Some(Some(taken)) = self.places.pop_front() else {
+            unreachable!();
+        };
+        self.places.push_back_reserved(None);
+        self.next += 1;
+        Some(taken)
     }
     /// Passes by the next number, whose result never comes here: the number after it is next. For numbers of 64 bits.
     pub fn pass_by(&mut self)

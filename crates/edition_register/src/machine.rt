@@ -275,6 +275,7 @@ impl<E: Rows + Drop, B: MadeFor + Drop> Machine for Editions<E, B> {
 
     ghost may = { MayEnter };
 
+    #[inline(always)]
     fn act(&mut self, entry: Entry<E, B>) -> Reply<E, B> {
         match entry {
             Entry::Stamp => self.stamp(),

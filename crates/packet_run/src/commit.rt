@@ -50,7 +50,8 @@ fn print_result<P: Plans + Drop, O: Sink, W: Watch, R: Wait>(
     write_record(rt, job.cell.number, in_use, lines, out, watch)
 }
 
-/// Commits the next packet, where its result is there.
+// Commits the next packet, where its result is there.
+#[inline(never)]
 fn commit_next<P: Plans + Drop, O: Sink, W: Watch, R: Wait>(
     rt: &R,
     pipeline: &mut Pipeline<P>,
@@ -85,6 +86,7 @@ fn commit_next<P: Plans + Drop, O: Sink, W: Watch, R: Wait>(
 }
 
 /// Gets results and commits packets, until so many are committed.
+#[inline(always)]
 pub(crate) fn commit_to<P: Plans + Drop, O: Sink, W: Watch, R: Wait>(
     rt: &R,
     crew: &Crew<P>,

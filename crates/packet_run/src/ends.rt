@@ -24,8 +24,8 @@ use std::sync::Wait;
 use std::thread;
 use tm_io::Sink;
 
-/// The rooms of a run.
-pub(crate) const ROOMS: u16 = 64;
+/// The rooms of a run: one for each packet that may be in work.
+pub(crate) const ROOMS: u16 = 32;
 
 // The end of a run whose packets are committed: of a rest a line is written.
 fn end_as<O: Sink>(until: Until, lines: &mut Lines, out: &mut O) -> Result<RunEnd, RunFault>

@@ -105,6 +105,7 @@ fn look<P: Plans + Drop, R: Wait>(rt: &R, crew: &Crew<P>, pipeline: &mut Pipelin
 }
 
 /// Gets one result, and keeps it for its turn. Where no worker comes it works a job itself.
+#[inline(never)]
 pub(crate) fn collect<P: Plans + Drop, R: Wait>(rt: &R, crew: &Crew<P>, pipeline: &mut Pipeline<P>)
     requires first { IsOf crew.now.jobs pipeline.old.first }
     requires second { IsOf crew.now.results pipeline.old.second }

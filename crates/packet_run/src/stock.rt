@@ -24,7 +24,7 @@ const PATIENCE: u32 = 1_000_000;
 const QUEUE_ROOM: u32 = 64;
 
 /// What a run needs, reserved before it begins: two queues with room for 64 packets each and for the passes of 16 workers, the window,
-/// the page for records, and rooms for 64 packets, whose buffers come from two regions.
+/// the page for records, and rooms for 32 packets, whose buffers come from two regions.
 #[derive(Drop)]
 pub struct Stock<P: Structures + Drop> {
     pub(crate) crew: Crew<P>,

@@ -9,6 +9,7 @@ use crate::sheet::page_of;
 use crate::viewer::Viewer;
 use display_pages::Page;
 use std::sync::Wait;
+use std::sync::atomic::Ordering;
 
 impl Viewer {
     /// The page that was published last, or that before the first. It may wait while a page is published.
@@ -16,7 +17,9 @@ impl Viewer {
         ensures looks { Looks (known_by self.old) result (known_by self.new) }
         ensures board { board_seen_by self.new ≡ board_seen_by self.old }
     {
-        page_of(&self.cell.load_as::<Look, R>(rt, &mut self.pass))
+        let sheet = self.cell.load_as::<Look, R>(rt, &mut self.pass);
+        self.looked.store(true, Ordering::Release);
+        page_of(&sheet)
     }
 
     /// Takes in a note: no page that the viewer gets from now on is older than the last that was published then.

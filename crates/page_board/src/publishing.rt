@@ -10,6 +10,7 @@ use crate::rule::{BoardCell, BoardPass, Publish, Tell};
 use crate::sheet::{Sheet, empty_sheet};
 use crate::viewer::Viewer;
 use std::alloc::{AllocError, Global};
+use std::sync::atomic::{AtomicBool, Ordering};
 use std::sync::{Arc, Wait};
 
 impl Publisher {
@@ -21,18 +22,26 @@ impl Publisher {
     {
         let (cell, mut pass): (BoardCell, BoardPass) = BoardCell::ruled(alloc, empty_sheet())?;
         let cell = Arc::new(alloc, cell)?;
+        let looked = Arc::new(alloc, AtomicBool::new(true))?;
         let viewer = Viewer {
             pass: cell.split_pass::<Tell>(&mut pass),
             cell: cell.clone()?,
+            looked: looked.clone()?,
         };
         Ok((
             Publisher {
                 cell,
                 pass,
                 shown: 0,
+                looked,
             },
             viewer,
         ))
+    }
+
+    /// Whether the viewer looked since the last page was published, or none was published yet. Where it didn't, a page may wait for the next one.
+    pub fn is_awaited(&self) -> bool {
+        self.looked.load(Ordering::Acquire)
     }
 
     /// Publishes a page of a greater number than the last one. It may wait while the viewer copies a page.
@@ -42,6 +51,7 @@ impl Publisher {
         ensures shown { self.new.shown ≡ (page_in sheet.now).number }
         ensures board { board_of self.new ≡ board_of self.old }
     {
+        self.looked.store(false, Ordering::Release);
         self.cell.swap_as::<Publish, R>(rt, &mut self.pass, *sheet);
         self.shown = sheet[0];
     }

@@ -1,6 +1,6 @@
 ghost use Rattle.std.specs.Prelude.{◌≤◌};
 
-use mib_model::{Code, Input, Misuse};
+use mib_model::{Code, Input};
 use mibtm_tool::tool;
 use std::alloc::Global;
 use std::sync::Wait;
@@ -107,51 +107,6 @@ pub(crate) fn call<X: Threads + Wait + Sync>(
 }
 
 const DECODE: &[&str] = &["decode", "mib", "feed"];
-
-#[test]
-fn packets_are_printed_from_pieces_of_any_size(rt: HostRuntime) -> Result<(), Fail> {
-    let alloc = rt.alloc();
-    let unknown = &[
-        0x08, 0x64, 0xC0, 0x00, 0x00, 0x05, 0x10, 0x03, 0x1A, 0x00, 0x07, 0xD0,
-    ];
-    let others = &[
-        0x07, 0xFF, 0xC0, 0x00, 0x00, 0x00, 0x00, 0x28, 0x64, 0xC0, 0x01, 0x00, 0x00, 0x00, 0x08,
-        0x64, 0xC0, 0x00, 0x00, 0x00, 0x10,
-    ];
-    let cases: [(&[u8], &[u8], Code); 6] = [
-        (PACKET, &RECORDS[..RECORD_SIZE], Code::Ok),
-        (b"", b"", Code::Ok),
-        (&PACKET[..11], b"CUT 11\n", Code::Cut(11)),
-        (
-            unknown,
-            b"PKT 1 APID 100 COUNT 0 TYPE 3/26 UNKNOWN\n",
-            Code::Ok,
-        ),
-        (
-            others,
-            b"PKT 1 APID 2047 COUNT 0 IDLE\nPKT 2 APID 100 COUNT 1 BAD VERSION\nPKT 3 APID 100 COUNT 0 BAD SHORT\n",
-            Code::Ok,
-        ),
-        (TWO_PACKETS, RECORDS, Code::Ok),
-    ];
-    for (octets, text, code) in cases {
-        for most in [1, 5, 4096] {
-            let most = most.max(1);
-            let mut out = sink(alloc, &[], most)?;
-            let ended = call(
-                &rt,
-                alloc,
-                DECODE,
-                &mut tables(alloc, PCF, PID, PLF, most)?,
-                &mut feed(alloc, octets, &[], most)?,
-                &mut out,
-            )?;
-            assert_eq!(rt; ended, code, "by {most}");
-            assert_eq!(rt; out.bytes(), text, "by {most}");
-        }
-    }
-    Ok(())
-}
 
 // Tables with one row each, printed for the two packets into a sink with these faults.
 fn two_packets<X: Threads + Wait + Sync>(
@@ -295,68 +250,5 @@ fn a_failing_turn_to_the_feed_is_a_fault_and_a_missing_feed_is_none(
         assert_eq!(rt; code, expected);
         assert!(rt; out.bytes().is_empty());
     }
-    Ok(())
-}
-
-#[test]
-fn wrong_words_are_refused_by_the_command_first(rt: HostRuntime) -> Result<(), Fail> {
-    let alloc = rt.alloc();
-    let cases: [(&[&str], Misuse); 10] = [
-        (&[], Misuse::Command),
-        (&["frob"], Misuse::Command),
-        (&["check"], Misuse::Words),
-        (&["check", "mib", "more"], Misuse::Words),
-        (&["check", "-x"], Misuse::Words),
-        (&["decode"], Misuse::Words),
-        (&["decode", "mib"], Misuse::Words),
-        (&["decode", "mib", "feed", "more"], Misuse::Words),
-        (&["decode", "mib", "-x"], Misuse::Words),
-        (&["decode", "--", "feed"], Misuse::Words),
-    ];
-    for (given, misuse) in cases {
-        let mut shelf = tables(alloc, PCF, PID, PLF, 7)?;
-        shelf.fail_aim(0);
-        let code = call(
-            &rt,
-            alloc,
-            given,
-            &mut shelf,
-            &mut feed(alloc, PACKET, &[], 5)?,
-            &mut sink(alloc, &[], 9)?,
-        )?;
-        assert_eq!(rt; code, Code::Usage(misuse));
-    }
-    Ok(())
-}
-
-#[test]
-fn a_value_past_the_end_of_the_largest_packet_is_short(rt: HostRuntime) -> Result<(), Fail> {
-    let alloc = rt.alloc();
-    let mut packet = Vec::new(alloc);
-    packet.extend_from_slice(&[0x08, 0x64, 0xC0, 0x00, 0xFF, 0xFF, 0x10, 0x03, 0x19, 0x00])?;
-    for _ in 0..65_531 {
-        packet.push(0x00)?;
-    }
-    packet.push(0x05)?;
-    let mut out = sink(alloc, &[], 4096)?;
-    let code = call(
-        &rt,
-        alloc,
-        DECODE,
-        &mut tables(
-            alloc,
-            b"L1\t\t\t\t3\t4\t\t\t\tN\tR\nL2\t\t\t\t3\t4\t\t\t\tN\tR\n",
-            PID,
-            b"L1\t4001\t65541\t0\nL2\t4001\t65541\t1\n",
-            4096,
-        )?,
-        &mut feed(alloc, &packet, &[], 4096)?,
-        &mut out,
-    )?;
-    assert_eq!(rt; code, Code::Ok);
-    assert_eq!(rt;
-        out.bytes(),
-        b"PKT 1 APID 100 COUNT 0 TYPE 3/25 SPID 4001\n  L1 5\n  SHORT L2\n".as_slice()
-    );
     Ok(())
 }

@@ -6,8 +6,6 @@
 #[cfg(test)]
 mod checks;
 #[cfg(test)]
-mod decodes;
-#[cfg(test)]
 mod drill_calls;
 #[cfg(test)]
 mod faults;

@@ -24,11 +24,11 @@ pub struct Orderly<S, R> {
 }
 
 impl<S: Machine> TableRule<
-    Slot<S, Snapshot<S::Entry>>,
+    Slot<Box<S>, Snapshot<S::Entry>>,
     View<S::State, S::Event, S::Answer>,
     About<S>,
 > for Orderly<S, S::Reply> {
-    ghost holds = { λ about. Kept S.state S.reply S.after S.may (record { state = S.state about.state.value; callers = about.callers }) };
+    ghost holds = { λ about. Kept (λ x. S.state x.value) S.reply S.after S.may (record { state = S.state about.state.value; callers = about.callers }) };
 
     ghost first = { λ about. newcomer (record { state = S.state about.state.value; callers = about.callers }) };
 }
@@ -45,9 +45,9 @@ pub struct Look<S> {
     machine: PhantomData<S>,
 }
 
-impl<S: Machine> Play<Slot<S, Snapshot<S::Entry>>, View<S::State, S::Event, S::Answer>>
+impl<S: Machine> Play<Slot<Box<S>, Snapshot<S::Entry>>, View<S::State, S::Event, S::Answer>>
     for Look<S> {
-    ghost then = { λ st m found n. Looks S.state S.reply S.after S.may m found n };
+    ghost then = { λ st m found n. Looks (λ x. S.state x.value) S.reply S.after S.may m found n };
 }
 
 /// Makes the entry that the slot has a note of.
@@ -55,7 +55,7 @@ pub struct Make<S> {
     machine: PhantomData<S>,
 }
 
-impl<S: Machine> Play<Slot<S, Snapshot<S::Entry>>, View<S::State, S::Event, S::Answer>>
+impl<S: Machine> Play<Slot<Box<S>, Snapshot<S::Entry>>, View<S::State, S::Event, S::Answer>>
     for Make<S> {
     ghost then = { λ st m found n. Makes S.reply S.after (λ x. S.event x.value) m n };
 }

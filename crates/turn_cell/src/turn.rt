@@ -28,7 +28,7 @@ const STATE: usize = 0;
 /// A caller's place at a turn, with the numbers that it holds. It has no bytes, and may go to another thread. A seat
 /// that holds no number is a note of what another seat had seen.
 pub type Seat<S> = atomic_table::Seat<
-    Slot<S, Snapshot<<S as Machine>::Entry>>,
+    Slot<Box<S>, Snapshot<<S as Machine>::Entry>>,
     View<<S as Machine>::State, <S as Machine>::Event, <S as Machine>::Answer>,
 >;
 
@@ -41,7 +41,7 @@ pub struct Lock<P, D, K, Q: TableRule<P, D, K>> {
 
 /// A state that callers change in turn. Threads share it by reference.
 pub type Turn<S> = Lock<
-    Slot<S, Snapshot<<S as Machine>::Entry>>,
+    Slot<Box<S>, Snapshot<<S as Machine>::Entry>>,
     View<<S as Machine>::State, <S as Machine>::Event, <S as Machine>::Answer>,
     About<S>,
     Orderly<S, <S as Machine>::Reply>,
@@ -49,13 +49,13 @@ pub type Turn<S> = Lock<
 
 /// The state in hand. It has no `Drop`: it ends in `leave`.
 pub struct Held<S> {
-    state: S,
+    state: Box<S>,
 }
 
 impl<S> Model for Held<S> {
     ghost Value = { S };
 
-    ghost view = { λ held. held.state };
+    ghost view = { λ held. held.state.value };
 }
 
 impl<S: Machine + Drop> Turn<S> {
@@ -75,6 +75,9 @@ impl<S: Machine + Drop> Turn<S> {
         let about = About {
             state: Snapshot::of(&state),
             callers,
+        };
+        let Ok(state) = Box::new(alloc, state) else {
+            return Err(AllocError);
         };
         let mut slots = Vec::with_capacity(alloc, 1)?;
         slots.push_reserved(Slot::Home(state));
@@ -138,7 +141,7 @@ impl<S: Machine + Drop> Turn<S> {
         let slot = closed.take(STATE);
         closed.free();
         match slot {
-            Slot::Home(state) => state,
+            Slot::Home(state) => Box::into_inner(state),
             Slot::Noted(_) => unreachable!(),
             Slot::Out => unreachable!(),
         }
@@ -152,6 +155,7 @@ impl<S: Machine + Drop> Turn<S> {
     ghost use Rattle.turn_cell.specs.Seats.{callers_of, first_state, holdings_of, number_of, own_moves, seen_by, HasEntered, HasTurn, IsIdle, IsSeatOf};
 
     /// Waits for the turn, and takes the state in hand. The seat has then seen the whole history.
+    #[inline(always)]
     pub fn enter<R: Wait>(&self, rt: &R, seat: &mut Seat<S>) -> Held<S>
         requires seat { IsSeatOf S.state self.now seat.old }
         requires idle { IsIdle seat.old }
@@ -184,7 +188,7 @@ impl<S: Machine + Drop> Turn<S> {
         requires early { has_turn seat.old.me.0.standing ≡ false }
         requires ticket { ticket_of seat.old.me.0.standing ≡ ticket }
         ensures seat { seat.new.table_id ≡ seat.old.table_id }
-        ensures turn { Seizes S.state S.reply S.after S.may seat.old.me seat.new.me }
+        ensures turn { Seizes (λ x. S.state x.value) S.reply S.after S.may seat.old.me seat.new.me }
     {
         for _ in rt.forever() {
             if self.table.shared.load::<Look<S>>(seat, SERVING) == ticket {
@@ -197,6 +201,7 @@ impl<S: Machine + Drop> Turn<S> {
 
     /// The atomic step: the entry follows all that was entered before, and has the machine's reply there. The history
     /// and the seat's list under its number grow by this one move.
+    #[inline(always)]
     pub fn append(&self, seat: &mut Seat<S>, held: &mut Held<S>, entry: S::Entry) -> S::Reply
         requires seat { IsSeatOf S.state self.now seat.old }
         requires turn { HasTurn seat.old }

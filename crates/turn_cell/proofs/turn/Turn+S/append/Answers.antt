@@ -1,4 +1,4 @@
-use Rattle.std.proofs.Common.{rules, sym, ap, subst, ◌∙◌, List, ◌∷◌, arith}
+use Rattle.std.proofs.Common.{rules, sym, ap, subst, ◌∙◌, ◌≡◌, List, ◌∷◌, arith}
 use Rattle.atomic_table.specs.Table.{rest}
 use Rattle.histories.specs.declared.history.Move.{Move}
 use Rattle.histories.specs.History.{move}
@@ -51,8 +51,9 @@ returns-clause-numbers g c =
 pub returns-clause-state : goal.returns-clause-state
 returns-clause-state g c =
     let v = c.args.seat.now.me.0 in let event = g.S.Machine.event c.args.entry in
+    let is : c.deref_mut.result.now ≡ c.args.held.now = search rules in
     state_after-move g.S.Machine.after (g.S.Machine.state c.args.self.now.table.shared.key.state.value) _ v.seen c.fetch_add.new.seat.me.0.seen (move (least v.holdings) event (g.S.Machine.answer c.act-reply.result)) (returns-clause-seen g c)
-    (c.act-reply.ensures.after ∙ ap (λ d. g.S.Machine.after d event) (ap g.S.Machine.state c.held.view_is ∙ c.requires.state))
+    (c.act-reply.ensures.after ∙ ap (λ d. g.S.Machine.after d event) (ap g.S.Machine.state is ∙ c.requires.state))
 
 pub returns-clause-number : goal.returns-clause-number
 returns-clause-number g c =

@@ -27,7 +27,7 @@ unreachable-requires-in-Out g c =
 pub returns-clause-state : goal.returns-clause-state
 returns-clause-state g c =
     let e = ends _ _ _ _ _ _ _ _ _ _ _ _ _ c.close_with-closed.ensures.values.2 c.requires.seat.1 c.requires.idle.0 c.requires.all c.take-slot.ensures.value in
-    ap (λ p. g.S.Machine.state (state_in e.0 p)) (sym c.in-Home.is ∙ e.1) ∙ e.2
+    ap g.S.Machine.state c.into_inner.ensures ∙ ap (λ p. g.S.Machine.state (state_in e.0 p).value) (sym c.in-Home.is ∙ e.1) ∙ e.2
 
 pub returns-clause-legal : goal.returns-clause-legal
 returns-clause-legal g c = (ends _ _ _ _ _ _ _ _ _ _ _ _ _ c.close_with-closed.ensures.values.2 c.requires.seat.1 c.requires.idle.0 c.requires.all c.take-slot.ensures.value).3

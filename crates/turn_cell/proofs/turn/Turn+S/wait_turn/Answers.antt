@@ -15,5 +15,5 @@ returns-then-load-ticket-clause-seat g c = c.load.ensures.0 ∙ c.loop.invariant
 pub returns-then-load-ticket-clause-turn : goal.returns-then-load-ticket-clause-turn
 returns-then-load-ticket-clause-turn g c =
     let m = c.loop.invariant.1 in
-    subst (λ y. Seizes g.S.Machine.state g.S.Machine.reply g.S.Machine.after g.S.Machine.may y c.load.new.seat.me) m
+    subst (λ y. Seizes (λ x. g.S.Machine.state x.value) g.S.Machine.reply g.S.Machine.after g.S.Machine.may y c.load.new.seat.me) m
     (c.load.ensures.2.0 (c.if-load-ticket.true ∙ sym c.requires.ticket ∙ sym (ap (λ y. ticket_of y.0.standing) m)))
