@@ -168,6 +168,18 @@ module _ {P : Type 0} {plans : Ghosts P} {tables : P → Database} where
     stopped_commit {p = p} t taken next lt k put done read untold part pp = work_on k put read pp.work (λ all extends right g.
         let n = next_in t taken next lt pp all extends right in rw (done, untold) (prints_part all p.done n.s n.rest n.at (part n.s n.of_use n.is) g))
 
+    -- nothing was written, and the watch stands for what it stood for
+    pub rested : {stamped : List StampedPacket} {p : Pipeline P plans} {u : InUse P plans} {w w' : W} {x y : Known} → y ≡ x
+        → ((told : List Member) → stands w told → stands w' told) → Piping tables stands from stamped p u w x → Piping tables stands from stamped p u w' y
+    rested same rests pp = record {
+      work = work_on keeps_refl refl refl pp.work (λ all extends right g. record {
+        printed = rw same g.printed;
+        course = g.course;
+        watched = λ told stood. rests _ (g.watched told stood);
+      });
+      of_use = pp.of_use;
+    }
+
     -- it failed where nothing was being written
     pub stopped_unflushed : {stamped : List StampedPacket} {p : Pipeline P plans} {u : InUse P plans} {w : W} {x y : Known} → y ≡ x
         → Piping tables stands from stamped p u w x → Stopped tables stands from stamped p w y

@@ -11,7 +11,7 @@ ghost use Rattle.mib_model.specs.Interpreter.{StampedPacket};
 ghost use Rattle.packet_feed.specs.Feed.{BeginsWithPacket, SourceStays, source_of};
 ghost use Rattle.packet_run.specs.Feeding.{Fed, HasUntilCause, HasWriteCause};
 ghost use Rattle.packet_run.specs.declared.job.Task.TheVariants as task;
-ghost use Rattle.packet_run.specs.Told.{From};
+ghost use Rattle.packet_run.specs.Told.{From, Member};
 ghost use Rattle.packet_run.specs.Piping.{GoesOn, Keeps, Piping, StaysInUse, Stopped, Takes, put_by};
 ghost use Rattle.packet_run.specs.Reading.{stamped_as};
 ghost use Rattle.packet_run.specs.Stocks.{HasPasses, IsFirst, IsUnused};
@@ -48,6 +48,18 @@ const FIRST: u64 = 64;
 
 const LARGE: u32 = 96;
 
+// Hands on what was written, and tells the watch that the run may wait.
+fn come_to_rest<O: Sink, W: Watch, R: Wait>(rt: &R, out: &mut O, watch: &mut W) -> Result<(), Failed>
+    ensures bytes { O.written out.new ≡ O.written out.old }
+    ensures handed { OnOk result (O.handed out.new ≡ O.written out.new) }
+    ensures rests { (told : List Member) → W.stands watch.old told → W.stands watch.new told }
+    ensures cause { HasCause (O.faults out.old) (O.faults out.new) result }
+{
+    out.flush()?;
+    watch.rests(rt);
+    Ok(())
+}
+
 // Commits packets until one more may be read: some of those in work, and all of them where reading may wait, when what was written
 // is handed on too.
 fn make_way<P: Plans + Drop, S: Source, O: Sink, W: Watch, R: Wait>(
@@ -82,7 +94,7 @@ fn make_way<P: Plans + Drop, S: Source, O: Sink, W: Watch, R: Wait>(
     let Ok(()) = commit_to(rt, crew, pipeline, in_use, read, out, watch) else {
         return Err(Failed);
     };
-    out.flush()
+    come_to_rest(rt, out, watch)
 }
 
 // Puts the job of a packet that was read, with a handle of its edition.

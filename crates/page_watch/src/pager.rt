@@ -2,6 +2,7 @@ ghost use Rattle.std.specs.Prelude.{◌≡◌, ◌≤◌, ◌-◌, drop, length,
 ghost use Rattle.display_pages.specs.Pages.{no_cell};
 ghost use Rattle.page_board.specs.Sheets.{cells_in};
 
+use display_pages::MOST_CELLS;
 use mib_model::Name;
 use page_board::{Publisher, Sheet};
 
@@ -9,6 +10,8 @@ use page_board::{Publisher, Sheet};
 #[derive(Drop)]
 pub struct Pager {
     pub(crate) names: Vec<Name>,
+    // Where each name was found last. It says nothing.
+    pub(crate) found: [usize; MOST_CELLS],
     // The page after the last packet.
     pub(crate) sheet: Sheet,
     pub(crate) publisher: Publisher,

@@ -1,14 +1,15 @@
 // What a pager does.
-ghost use Rattle.std.specs.Prelude.{◌≡◌, ◌≤◌, [], length, IfOk};
+ghost use Rattle.std.specs.Prelude.{◌≡◌, ◌≤◌, [], List, length, IfOk};
 ghost use Rattle.fold_state.specs.Boards.{memory_of};
 ghost use Rattle.display_pages.specs.Pages.{page};
+ghost use Rattle.packet_run.specs.Told.{Member};
 ghost use Rattle.page_board.specs.Ends.{board_noted, board_seen_by, known_by, pages_noted};
 ghost use Rattle.page_board.specs.Views.{onlooker};
 ghost use Rattle.page_watch.specs.Ends.{MayPublish, PagerStandsFor, board_of, last_of, names_of, pages_of, shown_of};
 
 use crate::laying::lay_cells;
 use crate::pager::Pager;
-use display_pages::Page;
+use display_pages::{MOST_CELLS, Page};
 use fold_state::Board;
 use mib_model::Name;
 use packet_run::Watch;
@@ -30,6 +31,7 @@ impl Pager {
         let (publisher, viewer) = Publisher::new(*names.allocator())?;
         let pager = Pager {
             names,
+            found: [0; MOST_CELLS],
             sheet: empty_sheet(),
             publisher,
         };
@@ -57,11 +59,11 @@ impl Pager {
         ensures publisher { self.new.publisher ≡ self.old.publisher }
     {
         lay_head(&mut self.sheet, number, edition);
-        lay_cells(&mut self.sheet, &self.names, board);
+        lay_cells(&mut self.sheet, &self.names, &mut self.found, board);
     }
 
-    /// Makes the page of a packet the last one, and publishes it, unless a page of this number or a later one was published. It
-    /// may wait while the viewer copies a page.
+    /// Makes the page of a packet the last one, and publishes it where the viewer looked since the page before, unless a page of this number or a
+    /// later one was published. It may wait while the viewer copies a page.
     pub fn show<R: Wait>(&mut self, rt: &R, number: u64, edition: u32, board: &Board)
         ensures last { last_of self.new ≡ page (names_of self.old) number edition (memory_of board.now) }
         ensures names { names_of self.new ≡ names_of self.old }
@@ -69,7 +71,20 @@ impl Pager {
         ensures board { board_of self.new ≡ board_of self.old }
     {
         self.lay(number, edition, board);
-        if number > self.publisher.shown {
+        if self.publisher.is_awaited() {
+            self.publish(rt);
+        }
+    }
+
+    /// Publishes the last page, unless a page of its number or a later one was published. It may wait while the viewer copies a page.
+    pub fn publish<R: Wait>(&mut self, rt: &R)
+        ensures last { last_of self.new ≡ last_of self.old }
+        ensures names { names_of self.new ≡ names_of self.old }
+        ensures pages { MayPublish self.old self.new (last_of self.new) }
+        ensures board { board_of self.new ≡ board_of self.old }
+        ensures stands { (members : List Member) → PagerStandsFor self.old members → PagerStandsFor self.new members }
+    {
+        if self.sheet[0] > self.publisher.shown {
             self.publisher.publish(rt, &self.sheet);
         }
     }
@@ -97,5 +112,9 @@ impl Watch for Pager {
         board: &Board,
     ) {
         self.show(rt, number, edition, board);
+    }
+
+    fn rests<R: Wait>(&mut self, rt: &R) {
+        self.publish(rt);
     }
 }

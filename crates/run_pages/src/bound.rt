@@ -74,4 +74,8 @@ impl<N: PageBoard> Watch for BoundPager<N> {
     ) {
         self.pager.show(rt, number, edition, board);
     }
+
+    fn rests<R: Wait>(&mut self, rt: &R) {
+        self.pager.publish(rt);
+    }
 }

@@ -18,8 +18,9 @@ loop-place-preserved c =
     let few = c.requires in
     let long = length-map-range_with_len (cell_at old) 0 64 in
     let inside : place < length (cells_in old) = omega (arith, within, few, long) in
-    let cell : Cell = record { raw = c.latest.result; spoken = c.spoken.result } in
-    let is : cell ≡ cell_of memory c.index-names-place.result = λ k. record { raw = c.latest.ensures.latest k; spoken = c.spoken.ensures k } in
+    let shown = c.latest_and_spoken-raw in
+    let cell : Cell = record { raw = shown.result.0; spoken = shown.result.1 } in
+    let is : cell ≡ cell_of memory c.index-names-place.result = λ k. record { raw = shown.ensures.latest k; spoken = shown.ensures.spoken k } in
     let next = laid-next (cell_of memory) c.args.names.now c.index-names-place.result (cells_in c.loop-place.sheet) (cells_in old) place cell within inside
     (is ∙ ap (cell_of memory) c.index-names-place.is) were.cells in record {
       cells = c.lay_cell.ensures.cells ∙ next;
