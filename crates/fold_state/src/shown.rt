@@ -43,11 +43,7 @@ impl Board {
 
     /// The latest raw number of a name and the class that is spoken of for it, as `latest` and `spoken` give them, by one search. The name is looked
     /// for first at a place that the caller keeps, which becomes the one where it was found.
-    pub fn latest_and_spoken(
-        &self,
-        name: &Name,
-        near: &mut usize,
-    ) -> (Option<i128>, Option<Class>)
+    pub fn latest_and_spoken(&self, name: &Name, near: &mut usize) -> (Option<i128>, Option<Class>)
         ensures latest { result.0 ≡ (memory_of self.now name.now).latest }
         ensures spoken { result.1 ≡ (memory_of self.now name.now).spoken }
         ensures range { IfSome result.0 (λ raw. ((pos 0 -ℤ pos 18446744073709551616) ≤ℤ raw) × (raw <ℤ pos 18446744073709551616)) }

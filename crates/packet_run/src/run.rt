@@ -49,7 +49,11 @@ const FIRST: u64 = 64;
 const LARGE: u32 = 96;
 
 // Hands on what was written, and tells the watch that the run may wait.
-fn come_to_rest<O: Sink, W: Watch, R: Wait>(rt: &R, out: &mut O, watch: &mut W) -> Result<(), Failed>
+fn come_to_rest<O: Sink, W: Watch, R: Wait>(
+    rt: &R,
+    out: &mut O,
+    watch: &mut W,
+) -> Result<(), Failed>
     ensures bytes { O.written out.new ≡ O.written out.old }
     ensures handed { OnOk result (O.handed out.new ≡ O.written out.new) }
     ensures rests { (told : List Member) → W.stands watch.old told → W.stands watch.new told }
