@@ -160,9 +160,10 @@ move-planned desks (suc k) e a ms may below all =
 -- the desks add all editions
 history-planned : (desks : ℕ) (history : RegisterHistory) → Permits MayEnter history → IsOfSeatsBelow (suc desks) history → DesksPlanned desks history → MovesPlanned history
 history-planned desks [] permits below all = tt
-history-planned desks (m ∷ ms) permits below all =
-    (move-planned desks m.seat m.entry m.reply ms permits.0 below.0 all,
-    history-planned desks ms permits.1 below.1 (λ k under. tail-planned (m.seat == suc k) m (moves_of (suc k) ms) (all k under)))
+history-planned desks (m ∷ ms) permits below all = (
+  move-planned desks m.seat m.entry m.reply ms permits.0 below.0 all,
+  history-planned desks ms permits.1 below.1 (λ k under. tail-planned (m.seat == suc k) m (moves_of (suc k) ms) (all k under)),
+)
 
 -- each edition that a history adds has the plans of its tables, where those that each desk adds have
 pub planned-of : (desks : ℕ) (history : RegisterHistory) → Permits MayEnter history → IsOfSeatsBelow (suc desks) history → DesksPlanned desks history → AddsItsPlans history

@@ -81,7 +81,7 @@ module _ {P : Type 0} {plans : Ghosts P} {tables : P → Database} {p q : Pipeli
       keeps_with (record { jobs = cc; results = cc; none = cc }) (t ∷ []) [] (cc) (λ made works. rw (ap (λ x. (account_of x).got) e, append-nil) works)
       (held t waits)
 
-  -- a job was put
+  -- a job was put, or nothing was got
   pub keeps_put : (put : List (Task P plans)) → account_of q.first ≡ account (account_of p.first).shares put (got_by p) → q.second ≡ p.second
       → WaitsLess p.window q.window → Keeps tables p q
   keeps_put put e f less = keeps_same (record { jobs = cc; results = cc; none = cc }) (cc) (cc) less

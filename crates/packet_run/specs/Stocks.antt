@@ -22,6 +22,10 @@ module _ {P : Type 0} {plans : Structures.Ghosts P} where
   abbrev pub rooms_out : Stock P plans → ℕ
   rooms_out stock = ROOMS - vec_len stock.pipeline.rooms
 
+  -- how many workers of a stock have a tool of their own
+  abbrev pub tools_of : Stock P plans → ℕ
+  tools_of stock = vec_len stock.crew.decoding.tools
+
   -- nothing was put, got, read or committed, and no result waits
   pub record IsUnused (pipeline : Pipeline P plans) : Type 0 where
     pub put : put_by pipeline ≡ []

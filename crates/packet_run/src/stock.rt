@@ -34,12 +34,13 @@ pub struct Stock<P: Structures + Drop> {
 }
 
 impl<P: Plans + Drop> Stock<P> {
-    ghost use Rattle.packet_run.specs.Stocks.{IsDealt, IsFresh, rooms_out};
+    ghost use Rattle.packet_run.specs.Stocks.{IsDealt, IsFresh, rooms_out, tools_of};
 
     /// What a run of so many workers needs, whose first edition has these parameters. An error is want of memory.
     pub fn new(alloc: Global, params: &Params, workers: u8) -> Result<Stock<P>, AllocError>
         ensures fresh { IfOk result (λ stock. IsFresh stock) }
         ensures home { IfOk result (λ stock. rooms_out stock ≡ 0) }
+        ensures tools { IfOk result (λ stock. tools_of stock ≡ workers) }
     {
         let (jobs, first) = Queue::new(alloc, QUEUE_ROOM as usize)?;
         let (results, second) = Queue::new(alloc, QUEUE_ROOM as usize)?;

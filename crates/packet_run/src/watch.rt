@@ -25,9 +25,11 @@ pub trait Watch {
     )
         ensures stands { (told : List Member) → stands self.old told → stands self.new (told ++ member number edition (memory_of board.now) ∷ []) };
 
-    /// All packets that were read are committed, and the next one may be long in coming. It may wait.
-    fn rests<R: Wait>(&mut self, rt: &R)
-        ensures rests { (told : List Member) → stands self.old told → stands self.new told };
+    /// All packets that were read are committed, and the next one may be long in coming. It may wait. Left
+    /// out, it does nothing.
+    fn rests<R: Wait>(&mut self, _rt: &R)
+        ensures rests { (told : List Member) → stands self.old told → stands self.new told }
+    {}
 }
 
 /// A watch that does nothing, and stands for every list.
@@ -45,6 +47,4 @@ impl Watch for NoWatch {
         _params: &Params,
         _board: &Board,
     ) {}
-
-    fn rests<R: Wait>(&mut self, _rt: &R) {}
 }

@@ -117,9 +117,11 @@ impl<P> Decoding<P> {
         alloc: Global,
         params: &Params,
         workers: u8,
-    ) -> Result<Decoding<P>, AllocError> {
+    ) -> Result<Decoding<P>, AllocError>
+        ensures tools { IfOk result (λ decoding. vec_len decoding.tools ≡ workers) }
+    {
         let mut tools = Vec::with_capacity(alloc, usize::from(workers))?;
-        for _ in 0..workers {
+        for _worker in 0..workers {
             tools.push(Mutex::new(Tool {
                 drawer: Drawer::new(alloc, params)?,
             }))?;
