@@ -2,8 +2,8 @@
 use Rattle.std.specs.Prelude.{ℕ, List, [], ◌∷◌, length, codes, Bool, ◌||◌, nat_eq, nat_lt, if◌then◌else◌, Option, Some, None, option_and_then, Result}
 use Rattle.mib_model.specs.Words.{Parted, workers_of}
 use Rattle.mib_model.specs.declared.code.Misuse.{Misuse}
-use Rattle.tool_words.specs.declared.panel.PanelRequest.{PanelRequest}
-use Rattle.tool_words.specs.declared.panel.TheConstants.{MOST_DESKS}
+use Rattle.tool_words.specs.declared.panel_request.PanelRequest.{PanelRequest}
+use Rattle.tool_words.specs.declared.panel_request.TheConstants.{MOST_DESKS}
 use Rattle.tool_words.specs.declared.request.WordsFault.{WordsFault}
 use Rattle.tool_words.specs.Behind.{AsksAs, asked_behind, share_standard}
 use Rattle.tool_words.specs.Requests.{texts}

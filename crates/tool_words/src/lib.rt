@@ -9,8 +9,10 @@ mod behind;
 mod board;
 mod line;
 mod panel;
+mod panel_request;
 mod request;
 
 pub use board::{BoardRequest, board_request_in};
-pub use panel::{MOST_DESKS, PanelRequest, panel_request_in};
+pub use panel::panel_request_in;
+pub use panel_request::{MOST_DESKS, PanelRequest};
 pub use request::{Request, WordsFault, request_in};

@@ -1,5 +1,5 @@
 // The words of a panel.
-ghost use Rattle.std.specs.Prelude.{◌≡◌, map, string_bytes, option_and_then, length, ◌≤◌, IfOk};
+ghost use Rattle.std.specs.Prelude.{◌≡◌, map, string_bytes, option_and_then};
 ghost use Rattle.mib_model.specs.Words as Words;
 ghost use Rattle.tool_words.specs.Behind.{or_wrong};
 ghost use Rattle.tool_words.specs.Panels as Spec;
@@ -8,21 +8,10 @@ ghost use Rattle.tool_words.specs.Requests.{texts};
 
 use crate::behind::{share_standard, words_behind};
 use crate::line::{line_matches, values};
+use crate::panel_request::{MOST_DESKS, PanelRequest};
 use crate::request::{WordsFault, workers_of};
 use mib_model::Misuse;
 use std::alloc::Global;
-
-/// How many desks a panel has at most.
-pub const MOST_DESKS: usize = 4;
-
-/// What the words of a panel ask for: the names of a folder of tables, a feed and one to four desks, and the number of workers.
-#[derive(Debug, Drop)]
-pub struct PanelRequest<'a> {
-    pub folder: &'a str,
-    pub feed: &'a str,
-    pub desks: Vec<&'a str>,
-    pub workers: u8,
-}
 
 // Whether a panel can't have so many desks.
 fn is_no_panel(desks: &[&str]) -> bool
