@@ -1,3 +1,5 @@
 pub mod Objects
 pub mod Sources
 pub mod Told
+pub mod Opened
+pub mod Calm

@@ -9,7 +9,6 @@ use Rattle.mib_model.specs.declared.code.Misuse.TheVariants as misuse
 use Rattle.mib_model.specs.Words.{Command, parted, command_of, or_words, with_options, without_options, check_of_words, decode_of_words, live_of_words, drill_of_words}
 use Rattle.tool_words.specs.declared.request.Verb.{Verb}
 use Rattle.tool_words.specs.declared.request.Verb.TheVariants as verb
-use Rattle.tool_words.specs.Boards.{BoardWords, board_asked, board_in, or_wrong}
 use Rattle.tool_words.specs.Requests.{texts, verb_of, asked}
 
 -- what words behind a command ask for, where there is one
@@ -52,25 +51,3 @@ command-of_words words word text v some is told found =
 pub values-by : (found : Option (Bor (List (Bor (List ℕ))))) (none : Bor (List (Bor (List ℕ)))) (all : Option (List (List ℕ))) → option_map (λ (s : Bor (List (Bor (List ℕ)))). texts s.now) found ≡ all → none.now ≡ [] → texts (unwrap_or found none).now ≡ unwrap_or all []
 values-by None none all is empty = ap texts empty ∙ ap (λ (a : Option (List (List ℕ))). unwrap_or a []) is
 values-by (Some s) none all is empty = ap (λ (a : Option (List (List ℕ))). unwrap_or a []) is
-
--- what words behind the word of a board ask for, and what any other word does
-abbrev pub board-behind : Bool → List (List ℕ) → Result BoardWords Misuse
-board-behind is words = cond is (or_wrong (option_and_then board_asked (parted words))) (Err misuse.Command)
-
--- no word asks a board for nothing
-pub no-board : {Z : Type 0} (words : List (String Z)) → length words < 1 → board_in (map string_bytes words) ≡ Err misuse.Command
-unfolding board_in
-no-board [] none = refl
-no-board (word ∷ words) none = absurd (omega arith)
-
-board-word : (word : List ℕ) (words : List (List ℕ)) → board_in (word ∷ words) ≡ board-behind (bytes_eq word (codes "board")) words
-unfolding board_in
-board-word word words = refl
-
--- words ask a board for what those behind the first ask, where that is the word of a board
-pub board-of_words : {Z : Type 0} (words : List (String Z)) (word : String Z) (text : List ℕ) (is : Bool) → 1 ≤ length words → word ≡ get_or words 0 word → text ≡ string_bytes word
-    → bytes_eq text (codes "board") ≡ is → board_in (map string_bytes words) ≡ board-behind is (map string_bytes (take (length words - 1) (drop 1 words)))
-board-of_words words word text is some first told asked =
-    let rest = map string_bytes (take (length words - 1) (drop 1 words)) in
-    ap board_in (first-words words word some first)
-    ∙ (board-word (string_bytes word) rest ∙ ap (λ (b : Bool). board-behind b rest) (ap (λ (t : List ℕ). bytes_eq t (codes "board")) (sym told) ∙ asked))

@@ -1,10 +1,11 @@
 // The words of a board.
 ghost use Rattle.std.specs.Prelude.{◌≡◌, map, string_bytes, option_map, option_and_then};
-ghost use Rattle.mib_model.specs.Words.{is_standard, parted};
-ghost use Rattle.tool_words.specs.Boards as Spec;
-ghost use Rattle.tool_words.specs.Boards.{AsksBoard, board_asked, board_in, board_of_words, or_wrong, words_by};
+ghost use Rattle.mib_model.specs.Words.{parted};
+ghost use Rattle.tool_words.specs.Behind.{or_wrong};
+ghost use Rattle.tool_words.specs.Boards.{AsksBoard, board_asked, board_in, board_of_words, words_by};
 ghost use Rattle.tool_words.specs.Requests.{texts};
 
+use crate::behind::{share_standard, words_behind};
 use crate::line::{line_matches, values};
 use crate::request::{WordsFault, workers_of};
 use mib_model::Misuse;
@@ -20,33 +21,20 @@ pub struct BoardRequest<'a> {
     pub workers: u8,
 }
 
-// Whether a word names standard input.
-fn is_standard(word: &str) -> bool
-    ensures { result ≡ is_standard word.now }
-{
-    word == "-"
-}
-
-// Whether two of three names are standard input.
-fn share_standard(feed: &str, desk: &str, page: &str) -> bool
-    ensures { result ≡ Spec.share_standard feed.now desk.now page.now }
-{
-    is_standard(feed) && is_standard(desk)
-        || is_standard(page) && (is_standard(feed) || is_standard(desk))
-}
-
 // The request of a board with its words.
 fn board_of<'a>(words: &[&'a str], workers: u8) -> Option<BoardRequest<'a>>
     ensures { option_map words_by result ≡ board_of_words workers (texts words.now) }
 {
     match words {
-        [folder, feed, desk, page] if !share_standard(feed, desk, page) => Some(BoardRequest {
-            folder,
-            feed,
-            desk,
-            page,
-            workers,
-        }),
+        [folder, feed, desk, page] if !share_standard(&[*feed, *desk, *page]) => {
+            Some(BoardRequest {
+                folder,
+                feed,
+                desk,
+                page,
+                workers,
+            })
+        }
         _ => None,
     }
 }
@@ -85,14 +73,8 @@ pub fn board_request_in<'a>(
 ) -> Result<BoardRequest<'a>, WordsFault>
     ensures { AsksBoard result (board_in (map string_bytes words.now)) }
 {
-    match words {
-        [word, rest @ ..] => {
-            if word.as_str() == "board" {
-                board_behind(alloc, rest)
-            } else {
-                Err(WordsFault::Misuse(Misuse::Command))
-            }
-        }
-        [] => Err(WordsFault::Misuse(Misuse::Command)),
+    match words_behind("board", words) {
+        Some(rest) => board_behind(alloc, rest),
+        None => Err(WordsFault::Misuse(Misuse::Command)),
     }
 }
