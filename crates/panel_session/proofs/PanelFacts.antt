@@ -1,5 +1,5 @@
 -- A whole run of a panel, by what its intake and its desks did and by the history at its end.
-use Rattle.std.proofs.Common.{◌≡◌, ◌∙◌, ℕ, zero, suc, ◌+◌, ◌<◌, List, [], ◌∷◌, map, length, Option, Result, refl, sym, ap, subst, arith}
+use Rattle.std.proofs.Common.{◌≡◌, ◌∙◌, ℕ, zero, suc, ◌+◌, ◌<◌, true, List, [], ◌∷◌, map, length, Option, Result, refl, sym, ap, subst, arith}
 use Rattle.std.specs.List.{AllByRecursion, AllZip, fold}
 use Rattle.decode_session.specs.declared.ending.RunEnd.{RunEnd}
 use Rattle.decode_session.specs.declared.ending.RunFault.{RunFault}
@@ -64,7 +64,7 @@ lanes-count (side ∷ sides) [] same = absurd (omega (arith, same))
 lanes-own : (number : ℕ) (history : RegisterHistory) (sides : List DeskSide) (seens : List Seen) → ListFrom number history (map (λ side. side.seat) sides) → AllOwn number history (lanes sides seens)
 lanes-own number history [] seens list = tt
 lanes-own number history (side ∷ sides) [] list = tt
-lanes-own number history (side ∷ sides) (seen ∷ seens) list = (list.0, lanes-own (suc number) history sides seens list.1.1)
+lanes-own number history (side ∷ sides) (seen ∷ seens) list = (list.0, lanes-own (suc number) history sides seens list.2)
 
 -- ---- plans
 

@@ -13,8 +13,8 @@ use Rattle.turn_cell.proofs.slot.Slot.TheSendSync as slot
 use Rattle.turn_cell.proofs.turn.Lock.TheSendSync as lock
 
 pub join_mut-requires-send-F : goal.join_mut-requires-send-F
-join_mut-requires-send-F g t c κs within = let s = c.type_bounds.send-S in let r = c.type_bounds.sync-R in
-    search (s, r, side_send, over.the_sync, lock.the_sync, seat.the_send, slot.the_send, editions.the_send, board_send, edition-send, edition-sync, crosses, sendable) depth 60 fits 20000
+join_mut-requires-send-F g t c κs within =
+    search (side_send, over.the_sync, lock.the_sync, seat.the_send, slot.the_send, editions.the_send, board_send, edition-send, edition-sync, crosses, sendable) depth 60 fits 20000
 
 pub returns-clause-go_on : goal.returns-clause-go_on
 returns-clause-go_on g t c = search (go_more, rules)
