@@ -13,58 +13,46 @@ ghost use Rattle.turn_cell.specs.Seats.{own_moves, seen_by};
 use crate::side::DeskSide;
 use crate::station::Post;
 use decode_session::{RunEnd, RunFault, Stop};
-use edition::Edition;
-use edition_register::Register;
-use fold_state::Board;
 use live_desk::Place;
 use live_session::{IntakeSide, run_intake};
 use packet_run::Watch;
-use std::alloc::Global;
 use std::sync::Wait;
 use std::thread;
 use std::thread::Threads;
 use tm_io::{Gate, Sink, Source};
 
-// Handles the lines of a desk behind its first `go`, where its script has one.
-fn go_on<R: Wait, S: Post>(
-    rt: &R,
-    alloc: Global,
-    register: &Register<Edition, Board>,
-    desk: u8,
-    side: &mut DeskSide,
-    station: &mut S,
-)
-    requires seat { IsDeskSeat desk register.now side.old.seat }
+// Handles the lines of the desk of this number behind its first `go`, where its script has one.
+fn go_on<R: Wait, S: Post>(place: &Place<'_, R>, desk: &u8, side: &mut DeskSide, station: &mut S)
+    requires seat { IsDeskSeat desk.now place.now.register.now side.old.seat }
     requires room { HasRoom (lane_of side.old (S.seen station.old)) }
-    ensures seat { IsDeskSeat desk register.now side.new.seat }
-    ensures goes { GoesOn desk (lane_of side.old (S.seen station.old)) (lane_of side.new (S.seen station.new)) }
+    ensures seat { IsDeskSeat desk.now place.now.register.now side.new.seat }
+    ensures goes { GoesOn desk.now (lane_of side.old (S.seen station.old)) (lane_of side.new (S.seen station.new)) }
 {
     if side.end.is_none() {
-        let place = Place {
-            rt,
-            alloc,
-            register,
-            desk,
+        let at = Place {
+            rt: place.rt,
+            alloc: place.alloc,
+            register: place.register,
+            desk: *desk,
         };
-        station.work(&place, side, false);
+        station.work(&at, side, false);
     }
 }
 
-// Handles those lines of each desk from this number on, each desk's in a thread of its own.
+// Handles those lines of each desk from this number on, each desk's in a thread of its own. The number is lent, since a closure that
+// lends one of its own leaves unknown what is written to the slices.
 fn all_go_on<R: Threads + Wait + Sync, S: Post + Send>(
-    rt: &R,
-    alloc: Global,
-    register: &Register<Edition, Board>,
-    desk: u8,
+    place: &Place<'_, R>,
+    desk: &u8,
     sides: &mut [DeskSide],
     stations: &mut [S],
 )
-    requires desks { AreDesksFrom desk register.now (map (λ side. side.seat) sides.old) }
+    requires desks { AreDesksFrom desk.now place.now.register.now (map (λ side. side.seat) sides.old) }
     requires room { AllByRecursion HasRoom (lanes sides.old (map S.seen stations.old)) }
     requires same { length stations.old ≡ length sides.old }
-    requires number { desk + length sides.old ≤ 5 }
-    ensures desks { AreDesksFrom desk register.now (map (λ side. side.seat) sides.new) }
-    ensures go_on { AllGoOn desk (lanes sides.old (map S.seen stations.old)) (lanes sides.new (map S.seen stations.new)) }
+    requires number { desk.now + length sides.old ≤ 5 }
+    ensures desks { AreDesksFrom desk.now place.now.register.now (map (λ side. side.seat) sides.new) }
+    ensures go_on { AllGoOn desk.now (lanes sides.old (map S.seen stations.old)) (lanes sides.new (map S.seen stations.new)) }
 {
     let Some((side, other_sides)) = sides.split_first_mut() else {
         return;
@@ -73,18 +61,18 @@ fn all_go_on<R: Threads + Wait + Sync, S: Post + Send>(
         unreachable!();
     };
     thread::join_mut(
-        rt,
-        &mut || go_on(rt, alloc, register, desk, side, station),
+        place.rt,
+        &mut || go_on(place, desk, side, station),
         &mut ||
             requires sync { IsSync R.row }
-            requires desks { AreDesksFrom (desk + 1) register.now (map (λ side. side.seat) other_sides.now) }
+            requires desks { AreDesksFrom (desk.now + 1) place.now.register.now (map (λ side. side.seat) other_sides.now) }
             requires room { AllByRecursion HasRoom (lanes other_sides.now (map S.seen other_stations.now)) }
             requires same { length other_stations.now ≡ length other_sides.now }
-            requires number { desk + 1 + length other_sides.now ≤ 5 }
-            ensures desks { AreDesksFrom (desk + 1) register.entry.now (map (λ side. side.seat) other_sides.exit.now) }
-            ensures go_on { AllGoOn (desk + 1) (lanes other_sides.entry.now (map S.seen other_stations.entry.now))
+            requires number { desk.now + 1 + length other_sides.now ≤ 5 }
+            ensures desks { AreDesksFrom (desk.entry.now + 1) place.entry.now.register.now (map (λ side. side.seat) other_sides.exit.now) }
+            ensures go_on { AllGoOn (desk.entry.now + 1) (lanes other_sides.entry.now (map S.seen other_stations.entry.now))
                 (lanes other_sides.exit.now (map S.seen other_stations.exit.now)) }
-        { all_go_on(rt, alloc, register, desk + 1, other_sides, other_stations) },
+        { all_go_on(place, &(*desk + 1), other_sides, other_stations) },
     );
 }
 
@@ -126,16 +114,7 @@ pub(crate) fn run_beside<
             requires room { AllByRecursion HasRoom (lanes sides.now (map S.seen stations.now)) }
             requires same { length stations.now ≡ length sides.now }
             requires number { place.now.desk + length sides.now ≤ 5 }
-        {
-            all_go_on(
-                place.rt,
-                place.alloc,
-                place.register,
-                place.desk,
-                sides,
-                stations,
-            )
-        },
+        { all_go_on(place, &place.desk, sides, stations) },
         &mut || -> Result<RunEnd, RunFault>
             requires seat { IsSeat 0 place.now.register.now intake.now.seat }
             requires unused { own_moves intake.now.seat ≡ [] }
