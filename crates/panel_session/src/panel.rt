@@ -1,8 +1,12 @@
 //! A run of a panel.
-ghost use Rattle.std.specs.Prelude.{◌≡◌, ◌≢◌, ◌≤◌, [], Err, IfOk, OnErr, length, map};
+ghost use Rattle.std.specs.Prelude.{◌≡◌, ◌≢◌, ◌≤◌, ◌+◌, [], Err, IfOk, OnErr, length, map, vec_capacity};
 ghost use Rattle.std.specs.List.{AllByRecursion, AllZip};
 ghost use Rattle.decode_session.specs.Causes.{HasOutCause};
-ghost use Rattle.edition_register.specs.Panels.{AreDesksFrom};
+ghost use Rattle.edition_register.specs.Panels.{AreDesksFrom, ListFrom};
+ghost use Rattle.histories.specs.History.{IsOfSeatsBelow, Permits, StartsWith, moves_of};
+ghost use Rattle.live_session.specs.Codes.{code_by};
+ghost use Rattle.mib_model.specs.RegisterHistories.{IsRegisterHistory, MayEnter};
+ghost use Rattle.panel_session.specs.Codes.{gravest};
 ghost use Rattle.edition_register.specs.Seats.{IsSeat, first_of, history_of};
 ghost use Rattle.live_session.specs.Live.{EndsAs, StaysHandedOn, object};
 ghost use Rattle.live_session.specs.Sides.{Intakes, IsReady};
@@ -19,16 +23,17 @@ use crate::station::{Post, Station};
 use crate::work::run_beside;
 use decode_session::{RunEnd, RunFault, Stop};
 use edition::Edition;
-use edition_register::{Closed, Register};
+use edition_register::{Closed, Editions, Register};
 use fold_state::Board;
 use live_desk::Place;
 use live_session::IntakeSide;
 use mib_model::Code;
-use packet_run::Watch;
+use packet_run::{NoWatch, Watch};
 use std::alloc::{AllocError, Global};
 use std::sync::Wait;
 use std::thread::Threads;
 use tm_io::{Gate, Sink, Source};
+use turn_cell::Seat;
 
 /// How a run of a panel ended: its code, and its register at the end.
 #[derive(Drop)]
@@ -82,6 +87,34 @@ fn run_desks<
     )
 }
 
+// Ends a run: its code, and its register closed.
+fn finish(
+    register: Register<Edition, Board>,
+    intake: IntakeSide<NoWatch>,
+    sides: Vec<DeskSide>,
+    room: Vec<Seat<Editions<Edition, Board>>>,
+    ended: Result<RunEnd, RunFault>,
+) -> PanelLived
+    requires intake { IsSeat 0 register intake.seat }
+    requires desks { AreDesksFrom 1 register (map (λ side. side.seat) sides.items) }
+    requires room { (room.items ≡ []) × (length sides.items ≤ vec_capacity room) }
+    ensures code { result.code ≡ code_by ended (gravest sides.items) }
+    ensures legal { IsRegisterHistory (first_of register) (history_of result.closed) × Permits MayEnter (history_of result.closed) }
+    ensures seats { IsOfSeatsBelow (length sides.items + 1) (history_of result.closed) }
+    ensures intake { moves_of 0 (history_of result.closed) ≡ own_moves intake.seat }
+    ensures seen { StartsWith (history_of result.closed) (seen_by intake.seat) }
+    ensures desks { ListFrom 1 (history_of result.closed) (map (λ side. side.seat) sides.items) }
+    ensures numbers { EndsAs (first_of register) result.closed }
+{
+    let code = code_of(ended, &sides);
+    let seats = take_seats(sides, room);
+    let IntakeSide { seat, .. } = intake;
+    PanelLived {
+        code,
+        closed: register.close_desks(seat, seats),
+    }
+}
+
 impl PanelRun {
     // The lines of each desk up to its first `go`, one desk after the other, and then the packets of the feed beside the other lines.
     fn run<R: Threads + Wait + Sync, F: Source, S: Post + Send, O: Sink, G: Gate + Sync>(
@@ -119,11 +152,7 @@ impl PanelRun {
             &mut sides,
             stations,
         );
-        let IntakeSide { seat, .. } = intake;
-        PanelLived {
-            code: code_of(ended, &sides),
-            closed: register.close_desks(seat, take_seats(sides, room)),
-        }
+        finish(register, intake, sides, room, ended)
     }
 }
 

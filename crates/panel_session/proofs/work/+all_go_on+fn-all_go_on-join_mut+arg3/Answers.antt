@@ -16,7 +16,7 @@ use Rattle.turn_cell.proofs.slot.Slot.TheSendSync as slot
 use Rattle.turn_cell.proofs.turn.Lock.TheSendSync as lock
 
 -- what the first closure captures may go to another thread
-captured-send : (g : Over) (κs : Lfts _) → IsSend (S-row g.row.R g.row.S) → IsSync (R-row g.row.R g.row.S) → IsSend (param 1 (arg-3-1 g.row.R g.row.S g.R.laws g.S.laws g.R.Threads-dict g.R.Wait-dict g.S.Post-dict κs))
+captured-send : (g : Over) (κs : Lfts 20) → IsSend (S-row g.row.R g.row.S) → IsSync (R-row g.row.R g.row.S) → IsSend (param 1 (arg-3-1 g.row.R g.row.S g.R.laws g.S.laws g.R.Threads-dict g.R.Wait-dict g.S.Post-dict κs))
 captured-send g κs s r = search (side_send, over.the_sync, lock.the_sync, seat.the_send, slot.the_send, editions.the_send, board_send, edition-send, edition-sync, crosses, sendable) depth 60 fits 20000
 
 pub join_mut-requires-send-F : goal.join_mut-requires-send-F

@@ -16,7 +16,7 @@ use Rattle.turn_cell.proofs.slot.Slot.TheSendSync as slot
 use Rattle.turn_cell.proofs.turn.Lock.TheSendSync as lock
 
 -- what the desks' closure captures may go to another thread
-captured-send : (g : Over) (κs : Lfts _) → IsSend (S-row g.row.R g.row.F g.row.S g.row.O g.row.G g.row.W) → IsSync (R-row g.row.R g.row.F g.row.S g.row.O g.row.G g.row.W)
+captured-send : (g : Over) (κs : Lfts 19) → IsSend (S-row g.row.R g.row.F g.row.S g.row.O g.row.G g.row.W) → IsSync (R-row g.row.R g.row.F g.row.S g.row.O g.row.G g.row.W)
     → IsSend (param 1 (arg-0-1 g.row.R g.row.F g.row.S g.row.O g.row.G g.row.W g.R.laws g.F.laws g.S.laws g.O.laws g.G.laws g.W.laws g.R.Threads-dict g.R.Wait-dict g.F.Source-dict g.S.Post-dict g.O.Sink-dict g.G.Gate-dict g.W.Watch-dict κs))
 captured-send g κs s r = search (side_send, over.the_sync, lock.the_sync, seat.the_send, slot.the_send, editions.the_send, board_send, edition-send, edition-sync, crosses, sendable) depth 60 fits 20000
 
