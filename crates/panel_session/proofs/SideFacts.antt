@@ -1,5 +1,5 @@
 -- What desks own and what is seen of their objects, one more or none.
-use Rattle.std.proofs.Common.{◌≡◌, ◌∙◌, ℕ, suc, List, [], ◌∷◌, ◌++◌, map, length, refl, sym, ap, subst, arith}
+use Rattle.std.proofs.Common.{◌≡◌, ◌∙◌, ℕ, zero, suc, List, [], ◌∷◌, ◌++◌, map, length, take, refl, sym, ap, subst, arith}
 use Rattle.std.specs.List.{AllByRecursion}
 use Rattle.mib_model.specs.RegisterHistories.{RegisterHistory}
 use Rattle.panel_session.specs.declared.side.DeskSide.{DeskSide}
@@ -9,6 +9,13 @@ use Rattle.panel_session.specs.Lanes.{AllBegin, AllGoOn, BeginsSo, GoesOn, HasRo
 pub all_more : {X : Type 0} (P : X → Type 0) (xs : List X) (x : X) → AllByRecursion P xs → P x → AllByRecursion P (xs ++ x ∷ [])
 all_more P [] x all one = (one, tt)
 all_more P (y ∷ ys) x all one = (all.0, all_more P ys x all.1 one)
+
+-- as many elements as a list has, of the list and more
+pub front_of : {X : Type 0} (xs more : List X) (n : ℕ) → length xs ≡ n → take n (xs ++ more) ≡ xs
+front_of [] more zero same = refl
+front_of (x ∷ xs) more (suc n) same = ap (λ l. x ∷ l) (front_of xs more n (omega (arith, same)))
+front_of [] more (suc n) same = absurd (omega (arith, same))
+front_of (x ∷ xs) more zero same = absurd (omega (arith, same))
 
 no-lanes : (sides : List DeskSide) (seens : List Seen) → length sides ≡ 0 → lanes sides seens ≡ []
 no-lanes [] seens none = refl
