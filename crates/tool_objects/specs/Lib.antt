@@ -1,3 +1,4 @@
 pub mod Objects
 pub mod Sources
 pub mod Told
+pub mod Opened

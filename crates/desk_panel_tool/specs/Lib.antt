@@ -1,0 +1,3 @@
+pub mod Stations
+pub mod Inputs
+pub mod Panel
