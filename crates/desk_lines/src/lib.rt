@@ -13,5 +13,5 @@ mod request;
 
 pub use laws::{limit_at_start, long_asks_as_front, still_at_start};
 pub use next_line::NextLine;
-pub use reader::{DeskReader, LINE_ROOM};
+pub use reader::{Bookmark, DeskReader, LINE_ROOM};
 pub use request::{Request, request_of};

@@ -12,6 +12,30 @@ const MOST_LINES: u32 = 1_000_000;
 
 const MOST_SCRIPT: u32 = 1_073_741_824;
 
+/// How far a script was read, for who reads on later. Contracts see it by `read_to`.
+#[derive(Clone, Copy, Debug)]
+pub struct Bookmark {
+    lines: u32,
+    octets: u32,
+    ghost few: { lines ≤ 1000000 },
+    ghost short: { octets ≤ 1073741824 },
+}
+
+impl Bookmark {
+    ghost use Rattle.desk_lines.specs.Reader.{read_to};
+    ghost use Rattle.desk_lines.specs.Ahead.{reading_start};
+
+    /// Where a script begins.
+    pub fn start() -> Bookmark
+        ensures { read_to result ≡ reading_start }
+    {
+        Bookmark {
+            lines: 0,
+            octets: 0,
+        }
+    }
+}
+
 /// The lines of a script. Contracts see the source, by `source_of`, and how far it was read, by `reading_of`.
 #[derive(Drop)]
 pub struct DeskReader<S> {
@@ -33,7 +57,7 @@ fn line_of(octets: u32) -> NextLine
 }
 
 impl<S> DeskReader<S> {
-    ghost use Rattle.desk_lines.specs.Reader.{reading_of, source_of};
+    ghost use Rattle.desk_lines.specs.Reader.{read_to, reading_of, source_of};
     ghost use Rattle.desk_lines.specs.Ahead.{reading_start};
 
     /// The lines of the script that this source has from where it stands.
@@ -41,10 +65,28 @@ impl<S> DeskReader<S> {
         ensures source { source_of result ≡ source }
         ensures start { reading_of result ≡ reading_start }
     {
+        DeskReader::resume(source, Bookmark::start())
+    }
+
+    /// The lines of a script that was read so far, which this source has from where it stands.
+    pub fn resume(source: S, bookmark: Bookmark) -> DeskReader<S>
+        ensures source { source_of result ≡ source }
+        ensures read { reading_of result ≡ read_to bookmark }
+    {
         DeskReader {
             source,
-            lines: 0,
-            octets: 0,
+            lines: bookmark.lines,
+            octets: bookmark.octets,
+        }
+    }
+
+    /// How far it was read.
+    pub fn bookmark(&self) -> Bookmark
+        ensures { read_to result ≡ reading_of self.now }
+    {
+        Bookmark {
+            lines: self.lines,
+            octets: self.octets,
         }
     }
 }

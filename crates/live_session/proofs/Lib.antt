@@ -1,6 +1,6 @@
-mod PlanFacts
+pub mod PlanFacts
 mod StampFacts
-mod EndFacts
-mod LiveFacts
+pub mod EndFacts
+pub mod LiveFacts
 pub mod SharedEdition
-mod Crossing
+pub mod Crossing

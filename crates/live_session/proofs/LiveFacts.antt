@@ -64,7 +64,7 @@ desked-on e first entries seen all left behind w0 w1 on d = record {
 
 module _ {W : Type 0} (stands : W → List Member → Type 0) (watch watched : W) (ended : Result RunEnd RunFault) (first : Database) (history own : RegisterHistory) (legal : IsRegisterHistory first history) (permits : Permits MayEnter history) (is : moves_of 0 history ≡ own) where
   -- what an intake printed is the output of the history
-  prints-of : (before now out_before out_now : ℕ) (l0 l1 w0 w1 : Known) → HasOutCause ended out_before out_now → Runs stands ended (begun first watch w0) own before now l0 l1 watched w1 → Prints first history (object l0 l1 before now) (object w0 w1 out_before out_now)
+  pub prints-of : (before now out_before out_now : ℕ) (l0 l1 w0 w1 : Known) → HasOutCause ended out_before out_now → Runs stands ended (begun first watch w0) own before now l0 l1 watched w1 → Prints first history (object l0 l1 before now) (object w0 w1 out_before out_now)
   prints-of before now out_before out_now l0 l1 w0 w1 cause i = record {
     read = i.read;
     packets = i.packets;
@@ -97,7 +97,7 @@ module _ {W : Type 0} (stands : W → List Member → Type 0) (watch watched : W
           legal = legal;
           permitted = permits;
           seats = below;
-          plans = plans-of history d.early d.late _ d.middle d.last _ _ d.early_replies d.late_replies permits below (desk_is ∙ desked.1 ∙ ap moves_by d.entered) d.at_first d.later;
+          plans = plans-of history d.early d.late _ d.middle d.last _ _ d.early_replies d.late_replies permits below (calls ∙ d.entered) d.at_first d.later;
         };
         prints = prints-of before now out_before out_now l0 l1 w0 w1 cause i;
         desk_end = e;

@@ -1,10 +1,12 @@
--- Each edition that a desk adds has the plans of its tables.
-use Rattle.std.proofs.Common.{◌≡◌, ℕ, zero, suc, ◌<◌, Bool, true, false, List, [], ◌∷◌, ◌++◌, Option, Some, None, Result, Ok, Err, refl, sym, subst, arith, inl, inr}
+-- Each edition that a history adds has the plans of its tables, where each of its desks went from a state to a state.
+use Rattle.std.proofs.Common.{◌≡◌, ℕ, zero, suc, ◌<◌, ◌==◌, Bool, true, false, List, [], ◌∷◌, ◌++◌, map, Option, Some, None, Result, Ok, Err, refl, sym, subst, arith, inl, inr}
 use Rattle.std.proofs.lemmas.Bool.{false≢true}
+use Rattle.std.proofs.lemmas.Bool.Decides.{nat_tests}
 use Rattle.std.proofs.lemmas.List.Elements.{All-from_recursion}
-use Rattle.std.specs.Prelude.{if◌then◌else◌}
+use Rattle.std.specs.Prelude.{MatchOption, if◌then◌else◌}
 use Rattle.std.specs.List.{AllByRecursion, flat_map}
-use Rattle.histories.specs.History.{IsOfSeatsBelow, Permits, move, moves_of}
+use Rattle.histories.specs.History.{IsOfSeatsBelow, Permits, calls_of, move, moves_of}
+use Rattle.histories.specs.declared.history.Move.{Move}
 use Rattle.mib_model.specs.declared.fault.MibFault.{MibFault}
 use Rattle.mib_model.specs.declared.key.Key.{Key}
 use Rattle.mib_model.specs.declared.kind.Kind.{Kind}
@@ -15,8 +17,8 @@ use Rattle.mib_model.specs.declared.register.Entry.TheVariants as entry
 use Rattle.mib_model.specs.declared.rows.Row.{Row}
 use Rattle.mib_model.specs.Desk.{DeskReply, DeskState, Done, Ask}
 use Rattle.mib_model.specs.DeskLines.{Request, Comment, TooLong, BadLine, BadTable, Put, Delete, Save, Drop, Use, UseFrom, Take, Go, request_of}
-use Rattle.mib_model.specs.DeskRuns.{Calls, Follows, IsChain, IsDesk, IsLine, LeavesLook, LineRun, moves_by}
-use Rattle.mib_model.specs.DeskWays.{delete_way, put_way, save_way, saved, took, use_way, way_of}
+use Rattle.mib_model.specs.DeskRuns.{Calls, Follows, IsChain, IsDesk, IsLine, LeavesLook, LineRun, look_of}
+use Rattle.mib_model.specs.DeskWays.{delete_way, looked, put_way, save_entry, save_way, saved, took, use_by, use_way, way_of}
 use Rattle.mib_model.specs.Drafts.{is_held, rows_of}
 use Rattle.mib_model.specs.Reading.{key_read, row_read}
 use Rattle.mib_model.specs.RegisterHistories.{AddsItsPlans, HasItsPlans, MayEnter, RegisterHistory}
@@ -53,10 +55,14 @@ module _ (given : Option DeskReply) (new : DeskState) where
   saved-plans s (answer.Stale newest) calls gone = subst Planned (sym gone.0) tt
   saved-plans s other calls gone = subst Planned (sym gone.0) tt
 
-  save-plans : (s : DeskState) (flaw : Option MibFault) (calls : Calls) → Follows (save_way false s flaw) calls given new → Planned calls
-  save-plans s (Some fault) calls gone = subst Planned (sym gone.0) tt
-  save-plans s None [] gone = absurd gone
-  save-plans s None (call ∷ calls) gone = (subst HasItsPlans (sym gone.0) refl, saved-plans s call.1 calls gone.1)
+  entry-plans : (several : Bool) (s : DeskState) → HasItsPlans (save_entry several s)
+  entry-plans true s = refl
+  entry-plans false s = refl
+
+  save-plans : (several : Bool) (s : DeskState) (flaw : Option MibFault) (calls : Calls) → Follows (save_way several s flaw) calls given new → Planned calls
+  save-plans several s (Some fault) calls gone = subst Planned (sym gone.0) tt
+  save-plans several s None [] gone = absurd gone
+  save-plans several s None (call ∷ calls) gone = (subst HasItsPlans (sym gone.0) (entry-plans several s), saved-plans s call.1 calls gone.1)
 
   took-plans : (s : DeskState) (a : Answer) (calls : Calls) → Follows (took s a) calls given new → Planned calls
   took-plans s (answer.Drawn e tables) calls gone = subst Planned (sym gone.0) tt
@@ -66,52 +72,64 @@ module _ (given : Option DeskReply) (new : DeskState) where
   use-plans s e activation [] has gone = absurd gone
   use-plans s e activation (call ∷ calls) has (is, went) = (subst HasItsPlans (sym is) has, done-plans _ _ calls went)
 
+  looked-plans : (s : DeskState) (e : ℕ) (activation : Entry) (a : Answer) (calls : Calls) → HasItsPlans activation → Follows (looked s e activation a) calls given new → Planned calls
+  looked-plans s e activation (answer.NoEdition count) calls has gone = done-plans _ _ calls gone
+  looked-plans s e activation other calls has gone = use-plans s e activation calls has gone
+
+  by-plans : (several : Bool) (s : DeskState) (e : ℕ) (activation : Entry) (calls : Calls) → HasItsPlans activation → Follows (use_by several s e activation) calls given new → Planned calls
+  by-plans false s e activation calls has gone = use-plans s e activation calls has gone
+  by-plans true s e activation [] has gone = absurd gone
+  by-plans true s e activation (call ∷ calls) has (is, went) = (subst HasItsPlans (sym is) tt, looked-plans s e activation call.1 calls has went)
+
   newest-plans : (s : DeskState) (calls : Calls) → Follows (Ask entry.Newest (took s)) calls given new → Planned calls
   newest-plans s [] gone = absurd gone
   newest-plans s (call ∷ calls) gone = (subst HasItsPlans (sym gone.0) tt, took-plans s call.1 calls gone.1)
 
-  way-plans : (s : DeskState) (request : Request) (calls : Calls) → Follows (way_of false s request) calls given new → Planned calls
+  way-plans : (several : Bool) (s : DeskState) (request : Request) (calls : Calls) → Follows (way_of several s request) calls given new → Planned calls
   unfolding way_of
-  way-plans s Comment calls gone = subst Planned (sym gone.0) tt
-  way-plans s TooLong calls gone = subst Planned (sym gone.0) tt
-  way-plans s BadLine calls gone = subst Planned (sym gone.0) tt
-  way-plans s BadTable calls gone = subst Planned (sym gone.0) tt
-  way-plans s (Put table row) calls gone = put-plans s table (row_read table row) calls gone
-  way-plans s (Delete table key) calls gone = delete-plans s table (key_read table key) calls gone
-  way-plans s Save calls gone = save-plans s (first_flaw s.draft) calls gone
-  way-plans s Drop calls gone = subst Planned (sym gone.0) tt
-  way-plans s (Use e) calls gone = use-plans s e (entry.Use e) calls tt gone
-  way-plans s (UseFrom e k) calls gone = use-plans s e (entry.UseFrom e k) calls tt gone
-  way-plans s Take calls gone = newest-plans s calls gone
-  way-plans s Go calls gone = subst Planned (sym gone.0) tt
+  way-plans several s Comment calls gone = subst Planned (sym gone.0) tt
+  way-plans several s TooLong calls gone = subst Planned (sym gone.0) tt
+  way-plans several s BadLine calls gone = subst Planned (sym gone.0) tt
+  way-plans several s BadTable calls gone = subst Planned (sym gone.0) tt
+  way-plans several s (Put table row) calls gone = put-plans s table (row_read table row) calls gone
+  way-plans several s (Delete table key) calls gone = delete-plans s table (key_read table key) calls gone
+  way-plans several s Save calls gone = save-plans several s (first_flaw s.draft) calls gone
+  way-plans several s Drop calls gone = subst Planned (sym gone.0) tt
+  way-plans several s (Use e) calls gone = by-plans several s e (entry.Use e) calls tt gone
+  way-plans several s (UseFrom e k) calls gone = by-plans several s e (entry.UseFrom e k) calls tt gone
+  way-plans several s Take calls gone = newest-plans s calls gone
+  way-plans several s Go calls gone = subst Planned (sym gone.0) tt
 
 -- ---- lines
 
--- want of memory leaves no entry of a single desk
-look-plans : (request : Request) (calls : Calls) → LeavesLook false request calls → Planned calls
-look-plans request [] leaves = tt
-look-plans request (call ∷ []) leaves = absurd (false≢true leaves.0)
-look-plans request (call ∷ next ∷ calls) leaves = absurd leaves
+look-entry : (request : Request) (e : Entry) → look_of request ≡ Some e → HasItsPlans e
+look-entry Take e is = subst (λ (o : Option Entry). MatchOption o (Unit {0}) HasItsPlans) is tt
+look-entry (Use k) e is = subst (λ (o : Option Entry). MatchOption o (Unit {0}) HasItsPlans) is tt
+look-entry (UseFrom k from) e is = subst (λ (o : Option Entry). MatchOption o (Unit {0}) HasItsPlans) is tt
+look-entry other e is = subst (λ (o : Option Entry). MatchOption o (Unit {0}) HasItsPlans) is tt
 
-line-plans : (run : LineRun) → IsLine false run → Planned run.calls
-line-plans run (inl gone) = way-plans run.reply run.new run.old (request_of false run.line) run.calls gone
-line-plans run (inr wants) = look-plans (request_of false run.line) run.calls wants.entries
+-- want of memory leaves no entry that adds an edition
+look-plans : (several : Bool) (request : Request) (calls : Calls) → LeavesLook several request calls → Planned calls
+look-plans several request [] leaves = tt
+look-plans several request (call ∷ []) leaves = (look-entry request call.0 leaves.1, tt)
+look-plans several request (call ∷ next ∷ calls) leaves = absurd leaves
 
-chain-plans : (old new : DeskState) (runs : List LineRun) → IsChain false old runs new → Planned (flat_map (λ run. run.calls) runs)
-chain-plans old new [] chain = tt
-chain-plans old new (run ∷ runs) chain = planned-append run.calls (flat_map (λ r. r.calls) runs) (line-plans run chain.1) (chain-plans run.new new runs chain.2)
+line-plans : (several : Bool) (run : LineRun) → IsLine several run → Planned run.calls
+line-plans several run (inl gone) = way-plans run.reply run.new several run.old (request_of several run.line) run.calls gone
+line-plans several run (inr wants) = look-plans several (request_of several run.line) run.calls wants.entries
 
-desk-plans : (old new : DeskState) (lines : List (List ℕ)) (calls : Calls) (replies : List DeskReply) → IsDesk false old lines calls replies new → Planned calls
-desk-plans old new lines calls replies d = subst Planned d.in_calls (chain-plans old new d.runs d.chain)
+chain-plans : (several : Bool) (old new : DeskState) (runs : List LineRun) → IsChain several old runs new → Planned (flat_map (λ run. run.calls) runs)
+chain-plans several old new [] chain = tt
+chain-plans several old new (run ∷ runs) chain =
+    planned-append run.calls (flat_map (λ r. r.calls) runs) (line-plans several run chain.1) (chain-plans several run.new new runs chain.2)
+
+desk-plans : (several : Bool) (old new : DeskState) (lines : List (List ℕ)) (calls : Calls) (replies : List DeskReply) → IsDesk several old lines calls replies new → Planned calls
+desk-plans several old new lines calls replies d = subst Planned d.in_calls (chain-plans several old new d.runs d.chain)
 
 -- ---- a history
 
-abbrev MovesPlanned : RegisterHistory → Type 0
+abbrev pub MovesPlanned : RegisterHistory → Type 0
 MovesPlanned moves = AllByRecursion (λ m. HasItsPlans m.entry) moves
-
-moves-planned : (calls : Calls) → Planned calls → MovesPlanned (moves_by calls)
-moves-planned [] all = tt
-moves-planned (c ∷ cs) all = (all.0, moves-planned cs all.1)
 
 stamp-planned : (e : Entry) → MayEnter 0 e → HasItsPlans e
 stamp-planned entry.Stamp may = tt
@@ -122,20 +140,49 @@ stamp-planned (entry.UseFrom e k) may = tt
 stamp-planned entry.Newest may = tt
 stamp-planned (entry.Look e) may = tt
 
-planned-step : (seat : ℕ) (e : Entry) (a : Answer) (ms : RegisterHistory) → MayEnter seat e → seat < 2 → (MovesPlanned (moves_of 1 ms) → MovesPlanned ms) → MovesPlanned (moves_of 1 (move seat e a ∷ ms)) → MovesPlanned (move seat e a ∷ ms)
-planned-step zero e a ms may below rest desk = (stamp-planned e may, rest desk)
-planned-step (suc zero) e a ms may below rest desk = (desk.0, rest desk.1)
-planned-step (suc (suc n)) e a ms may below rest desk = absurd (omega arith)
+head-planned : (b : Bool) (m : Move Entry Answer) (ms : RegisterHistory) → b ≡ true → MovesPlanned (if b then m ∷ ms else ms) → HasItsPlans m.entry
+head-planned true m ms is all = all.0
+head-planned false m ms is all = absurd (false≢true is)
 
--- with one desk all editions are added by its moves
-history-planned : (history : RegisterHistory) → Permits MayEnter history → IsOfSeatsBelow 2 history → MovesPlanned (moves_of 1 history) → MovesPlanned history
-history-planned [] permits below desk = tt
-history-planned (m ∷ ms) permits below desk = planned-step m.seat m.entry m.reply ms permits.0 below.0 (history-planned ms permits.1 below.1) desk
+tail-planned : (b : Bool) (m : Move Entry Answer) (ms : RegisterHistory) → MovesPlanned (if b then m ∷ ms else ms) → MovesPlanned ms
+tail-planned true m ms all = all.1
+tail-planned false m ms all = all
 
--- each edition that a history adds has the plans of its tables, where its desk went from a state to a state and to another
-pub plans-of : (history : RegisterHistory) (early late : Calls) (first middle last : DeskState) (lines more : List (List ℕ)) (told others : List DeskReply) → Permits MayEnter history → IsOfSeatsBelow 2 history → moves_of 1 history ≡ moves_by (early ++ late)
+-- each of so many desks has such moves
+abbrev pub DesksPlanned : ℕ → RegisterHistory → Type 0
+DesksPlanned desks history = (k : ℕ) → k < desks → MovesPlanned (moves_of (suc k) history)
+
+move-planned : (desks seat : ℕ) (e : Entry) (a : Answer) (ms : RegisterHistory) → MayEnter seat e → seat < suc desks → DesksPlanned desks (move seat e a ∷ ms) → HasItsPlans e
+move-planned desks zero e a ms may below all = stamp-planned e may
+move-planned desks (suc k) e a ms may below all =
+    head-planned (suc k == suc k) (move (suc k) e a) (moves_of (suc k) ms) (grind (arith, nat_tests)) (all k (omega (arith, below)))
+
+-- the desks add all editions
+history-planned : (desks : ℕ) (history : RegisterHistory) → Permits MayEnter history → IsOfSeatsBelow (suc desks) history → DesksPlanned desks history → MovesPlanned history
+history-planned desks [] permits below all = tt
+history-planned desks (m ∷ ms) permits below all =
+    (move-planned desks m.seat m.entry m.reply ms permits.0 below.0 all,
+    history-planned desks ms permits.1 below.1 (λ k under. tail-planned (m.seat == suc k) m (moves_of (suc k) ms) (all k under)))
+
+-- each edition that a history adds has the plans of its tables, where those that each desk adds have
+pub planned-of : (desks : ℕ) (history : RegisterHistory) → Permits MayEnter history → IsOfSeatsBelow (suc desks) history → DesksPlanned desks history → AddsItsPlans history
+planned-of desks history permits below all = All-from_recursion (λ m. HasItsPlans m.entry) history (history-planned desks history permits below all)
+
+planned-back : (moves : RegisterHistory) → Planned (map (λ m. (m.entry, m.reply)) moves) → MovesPlanned moves
+planned-back [] all = tt
+planned-back (m ∷ ms) all = (all.0, planned-back ms all.1)
+
+-- the moves of a desk that went from a state to a state and to another
+pub desk-planned : (several : Bool) (seat : ℕ) (history : RegisterHistory) (early late : Calls) (first middle last : DeskState) (lines more : List (List ℕ)) (told others : List DeskReply) → calls_of seat history ≡ early ++ late
+    → IsDesk several first lines early told middle → IsDesk several middle more late others last → MovesPlanned (moves_of seat history)
+desk-planned several seat history early late first middle last lines more told others own front rest =
+    planned-back (moves_of seat history)
+    (subst Planned (sym own) (planned-append early late (desk-plans several first middle lines early told front) (desk-plans several middle last more late others rest)))
+
+-- and so with one desk
+pub plans-of : (history : RegisterHistory) (early late : Calls) (first middle last : DeskState) (lines more : List (List ℕ)) (told others : List DeskReply) → Permits MayEnter history → IsOfSeatsBelow 2 history → calls_of 1 history ≡ early ++ late
     → IsDesk false first lines early told middle → IsDesk false middle more late others last → AddsItsPlans history
-plans-of history early late first middle last lines more told others permits below own front rest =
-    All-from_recursion (λ m. HasItsPlans m.entry) history
-    (history-planned history permits below
-    (subst MovesPlanned (sym own) (moves-planned (early ++ late) (planned-append early late (desk-plans first middle lines early told front) (desk-plans middle last more late others rest)))))
+plans-of history early late first middle last lines more told others permits below own front rest = planned-of 1 history permits below one where
+  one : DesksPlanned 1 history
+  one zero under = desk-planned false 1 history early late first middle last lines more told others own front rest
+  one (suc k) under = absurd (omega (arith, under))

@@ -19,7 +19,7 @@ pub fn code_of_end(end: RunEnd) -> Code
 }
 
 /// The code of a run whose two sides ended so: the output's fault goes before that of the replies, of the feed and of the desk.
-pub(crate) fn merged(intake: Result<RunEnd, RunFault>, desk: DeskEnd) -> Code
+pub fn merged(intake: Result<RunEnd, RunFault>, desk: DeskEnd) -> Code
     ensures { result ≡ code_by intake desk }
 {
     match (intake, desk) {

@@ -13,6 +13,7 @@ mod opening;
 mod run;
 mod sides;
 
-pub use code::code_of_end;
+pub use code::{code_of_end, merged};
 pub use live::{Lived, Watched, live_run};
-pub use opening::LiveRun;
+pub use opening::{LiveRun, at_first};
+pub use sides::{IntakeSide, run_intake};

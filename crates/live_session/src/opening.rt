@@ -24,8 +24,8 @@ pub struct LiveRun<W> {
     pub(crate) desk: Desk,
 }
 
-// An edition with a board that keeps nothing. An error is want of memory.
-fn at_first(alloc: Global, first: Edition) -> Result<Start<Edition, Board>, AllocError>
+/// An edition with a board that keeps nothing. An error is want of memory.
+pub fn at_first(alloc: Global, first: Edition) -> Result<Start<Edition, Board>, AllocError>
     ensures start { IfOk result (λ start. IsStart (λ edition. edition) is_made_for first start) }
     ensures memory { IfOk result (λ start. memory_of start.board ≡ empty_memory) }
 {

@@ -29,7 +29,7 @@ use turn_cell::Seat;
 /// What the intake owns: its seat, the first edition until its run begins, what the run needs, how many workers decode, and what is
 /// told of the packets.
 #[derive(Drop)]
-pub(crate) struct IntakeSide<W> {
+pub struct IntakeSide<W> {
     pub seat: Seat<Editions<Edition, Board>>,
     pub first: Option<Start<Edition, Board>>,
     pub stock: Stock<Edition>,
@@ -39,7 +39,7 @@ pub(crate) struct IntakeSide<W> {
 }
 
 /// Takes in the packets of a feed.
-pub(crate) fn run_intake<F: Source, O: Sink, G: Gate + Sync, W: Watch, R: Threads + Wait + Sync>(
+pub fn run_intake<F: Source, O: Sink, G: Gate + Sync, W: Watch, R: Threads + Wait + Sync>(
     rt: &R,
     register: &Register<Edition, Board>,
     side: &mut IntakeSide<W>,

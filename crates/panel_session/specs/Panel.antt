@@ -1,16 +1,17 @@
 -- What a run leaves whose packets are printed beside the scripts of several desks. [This profile.]
-use Rattle.std.specs.Prelude.{◌≡◌, ℕ, suc, ◌==◌, Bool, List, [], ◌∷◌, length, Some}
-use Rattle.std.specs.List.{list_any}
+use Rattle.std.specs.Prelude.{◌≡◌, ℕ, suc, ◌+◌, ◌<◌, ◌^◌, ◌==◌, Bool, List, [], ◌∷◌, length, Some}
+use Rattle.std.specs.List.{AllZip, list_any}
 use Rattle.decode_session.specs.Run.{most_packets}
 use Rattle.histories.specs.History.{IsOfSeatsBelow, Permits, StartsWith, calls_of, moves_of}
 use Rattle.live_desk.specs.declared.desk_end.DeskEnd.{DeskEnd}
 use Rattle.live_desk.specs.DeskEnds.{is_desk_fault, is_reply_fault}
 use Rattle.live_desk.specs.Scripts.{DeskedAt}
-use Rattle.live_session.specs.Live.{Object, Prints}
+use Rattle.live_session.specs.Live.{Object, Prints, object}
 use Rattle.mib_model.specs.declared.code.Code.{Code}
 use Rattle.mib_model.specs.declared.database.Database.{Database}
 use Rattle.mib_model.specs.Endings.{Ending, code_of_ending}
 use Rattle.mib_model.specs.RegisterHistories.{AddsItsPlans, IsRegisterHistory, MayEnter, RegisterHistory}
+use Rattle.panel_session.specs.Lanes.{Seen}
 use Rattle.tm_io.specs.Causes.{RisesWhere}
 
 -- a history is the register's, of an intake and so many desks, and each edition that it adds has the plans of its tables
@@ -60,3 +61,27 @@ pub record LivesPanel (code : Code) (first : Database) (history : RegisterHistor
   pub prints : Prints first history feed out
   pub stand : StandInOrder 1 first history [] stations
   pub is_code : code ≡ code_of_ending (panel_ending prints.out_failed prints.feed_failed stations prints.rest prints.packets)
+
+-- these desks have objects of which this was seen before and behind a run, in their order
+abbrev pub HaveObjects : List Station → List Seen → List Seen → Type 0
+HaveObjects [] [] [] = Unit {0}
+HaveObjects (station ∷ stations) (old ∷ olds) (new ∷ news) =
+    (station.script ≡ object old.left new.left old.script_faults new.script_faults)
+    × (station.replies ≡ object old.written new.written old.reply_faults new.reply_faults) × HaveObjects stations olds news
+HaveObjects stations olds news = ⊥
+
+-- a run of a panel of these objects: each desk's script ended somehow
+pub record LivesAt (code : Code) (first : Database) (history : RegisterHistory) (feed : Object) (olds news : List Seen) (out : Object) : Type 0 where
+  pub stations : List Station
+  pub have : HaveObjects stations olds news
+  pub lives : LivesPanel code first history feed stations out
+
+-- the objects of a desk keep their files, and turned to none; replies that didn't fail are handed on where those before were
+pub record Keeps (old new : Seen) : Type 0 where
+  pub holds : new.holds ≡ old.holds
+  pub missed : new.missed ≡ old.missed
+  pub handed : new.reply_faults ≡ old.reply_faults → old.reply_faults + 1 < 2 ^ 64 → old.handed ≡ old.written → new.handed ≡ new.written
+
+-- so do those of all desks
+abbrev pub AllKeep : List Seen → List Seen → Type 0
+AllKeep olds news = AllZip Keeps olds news

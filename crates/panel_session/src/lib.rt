@@ -1,10 +1,20 @@
 //! Several desks beside a live run, over one register.
 //!
-//! `LivesPanel` says what such a run leaves. `begin` handles the lines of one desk up to its first `go`, before a packet is
-//! stamped and behind what the desks before it entered. It rests on `panel_desk` for the lines, on `edition_register` for the
-//! history, and on the definitions of `live_session` for what is printed. No run is here.
+//! `panel_run` handles the lines of each desk up to its first `go`, one desk after the other and before a packet is stamped, and then the
+//! packets in one thread and the other lines of each desk in a thread of its own. What it prints is the interpreter's text over the packets,
+//! each with the edition that its stamp in the register's history has; what a desk is replied is what the definitions have for its lines
+//! and their entries in that history. It rests on `panel_desk` for the lines, on `edition_register` for the history, and on
+//! `live_session` for the packets.
 #![tactic(auto)]
 
 mod beginning;
+mod code;
+mod opening;
+mod panel;
+mod side;
+mod station;
+mod work;
 
-pub use beginning::begin;
+pub use panel::{PanelLived, panel_run};
+pub use side::DeskSide;
+pub use station::{Post, Station};

@@ -1,0 +1,138 @@
+// The packets of a feed beside the other lines of all desks.
+ghost use Rattle.std.specs.Prelude.{◌≡◌, ◌≢◌, ◌≤◌, ◌+◌, [], Err, length, map};
+ghost use Rattle.std.specs.List.{AllByRecursion};
+ghost use Rattle.std.specs.Thread.{IsSend, IsSync};
+ghost use Rattle.decode_session.specs.Causes.{HasOutCause};
+ghost use Rattle.edition_register.specs.Panels.{AreDesksFrom, IsDeskSeat};
+ghost use Rattle.edition_register.specs.Seats.{IsSeat, first_of};
+ghost use Rattle.histories.specs.History.{StartsWith};
+ghost use Rattle.live_session.specs.Sides.{Intakes, IsReady};
+ghost use Rattle.panel_session.specs.Lanes.{AllGoOn, GoesOn, HasRoom, lane_of, lanes};
+ghost use Rattle.turn_cell.specs.Seats.{own_moves, seen_by};
+
+use crate::side::DeskSide;
+use crate::station::Post;
+use decode_session::{RunEnd, RunFault, Stop};
+use edition::Edition;
+use edition_register::Editions;
+use fold_state::Board;
+use live_desk::Place;
+use live_session::{IntakeSide, run_intake};
+use packet_run::Watch;
+use std::sync::Wait;
+use std::thread;
+use std::thread::Threads;
+use tm_io::{Gate, Sink, Source};
+use turn_cell::Seat;
+
+// Handles the lines of a desk behind its first `go`, where its script has one.
+fn go_on<R: Wait, S: Post>(
+    place: &Place<'_, R>,
+    seat: &mut Seat<Editions<Edition, Board>>,
+    side: &mut DeskSide,
+    station: &mut S,
+)
+    requires seat { IsDeskSeat place.now.desk place.now.register.now seat.old }
+    requires room { HasRoom (lane_of seat.old side.old (S.seen station.old)) }
+    ensures seat { IsDeskSeat place.now.desk place.now.register.now seat.new }
+    ensures goes { GoesOn place.now.desk (lane_of seat.old side.old (S.seen station.old)) (lane_of seat.new side.new (S.seen station.new)) }
+{
+    if side.end.is_none() {
+        station.work(place, seat, side, false);
+    }
+}
+
+// Handles those lines of each desk from that of the place on, each desk's in a thread of its own.
+fn all_go_on<R: Threads + Wait + Sync, S: Post + Send>(
+    place: &Place<'_, R>,
+    seats: &mut [Seat<Editions<Edition, Board>>],
+    sides: &mut [DeskSide],
+    stations: &mut [S],
+)
+    requires desks { AreDesksFrom place.now.desk place.now.register.now seats.old }
+    requires room { AllByRecursion HasRoom (lanes seats.old sides.old (map S.seen stations.old)) }
+    requires same { (length sides.old ≡ length seats.old) × (length stations.old ≡ length seats.old) }
+    requires number { place.now.desk + length seats.old ≤ 5 }
+    ensures desks { AreDesksFrom place.now.desk place.now.register.now seats.new }
+    ensures go_on { AllGoOn place.now.desk (lanes seats.old sides.old (map S.seen stations.old)) (lanes seats.new sides.new (map S.seen stations.new)) }
+{
+    let Some((seat, other_seats)) = seats.split_first_mut() else {
+        return;
+    };
+    let Some((side, other_sides)) = sides.split_first_mut() else {
+        unreachable!();
+    };
+    let Some((station, other_stations)) = stations.split_first_mut() else {
+        unreachable!();
+    };
+    let next = Place {
+        rt: place.rt,
+        alloc: place.alloc,
+        register: place.register,
+        desk: place.desk + 1,
+    };
+    thread::join_mut(
+        place.rt,
+        &mut || go_on(place, seat, side, station),
+        &mut ||
+            requires sync { IsSync R.row }
+            requires send { IsSend S.row }
+            requires desks { AreDesksFrom next.desk next.register.now other_seats.now }
+            requires room { AllByRecursion HasRoom (lanes other_seats.now other_sides.now (map S.seen other_stations.now)) }
+            requires same { (length other_sides.now ≡ length other_seats.now) × (length other_stations.now ≡ length other_seats.now) }
+            requires number { next.desk + length other_seats.now ≤ 5 }
+            ensures desks { AreDesksFrom next.desk next.register.now other_seats.exit.now }
+            ensures go_on { AllGoOn next.desk (lanes other_seats.entry.now other_sides.entry.now (map S.seen other_stations.entry.now))
+                (lanes other_seats.exit.now other_sides.exit.now (map S.seen other_stations.exit.now)) }
+        { all_go_on(&next, other_seats, other_sides, other_stations) },
+    );
+}
+
+/// Prints the packets of a feed in this thread beside those lines of all desks in others.
+pub(crate) fn run_beside<
+    R: Threads + Wait + Sync,
+    F: Source,
+    S: Post + Send,
+    O: Sink,
+    G: Gate + Sync,
+    W: Watch,
+>(
+    place: &Place<'_, R>,
+    gate: &G,
+    intake: &mut IntakeSide<W>,
+    feed: &mut F,
+    out: &mut O,
+    seats: &mut [Seat<Editions<Edition, Board>>],
+    sides: &mut [DeskSide],
+    stations: &mut [S],
+) -> Result<RunEnd, RunFault>
+    requires intake { IsSeat 0 place.now.register.now intake.old.seat × (own_moves intake.old.seat ≡ []) }
+    requires ready { IsReady (first_of place.now.register.now) intake.old.first intake.old.stock }
+    requires desks { AreDesksFrom place.now.desk place.now.register.now seats.old × (place.now.desk + length seats.old ≤ 5) }
+    requires room { AllByRecursion HasRoom (lanes seats.old sides.old (map S.seen stations.old)) }
+    requires same { (length sides.old ≡ length seats.old) × (length stations.old ≡ length seats.old) }
+    ensures intake { IsSeat 0 place.now.register.now intake.new.seat × StartsWith (seen_by intake.new.seat) (seen_by intake.old.seat) }
+    ensures intakes { Intakes W.stands result (first_of place.now.register.now) (own_moves intake.new.seat) (F.faults feed.old) (F.faults feed.new)
+        (F.left feed.old) (F.left feed.new) (O.written out.old) (O.written out.new) intake.old.watch intake.new.watch }
+    ensures out { HasOutCause result (O.faults out.old) (O.faults out.new) }
+    ensures handed { result ≢ Err (RunFault.Print Stop.Out) → O.handed out.new ≡ O.written out.new }
+    ensures kept { (F.holds feed.new ≡ F.holds feed.old) × (F.missed feed.new ≡ F.missed feed.old) }
+    ensures desks { AreDesksFrom place.now.desk place.now.register.now seats.new }
+    ensures go_on { AllGoOn place.now.desk (lanes seats.old sides.old (map S.seen stations.old)) (lanes seats.new sides.new (map S.seen stations.new)) }
+{
+    let (_, ended) = thread::join_mut(
+        place.rt,
+        &mut ||
+            requires desks { AreDesksFrom place.now.desk place.now.register.now seats.now }
+            requires room { AllByRecursion HasRoom (lanes seats.now sides.now (map S.seen stations.now)) }
+            requires same { (length sides.now ≡ length seats.now) × (length stations.now ≡ length seats.now) }
+            requires number { place.now.desk + length seats.now ≤ 5 }
+        { all_go_on(place, seats, sides, stations) },
+        &mut || -> Result<RunEnd, RunFault>
+            requires seat { IsSeat 0 place.now.register.now intake.now.seat }
+            requires unused { own_moves intake.now.seat ≡ [] }
+            requires ready { IsReady (first_of place.now.register.now) intake.now.first intake.now.stock }
+        { run_intake(place.rt, place.register, intake, feed, out, gate) },
+    );
+    ended
+}
