@@ -1,2 +1,7 @@
 mod BeginningFacts
 pub mod StandFacts
+mod Crossing
+mod SideFacts
+mod LaneFacts
+mod EndFacts
+mod PanelFacts

@@ -56,6 +56,12 @@ pub(crate) fn begin_all<R: Wait, S: Post>(
         (seen_by intake.old) (seen_by intake.new) }
     ensures room { AllByRecursion HasRoom (lanes seats.new sides.new (map S.seen stations.new)) }
 {
+    let next = Place {
+        rt: place.rt,
+        alloc: place.alloc,
+        register: place.register,
+        desk: place.desk + 1,
+    };
     let Some((seat, other_seats)) = seats.split_first_mut() else {
         return;
     };
@@ -66,11 +72,5 @@ pub(crate) fn begin_all<R: Wait, S: Post>(
         unreachable!();
     };
     begin(place, intake, seat, side, station);
-    let next = Place {
-        rt: place.rt,
-        alloc: place.alloc,
-        register: place.register,
-        desk: place.desk + 1,
-    };
     begin_all(&next, intake, other_seats, other_sides, other_stations);
 }

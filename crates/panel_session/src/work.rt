@@ -1,7 +1,7 @@
 // The packets of a feed beside the other lines of all desks.
 ghost use Rattle.std.specs.Prelude.{◌≡◌, ◌≢◌, ◌≤◌, ◌+◌, [], Err, length, map};
 ghost use Rattle.std.specs.List.{AllByRecursion};
-ghost use Rattle.std.specs.Thread.{IsSend, IsSync};
+ghost use Rattle.std.specs.Thread.{IsSync};
 ghost use Rattle.decode_session.specs.Causes.{HasOutCause};
 ghost use Rattle.edition_register.specs.Panels.{AreDesksFrom, IsDeskSeat};
 ghost use Rattle.edition_register.specs.Seats.{IsSeat, first_of};
@@ -14,11 +14,12 @@ use crate::side::DeskSide;
 use crate::station::Post;
 use decode_session::{RunEnd, RunFault, Stop};
 use edition::Edition;
-use edition_register::Editions;
+use edition_register::{Editions, Register};
 use fold_state::Board;
 use live_desk::Place;
 use live_session::{IntakeSide, run_intake};
 use packet_run::Watch;
+use std::alloc::Global;
 use std::sync::Wait;
 use std::thread;
 use std::thread::Threads;
@@ -27,34 +28,46 @@ use turn_cell::Seat;
 
 // Handles the lines of a desk behind its first `go`, where its script has one.
 fn go_on<R: Wait, S: Post>(
-    place: &Place<'_, R>,
+    rt: &R,
+    alloc: Global,
+    register: &Register<Edition, Board>,
+    desk: u8,
     seat: &mut Seat<Editions<Edition, Board>>,
     side: &mut DeskSide,
     station: &mut S,
 )
-    requires seat { IsDeskSeat place.now.desk place.now.register.now seat.old }
+    requires seat { IsDeskSeat desk register.now seat.old }
     requires room { HasRoom (lane_of seat.old side.old (S.seen station.old)) }
-    ensures seat { IsDeskSeat place.now.desk place.now.register.now seat.new }
-    ensures goes { GoesOn place.now.desk (lane_of seat.old side.old (S.seen station.old)) (lane_of seat.new side.new (S.seen station.new)) }
+    ensures seat { IsDeskSeat desk register.now seat.new }
+    ensures goes { GoesOn desk (lane_of seat.old side.old (S.seen station.old)) (lane_of seat.new side.new (S.seen station.new)) }
 {
     if side.end.is_none() {
-        station.work(place, seat, side, false);
+        let place = Place {
+            rt,
+            alloc,
+            register,
+            desk,
+        };
+        station.work(&place, seat, side, false);
     }
 }
 
-// Handles those lines of each desk from that of the place on, each desk's in a thread of its own.
+// Handles those lines of each desk from this number on, each desk's in a thread of its own.
 fn all_go_on<R: Threads + Wait + Sync, S: Post + Send>(
-    place: &Place<'_, R>,
+    rt: &R,
+    alloc: Global,
+    register: &Register<Edition, Board>,
+    desk: u8,
     seats: &mut [Seat<Editions<Edition, Board>>],
     sides: &mut [DeskSide],
     stations: &mut [S],
 )
-    requires desks { AreDesksFrom place.now.desk place.now.register.now seats.old }
+    requires desks { AreDesksFrom desk register.now seats.old }
     requires room { AllByRecursion HasRoom (lanes seats.old sides.old (map S.seen stations.old)) }
     requires same { (length sides.old ≡ length seats.old) × (length stations.old ≡ length seats.old) }
-    requires number { place.now.desk + length seats.old ≤ 5 }
-    ensures desks { AreDesksFrom place.now.desk place.now.register.now seats.new }
-    ensures go_on { AllGoOn place.now.desk (lanes seats.old sides.old (map S.seen stations.old)) (lanes seats.new sides.new (map S.seen stations.new)) }
+    requires number { desk + length seats.old ≤ 5 }
+    ensures desks { AreDesksFrom desk register.now seats.new }
+    ensures go_on { AllGoOn desk (lanes seats.old sides.old (map S.seen stations.old)) (lanes seats.new sides.new (map S.seen stations.new)) }
 {
     let Some((seat, other_seats)) = seats.split_first_mut() else {
         return;
@@ -65,26 +78,19 @@ fn all_go_on<R: Threads + Wait + Sync, S: Post + Send>(
     let Some((station, other_stations)) = stations.split_first_mut() else {
         unreachable!();
     };
-    let next = Place {
-        rt: place.rt,
-        alloc: place.alloc,
-        register: place.register,
-        desk: place.desk + 1,
-    };
     thread::join_mut(
-        place.rt,
-        &mut || go_on(place, seat, side, station),
+        rt,
+        &mut || go_on(rt, alloc, register, desk, seat, side, station),
         &mut ||
             requires sync { IsSync R.row }
-            requires send { IsSend S.row }
-            requires desks { AreDesksFrom next.desk next.register.now other_seats.now }
+            requires desks { AreDesksFrom (desk + 1) register.now other_seats.now }
             requires room { AllByRecursion HasRoom (lanes other_seats.now other_sides.now (map S.seen other_stations.now)) }
             requires same { (length other_sides.now ≡ length other_seats.now) × (length other_stations.now ≡ length other_seats.now) }
-            requires number { next.desk + length other_seats.now ≤ 5 }
-            ensures desks { AreDesksFrom next.desk next.register.now other_seats.exit.now }
-            ensures go_on { AllGoOn next.desk (lanes other_seats.entry.now other_sides.entry.now (map S.seen other_stations.entry.now))
+            requires number { desk + 1 + length other_seats.now ≤ 5 }
+            ensures desks { AreDesksFrom (desk + 1) register.entry.now other_seats.exit.now }
+            ensures go_on { AllGoOn (desk + 1) (lanes other_seats.entry.now other_sides.entry.now (map S.seen other_stations.entry.now))
                 (lanes other_seats.exit.now other_sides.exit.now (map S.seen other_stations.exit.now)) }
-        { all_go_on(&next, other_seats, other_sides, other_stations) },
+        { all_go_on(rt, alloc, register, desk + 1, other_seats, other_sides, other_stations) },
     );
 }
 
@@ -127,7 +133,7 @@ pub(crate) fn run_beside<
             requires room { AllByRecursion HasRoom (lanes seats.now sides.now (map S.seen stations.now)) }
             requires same { (length sides.now ≡ length seats.now) × (length stations.now ≡ length seats.now) }
             requires number { place.now.desk + length seats.now ≤ 5 }
-        { all_go_on(place, seats, sides, stations) },
+        { all_go_on(place.rt, place.alloc, place.register, place.desk, seats, sides, stations) },
         &mut || -> Result<RunEnd, RunFault>
             requires seat { IsSeat 0 place.now.register.now intake.now.seat }
             requires unused { own_moves intake.now.seat ≡ [] }
