@@ -83,6 +83,11 @@ def followed(tables, scripts, replies):
     return desks, editions
 
 
+def changes_nothing(entry):
+    """Whether an entry leaves the register as it is, wherever it stands."""
+    return entry[0] in ("took", "stale", "full") or entry[0] == "use" and not entry[3].startswith("USED")
+
+
 class History:
     """Looks for an order of all entries and of the packets. A place in it is how far each desk is, the number of the next packet, and the schedule."""
 
@@ -122,7 +127,7 @@ class History:
         return all(self.shown[n - 1] == [e for start, e in schedule if start <= n][-1] for n in range(number, until))
 
     def steps(self, place):
-        """The places behind this one. Where an entry changes nothing it comes at once."""
+        """The places behind this one. An entry that changes nothing comes at once."""
         at, number, count, schedule = place
         early = next((j for j, entries in enumerate(self.entries) if at[j] < self.preludes[j]), None)
         found = []
@@ -132,7 +137,7 @@ class History:
             behind = self.after(self.entries[j][at[j]], number, count, schedule)
             if behind is not None:
                 step = (at[:j] + (at[j] + 1,) + at[j + 1:], number, *behind)
-                if behind == (count, schedule):
+                if changes_nothing(self.entries[j][at[j]]):
                     return [step]
                 found.append(step)
         if early is None and number <= len(self.shown):

@@ -98,6 +98,8 @@ def ran(program, panel, words, feed):
 def random_run(program, panel):
     feed = panel.rng.choice([None, "-"])
     status, out, told = ran(program, panel, panel.words(feed=feed), feed)
+    panel.write("out", out.encode("latin-1"))
+    panel.write("told", told.encode("latin-1"))
     return panel.why(status, out, told), len(TOLD.findall(told))
 
 

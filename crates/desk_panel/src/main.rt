@@ -8,6 +8,7 @@ use desk_panel_tool::panel_tool;
 use mib_model::{Code, Line};
 use panel_session::Station;
 use program_ends::{Ending, arguments};
+use record_text::code_line;
 use std::alloc::{AllocError, Global};
 use std::process::ExitCode;
 use std::rt::{Stderr, Stdout};
@@ -81,6 +82,6 @@ fn main(rt: HostRuntime) -> ExitCode {
         Err(code) => code,
     };
     let mut line = Line::new();
-    code.line(&mut line);
+    code_line(&code, &mut line);
     ExitCode::from(Ending::new(code.number(), line).tell(&mut rt.stderr()))
 }
