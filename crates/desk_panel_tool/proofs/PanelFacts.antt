@@ -1,12 +1,14 @@
 -- What a panel says of its objects, from what its run says of them.
-use Rattle.std.proofs.Common.{◌≡◌, ◌∙◌, ℕ, List, [], ◌∷◌, length, map, Option, None, Some, inr, ap, subst, sym}
+use Rattle.std.proofs.Common.{◌≡◌, ◌∙◌, ℕ, List, [], ◌∷◌, length, map, take, Option, None, Some, Result, Ok, Err, IfOk, inl, inr, refl, ap, subst}
 use Rattle.std.proofs.Math.Nat.{suc_inj}
 use Rattle.std.specs.List.{AllByRecursion, AllZip}
-use Rattle.desk_panel_tool.specs.Inputs.{AreOpened, AreTurned}
+use Rattle.desk_panel_tool.proofs.StationFacts.{idle}
+use Rattle.desk_panel_tool.specs.Inputs.{AreNotTurned, AreOpened, AreRefused, AreTurned}
 use Rattle.desk_panel_tool.specs.Panel.{AreOf, Paneled, Ran, RanBy, StaysReplied, StoodAtEach, lines_before, written_to}
-use Rattle.desk_panel_tool.specs.Stations.{IsIdle, StationView, stations}
+use Rattle.desk_panel_tool.specs.Stations.{AreIdle, IsIdle, StationView, stations}
 use Rattle.live_session.specs.Live.{object}
 use Rattle.mib_model.specs.declared.code.Code.{Code}
+use Rattle.mib_model.specs.declared.code.Code.TheVariants as code
 use Rattle.mib_model.specs.declared.database.Database.{Database}
 use Rattle.mib_model.specs.RegisterHistories.{RegisterHistory}
 use Rattle.panel_session.specs.declared.station.Station.{Station}
@@ -146,3 +148,41 @@ module _ {D R : Type 0} (holds : D → Option Files) (left : D → Option (List 
       of_desks = stood-at w.desks old mid new l m n opened.had.of_desks;
       ran = ran-from history (lines_before (views mid new)) opened r;
     }
+
+-- ---- a call whose run didn't open
+
+-- no replies were written where no station was called
+idle-unwritten : {D R : Type 0} (stations : List (StationView D R)) → AreIdle stations → AllByRecursion (λ s. IsUnwritten s.replies) stations
+idle-unwritten [] idle = tt
+idle-unwritten (s ∷ stations) (one, idle) = (one.replies, idle-unwritten stations idle)
+
+-- nor where a desk was not to be had
+not-turned-unwritten : {D R : Type 0} (c : Code) (names : List (List ℕ)) (stations : List (StationView D R)) → AreNotTurned c names stations → AllByRecursion (λ s. IsUnwritten s.replies) stations
+not-turned-unwritten c names [] said = tt
+not-turned-unwritten c [] (s ∷ stations) said = absurd said
+not-turned-unwritten c (name ∷ names) (s ∷ stations) (inl (unturned, same, idle)) = (same, idle-unwritten stations idle)
+not-turned-unwritten c (name ∷ names) (s ∷ stations) (inr (done, same, said)) = (same, not-turned-unwritten c names stations said)
+
+-- nor where any input was refused
+pub refused-unwritten : {T F D R : Type 0} (c : Code) (w : PanelWords) (tables : ShelfView T) (feed : ShelfView F) (stations : List (StationView D R)) → AreRefused c w tables feed stations
+    → AllByRecursion (λ s. IsUnwritten s.replies) stations
+refused-unwritten c w tables feed stations (inl (u, unfed, idle)) = idle-unwritten stations idle
+refused-unwritten c w tables feed stations (inr (d, sound, inl (unfed, idle))) = idle-unwritten stations idle
+refused-unwritten c w tables feed stations (inr (d, sound, inr (fed, undesked))) = not-turned-unwritten c w.desks stations undesked
+
+-- desks of stations that weren't called stood
+idle-stood : {D R : Type 0} (stations : List (StationView D R)) → AreIdle stations → AllByRecursion (λ s. HasStood s.desk) stations
+idle-stood [] idle = tt
+idle-stood (s ∷ stations) (one, idle) = (ap s.desk.faults one.desk, idle-stood stations idle)
+
+-- where memory ran out before any object was called, whatever was asked for
+pub wanting : {T F D R O E : Type 0} (asked : Result PanelWords E) (t : T) (f : F) (same : List (Station D R)) (o : O) (tholds : T → Option Files) (tleft : T → Option (List ℕ)) (tfaults tmissed : T → ℕ)
+    (fholds : F → Option Files) (fleft : F → Option (List ℕ)) (ffaults fmissed : F → ℕ) (holds : D → Option Files) (left : D → Option (List ℕ)) (faults missed : D → ℕ) (written handed : R → Option (List ℕ)) (failed : R → ℕ)
+    (owritten ohanded : O → Option (List ℕ)) (ofaults : O → ℕ)
+    → IfOk asked (λ w. Paneled code.Want None w (shelf t t tholds tleft tfaults tmissed) (shelf f f fholds fleft ffaults fmissed)
+    (stations (take (length w.desks) same) (take (length w.desks) same) holds left faults missed written handed failed) (sink o o owritten ohanded ofaults))
+wanting (Err e) t f same o tholds tleft tfaults tmissed fholds fleft ffaults fmissed holds left faults missed written handed failed owritten ohanded ofaults = tt
+wanting (Ok w) t f same o tholds tleft tfaults tmissed fholds fleft ffaults fmissed holds left faults missed written handed failed owritten ohanded ofaults =
+    let ones = idle (take (length w.desks) same) holds left faults missed written handed failed in
+    let views = stations (take (length w.desks) same) (take (length w.desks) same) holds left faults missed written handed failed in
+    (inr (refl, refl, refl, idle-stood views ones), refl, idle-unwritten views ones)

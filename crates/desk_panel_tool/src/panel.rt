@@ -43,7 +43,6 @@ fn panel_with<
         (shelf feed.old feed.new F.holds F.left F.faults F.missed)
         (stations desks.old desks.new D.holds D.left D.faults D.missed R.written R.handed R.faults)
         (sink out.old out.new O.written O.handed O.faults) }
-    ensures same { length desks.new ≡ length desks.old }
     ensures numbers { IfSome result.closed (λ closed. EndsAs first closed) }
 {
     let workers = workers.clamp(1, MOST_WORKERS);
@@ -81,7 +80,6 @@ pub(crate) fn panel<
         (shelf feed.old feed.new F.holds F.left F.faults F.missed)
         (stations desks.old desks.new D.holds D.left D.faults D.missed R.written R.handed R.faults)
         (sink out.old out.new O.written O.handed O.faults) }
-    ensures same { length desks.new ≡ length desks.old }
     ensures numbers { IfSome result.closed (λ closed. (first : Database) × EndsAs first closed) }
 {
     match open_inputs(alloc, request, tables, feed, desks) {
