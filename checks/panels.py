@@ -6,7 +6,7 @@ reply what `MIBTM live` does, but for the desk's number.
     checks/panels.py PANEL MIBTM [RUNS [SEED]]
 
 Beside them: four operators who save at once and take the newest edition until all are in, or until no edition has room; a desk without `go`; a desk that hangs up
-behind each octet while another goes on; a desk that isn't there; words.
+behind each octet while another goes on; a desk that is answered while the feed waits; a desk that isn't there; words.
 """
 import collections
 import os
@@ -209,6 +209,26 @@ def failing_desks(program, folder):
     return wrong
 
 
+def waiting_feed(program, folder):
+    """The second of two desks is answered while the feed waits behind its first packet."""
+    place = failing_objects.Place(folder)
+    place.write("first", b"go\n")
+    os.mkfifo(os.path.join(folder, "second"))
+    with subprocess.Popen([program, "panel", "mib", "-", "first", "second"], cwd=folder, stdin=subprocess.PIPE, stdout=subprocess.PIPE, stderr=subprocess.PIPE) as run:
+        with open(os.path.join(folder, "second"), "wb", buffering=0) as desk, run.stdin as feed:
+            desk.write(b"go\n")
+            feed.write(failing_objects.PACKET)
+            feed.flush()
+            records = run.stdout.readline() + run.stdout.readline()
+            desk.write(b"use 1\n")
+            told = run.stderr.readline() + run.stderr.readline() + run.stderr.readline()
+            feed.write(failing_objects.PACKET)
+        run.stdin = None
+        records, told = records + run.stdout.read(), told + run.stderr.read()
+    right = (run.returncode, records, told) == (0, b"".join(failing_objects.OLD[:2]), b"DESK 1 GO\nDESK 2 GO\nDESK 2 USED 1 FROM 2\n")
+    return [] if right else ["a feed that waits: %d, %r, %r" % (run.returncode, records, told)]
+
+
 def refused(program, folder):
     """Words, and desks that aren't there: nothing is printed, and nothing of what stands behind is opened."""
     place = failing_objects.Place(folder)
@@ -236,6 +256,9 @@ def named(program, seed):
         wrong += failing_desks(program, folder)
     with tempfile.TemporaryDirectory() as folder:
         wrong += refused(program, folder)
+    with tempfile.TemporaryDirectory() as folder:
+        signal.alarm(SECONDS)
+        wrong += waiting_feed(program, folder)
     for most in (1, 4, 64):
         rng, came = random.Random(seed), "refused"
         while came == "refused":

@@ -1,9 +1,9 @@
 -- Where nothing fails, a panel runs whole, and an input that isn't accepted or isn't there is refused.
 use Rattle.std.proofs.Common.{◌≡◌, ◌⊎◌, ◌∙◌, ◌||◌, ◌==◌, ℕ, Bool, true, false, List, [], ◌∷◌, length, map, Option, None, Some, Ok, Err, IfSome, IsSomeAnd, inl, inr, refl, subst, arith}
-use Rattle.std.specs.List.{AllZip, list_any}
+use Rattle.std.specs.List.{list_any}
 use Rattle.decode_session.specs.Run.{most_packets}
 use Rattle.desk_panel_tool.specs.Inputs.{AreNotTurned, AreRefused}
-use Rattle.desk_panel_tool.specs.Panel.{AreOf, IsWanting, Lived, Paneled, StoodAtEach, from, written_to}
+use Rattle.desk_panel_tool.specs.Panel.{AreOf, IsWanting, Paneled, StoodAtEach, from, written_to}
 use Rattle.desk_panel_tool.specs.Stations.{StationView}
 use Rattle.desk_panel_tool.specs.Whole.{AreCalm, AreHeld, AreThere, CompletesPanel, OneIsMissing, RefusesPanel, RunsWhole}
 use Rattle.folder_tables.specs.Refusals.{HasRefusalCause, Refuses, code_of_refusal}

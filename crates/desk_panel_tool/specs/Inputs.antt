@@ -1,5 +1,5 @@
 -- The inputs of a panel: what is said of them where they were opened, and where one was not to be had. [This profile.]
-use Rattle.std.specs.Prelude.{◌≡◌, ◌⊎◌, ℕ, List, [], ◌∷◌, IfSome, ⊤}
+use Rattle.std.specs.Prelude.{◌≡◌, ◌⊎◌, ℕ, List, ◌∷◌, IfSome, ⊤}
 use Rattle.desk_panel_tool.specs.Stations.{AreIdle, StationView}
 use Rattle.folder_tables.specs.Refusals.{HasRefusalCause, Refuses, code_of_refusal}
 use Rattle.folder_tables.specs.declared.folder.Refusal.{Refusal}

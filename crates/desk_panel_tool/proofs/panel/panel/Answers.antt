@@ -16,7 +16,7 @@ returns-in-Ok-clause-panels g c =
     (shelf c.args.tables.now at.tables g.T.Source.holds g.T.Source.left g.T.Source.faults g.T.Source.missed)
     (sink c.args.out.now ran.new.out g.O.Sink.written g.O.Sink.handed g.O.Sink.faults)
     c.args.desks.now at.desks ran.new.desks
-    (c.requires.desks ∙ sym (length-map _ c.args.request.now.desks.items)) c.open_inputs.auto.desks (ran.auto.desks ∙ c.open_inputs.auto.desks)
+    (c.requires.desks ∙ sym (length-map c.args.request.now.desks.items _)) c.open_inputs.auto.desks (ran.auto.desks ∙ c.open_inputs.auto.desks)
     (option_map history_of ran.result.closed) c.in-Ok.ensures.opened ran.ensures.ran
 
 pub returns-in-Err-clause-panels : goal.returns-in-Err-clause-panels
