@@ -1,11 +1,10 @@
 -- A whole run of a panel, by what its intake and its desks did and by the history at its end.
 use Rattle.std.proofs.Common.{◌≡◌, ◌∙◌, ℕ, zero, suc, ◌+◌, ◌<◌, List, [], ◌∷◌, map, length, Option, Result, refl, sym, ap, subst, arith}
-use Rattle.std.specs.List.{AllByRecursion, fold}
+use Rattle.std.specs.List.{AllByRecursion, AllZip, fold}
 use Rattle.decode_session.specs.declared.ending.RunEnd.{RunEnd}
 use Rattle.decode_session.specs.declared.ending.RunFault.{RunFault}
 use Rattle.decode_session.specs.Causes.{HasOutCause}
 use Rattle.edition_register.specs.Panels.{ListFrom}
-use Rattle.edition_register.specs.Seats.{RegisterSeat}
 use Rattle.histories.specs.History.{IsOfSeatsBelow, Permits, StartsWith, moves_of}
 use Rattle.live_desk.specs.declared.desk_end.DeskEnd.{DeskEnd}
 use Rattle.live_desk.specs.declared.desk_end.DeskEnd.TheVariants as end
@@ -25,57 +24,47 @@ use Rattle.panel_session.specs.declared.side.DeskSide.{DeskSide}
 use Rattle.panel_session.specs.Codes.{gravest, with_end}
 use Rattle.panel_session.specs.Lanes.{AllBegin, AllGoOn, Lane, Seen, lanes}
 use Rattle.panel_session.specs.Opened.{IsNewSide}
-use Rattle.panel_session.specs.Panel.{AllKeep, LivesAt, StandInOrder, Station}
+use Rattle.panel_session.specs.Panel.{AllKeep, Keeps, LivesAt, StandInOrder, Station}
 use Rattle.panel_session.proofs.EndFacts.{code-gravest, gravest-same}
 use Rattle.panel_session.proofs.LaneFacts.{AllOwn, AllWhole, EndAs, IsNewLane, all-whole, seen_of}
 use Rattle.turn_cell.specs.Seats.{own_moves}
 
--- ---- lanes of seats, sides and objects
+-- ---- lanes of sides and objects
 
-module _ {P : Type 0} where
-  -- each new
-  pub lanes-new : (first : Database) (seats : List (RegisterSeat P)) (sides : List DeskSide) (seens : List Seen) → AllByRecursion (λ seat. own_moves seat ≡ []) seats → AllByRecursion (IsNewSide first) sides
-      → AllByRecursion (IsNewLane first) (lanes seats sides seens)
-  lanes-new first [] sides seens unmoved new = tt
-  lanes-new first (seat ∷ seats) [] seens unmoved new = tt
-  lanes-new first (seat ∷ seats) (side ∷ sides) [] unmoved new = tt
-  lanes-new first (seat ∷ seats) (side ∷ sides) (seen ∷ seens) unmoved new =
-      (record { new = record { unread = new.0.unread; unused = unmoved.0; begins = new.0.draft }; going = new.0.going }, lanes-new first seats sides seens unmoved.1 new.1)
+-- each new
+lanes-new : (first : Database) (sides : List DeskSide) (seens : List Seen) → AllByRecursion (λ seat. own_moves seat ≡ []) (map (λ side. side.seat) sides) → AllByRecursion (IsNewSide first) sides → AllByRecursion (IsNewLane first) (lanes sides seens)
+lanes-new first [] seens unmoved new = tt
+lanes-new first (side ∷ sides) [] unmoved new = tt
+lanes-new first (side ∷ sides) (seen ∷ seens) unmoved new =
+    (record { new = record { unread = new.0.unread; unused = unmoved.0; begins = new.0.draft }; going = new.0.going }, lanes-new first sides seens unmoved.1 new.1)
 
-  -- with the moves of their seats
-  pub lanes-own : (number : ℕ) (history : RegisterHistory) (seats : List (RegisterSeat P)) (sides : List DeskSide) (seens : List Seen) → ListFrom number history seats → AllOwn number history (lanes seats sides seens)
-  lanes-own number history [] sides seens list = tt
-  lanes-own number history (seat ∷ seats) [] seens list = tt
-  lanes-own number history (seat ∷ seats) (side ∷ sides) [] list = tt
-  lanes-own number history (seat ∷ seats) (side ∷ sides) (seen ∷ seens) list = (list.0, lanes-own (suc number) history seats sides seens list.1.1)
+-- of as many objects
+lanes-seen : (sides : List DeskSide) (seens : List Seen) → length sides ≡ length seens → seen_of (lanes sides seens) ≡ seens
+lanes-seen [] [] same = refl
+lanes-seen (side ∷ sides) (seen ∷ seens) same = ap (λ l. seen ∷ l) (lanes-seen sides seens (omega (arith, same)))
+lanes-seen [] (seen ∷ seens) same = absurd (omega (arith, same))
+lanes-seen (side ∷ sides) [] same = absurd (omega (arith, same))
 
-  -- of as many objects
-  pub lanes-seen : (seats : List (RegisterSeat P)) (sides : List DeskSide) (seens : List Seen) → length seats ≡ length seens → length sides ≡ length seens → seen_of (lanes seats sides seens) ≡ seens
-  lanes-seen [] [] [] same also = refl
-  lanes-seen (seat ∷ seats) (side ∷ sides) (seen ∷ seens) same also = ap (λ l. seen ∷ l) (lanes-seen seats sides seens (omega (arith, same)) (omega (arith, also)))
-  lanes-seen [] sides (seen ∷ seens) same also = absurd (omega (arith, same))
-  lanes-seen (seat ∷ seats) sides [] same also = absurd (omega (arith, same))
-  lanes-seen [] (side ∷ sides) [] same also = absurd (omega (arith, also))
-  lanes-seen (seat ∷ seats) [] (seen ∷ seens) same also = absurd (omega (arith, also))
+-- with the ends of the sides
+lanes-ends : (w : DeskEnd) (sides : List DeskSide) (seens : List Seen) → length sides ≡ length seens
+    → fold (λ worst lane. with_end worst lane.end) w (lanes sides seens) ≡ fold (λ worst side. with_end worst side.end) w sides
+lanes-ends w [] [] same = refl
+lanes-ends w (side ∷ sides) (seen ∷ seens) same = lanes-ends (with_end w side.end) sides seens (omega (arith, same))
+lanes-ends w [] (seen ∷ seens) same = absurd (omega (arith, same))
+lanes-ends w (side ∷ sides) [] same = absurd (omega (arith, same))
 
-  -- and of as many sides
-  pub lanes-ends : (w : DeskEnd) (seats : List (RegisterSeat P)) (sides : List DeskSide) (seens : List Seen) → length seats ≡ length seens → length sides ≡ length seens
-      → fold (λ worst lane. with_end worst lane.end) w (lanes seats sides seens) ≡ fold (λ worst side. with_end worst side.end) w sides
-  lanes-ends w [] [] [] same also = refl
-  lanes-ends w (seat ∷ seats) (side ∷ sides) (seen ∷ seens) same also = lanes-ends (with_end w side.end) seats sides seens (omega (arith, same)) (omega (arith, also))
-  lanes-ends w [] sides (seen ∷ seens) same also = absurd (omega (arith, same))
-  lanes-ends w (seat ∷ seats) sides [] same also = absurd (omega (arith, same))
-  lanes-ends w [] (side ∷ sides) [] same also = absurd (omega (arith, also))
-  lanes-ends w (seat ∷ seats) [] (seen ∷ seens) same also = absurd (omega (arith, also))
+-- as many as sides
+lanes-count : (sides : List DeskSide) (seens : List Seen) → length sides ≡ length seens → length (lanes sides seens) ≡ length sides
+lanes-count [] [] same = refl
+lanes-count (side ∷ sides) (seen ∷ seens) same = ap suc (lanes-count sides seens (omega (arith, same)))
+lanes-count [] (seen ∷ seens) same = absurd (omega (arith, same))
+lanes-count (side ∷ sides) [] same = absurd (omega (arith, same))
 
-  -- as many as seats
-  pub lanes-count : (seats : List (RegisterSeat P)) (sides : List DeskSide) (seens : List Seen) → length seats ≡ length seens → length sides ≡ length seens → length (lanes seats sides seens) ≡ length seats
-  lanes-count [] [] [] same also = refl
-  lanes-count (seat ∷ seats) (side ∷ sides) (seen ∷ seens) same also = ap suc (lanes-count seats sides seens (omega (arith, same)) (omega (arith, also)))
-  lanes-count [] sides (seen ∷ seens) same also = absurd (omega (arith, same))
-  lanes-count (seat ∷ seats) sides [] same also = absurd (omega (arith, same))
-  lanes-count [] (side ∷ sides) [] same also = absurd (omega (arith, also))
-  lanes-count (seat ∷ seats) [] (seen ∷ seens) same also = absurd (omega (arith, also))
+-- with the moves of their seats
+lanes-own : (number : ℕ) (history : RegisterHistory) (sides : List DeskSide) (seens : List Seen) → ListFrom number history (map (λ side. side.seat) sides) → AllOwn number history (lanes sides seens)
+lanes-own number history [] seens list = tt
+lanes-own number history (side ∷ sides) [] list = tt
+lanes-own number history (side ∷ sides) (seen ∷ seens) list = (list.0, lanes-own (suc number) history sides seens list.1.1)
 
 -- ---- plans
 
@@ -113,6 +102,7 @@ module _ {W : Type 0} (stands : W → List Member → Type 0) (watch watched : W
   panel-of c gravest olds news before now out_before out_now l0 l1 w0 w1 is_code before_all all worst below cause i = record {
     stations = all.stations;
     have = all.have;
+    keep = all.keep;
     lives = record {
       is_history = record {
         legal = legal;
@@ -129,11 +119,8 @@ module _ {W : Type 0} (stands : W → List Member → Type 0) (watch watched : W
     };
   }
 
--- what the seats, sides and objects of a whole run were as it was opened, when all desks had begun, and at its end
-pub record Runs3 {P : Type 0} (first : Database) (history : RegisterHistory) : Type 0 where
-  pub seats : List (RegisterSeat P)
-  pub begun_seats : List (RegisterSeat P)
-  pub end_seats : List (RegisterSeat P)
+-- what desks owned and what was seen of their objects as a whole run was opened, when all had begun, and at its end
+pub record Parts (first : Database) (history : RegisterHistory) : Type 0 where
   pub sides : List DeskSide
   pub begun_sides : List DeskSide
   pub end_sides : List DeskSide
@@ -142,39 +129,44 @@ pub record Runs3 {P : Type 0} (first : Database) (history : RegisterHistory) : T
   pub end_seens : List Seen
   pub before : RegisterHistory
   pub now : RegisterHistory
-  pub unmoved : AllByRecursion (λ seat. own_moves seat ≡ []) seats
+  pub unmoved : AllByRecursion (λ seat. own_moves seat ≡ []) (map (λ side. side.seat) sides)
   pub new : AllByRecursion (IsNewSide first) sides
-  pub begin : AllBegin 1 (lanes seats sides seens) (lanes begun_seats begun_sides begun_seens) before now
-  pub go_on : AllGoOn 1 (lanes begun_seats begun_sides begun_seens) (lanes end_seats end_sides end_seens)
-  pub listed : ListFrom 1 history end_seats
+  pub begin : AllBegin 1 (lanes sides seens) (lanes begun_sides begun_seens) before now
+  pub go_on : AllGoOn 1 (lanes begun_sides begun_seens) (lanes end_sides end_seens)
+  pub listed : ListFrom 1 history (map (λ side. side.seat) end_sides)
   pub whole : StartsWith history now
-  pub same : (length seats ≡ length seens) × (length sides ≡ length seens)
-  pub end_same : (length end_seats ≡ length end_seens) × (length end_sides ≡ length end_seens)
+  pub same : length sides ≡ length seens
+  pub end_same : length end_sides ≡ length end_seens
 
-module _ {P : Type 0} (first : Database) (history : RegisterHistory) (r : Runs3 {P} first history) where
-  whole-run : AllWhole 1 first history r.before (lanes r.seats r.sides r.seens) (lanes r.end_seats r.end_sides r.end_seens)
+module _ (first : Database) (history : RegisterHistory) (r : Parts first history) where
+  whole-run : AllWhole 1 first history r.before (lanes r.sides r.seens) (lanes r.end_sides r.end_seens)
   whole-run =
-      all-whole 1 first history r.before r.now (lanes r.seats r.sides r.seens) (lanes r.begun_seats r.begun_sides r.begun_seens) (lanes r.end_seats r.end_sides r.end_seens) r.whole
-      (lanes-new first r.seats r.sides r.seens r.unmoved r.new) r.begin r.go_on (lanes-own 1 history r.end_seats r.end_sides r.end_seens r.listed)
-
-  seen-old : seen_of (lanes r.seats r.sides r.seens) ≡ r.seens
-  seen-old = lanes-seen r.seats r.sides r.seens r.same.0 r.same.1
-
-  seen-new : seen_of (lanes r.end_seats r.end_sides r.end_seens) ≡ r.end_seens
-  seen-new = lanes-seen r.end_seats r.end_sides r.end_seens r.end_same.0 r.end_same.1
-
-  -- what the objects keep
-  pub kept-of : AllKeep r.seens r.end_seens
-  kept-of = subst (λ (l : List Seen). AllKeep l r.end_seens) seen-old (subst (λ (l : List Seen). AllKeep (seen_of (lanes r.seats r.sides r.seens)) l) seen-new whole-run.keep)
+      all-whole 1 first history r.before r.now (lanes r.sides r.seens) (lanes r.begun_sides r.begun_seens) (lanes r.end_sides r.end_seens) r.whole
+      (lanes-new first r.sides r.seens r.unmoved r.new) r.begin r.go_on (lanes-own 1 history r.end_sides r.end_seens r.listed)
 
   module _ {W : Type 0} (stands : W → List Member → Type 0) (watch watched : W) (ended : Result RunEnd RunFault) (own : RegisterHistory) (legal : IsRegisterHistory first history) (permits : Permits MayEnter history) (is : moves_of 0 history ≡ own) where
     -- the run
-    pub lives-of : (c : Code) (before now out_before out_now : ℕ) (l0 l1 w0 w1 : Known) → c ≡ code_by ended (gravest r.end_sides) → IsOfSeatsBelow (length r.end_seats + 1) history
+    pub lives-of : (c : Code) (before now out_before out_now : ℕ) (l0 l1 w0 w1 : Known) → c ≡ code_by ended (gravest r.end_sides) → IsOfSeatsBelow (length r.end_sides + 1) history
         → HasOutCause ended out_before out_now → Runs stands ended (begun first watch w0) own before now l0 l1 watched w1 → LivesAt c first history (object l0 l1 before now) r.seens r.end_seens (object w0 w1 out_before out_now)
     lives-of c before now out_before out_now l0 l1 w0 w1 is_code below cause i =
-        let news = lanes r.end_seats r.end_sides r.end_seens in
-        let many : suc (length whole-run.stations) ≡ length r.end_seats + 1 = omega (arith, ended-count news whole-run.stations whole-run.ended, lanes-count r.end_seats r.end_sides r.end_seens r.end_same.0 r.end_same.1) in
-        subst (λ (l : List Seen). LivesAt c first history (object l0 l1 before now) l r.end_seens (object w0 w1 out_before out_now)) seen-old
-        (subst (λ (l : List Seen). LivesAt c first history (object l0 l1 before now) (seen_of (lanes r.seats r.sides r.seens)) l (object w0 w1 out_before out_now)) seen-new
-        (panel-of stands watch watched ended first history own legal permits is c (gravest r.end_sides) (lanes r.seats r.sides r.seens) news before now out_before out_now l0 l1 w0 w1 is_code r.before whole-run
-        (lanes-ends end.Done r.end_seats r.end_sides r.end_seens r.end_same.0 r.end_same.1) (subst (λ (n : ℕ). IsOfSeatsBelow n history) (sym many) below) cause i))
+        let olds = lanes r.sides r.seens in let news = lanes r.end_sides r.end_seens in
+        let many : length r.end_sides + 1 ≡ suc (length whole-run.stations) = omega (arith, ended-count news whole-run.stations whole-run.ended, lanes-count r.end_sides r.end_seens r.end_same) in
+        subst (λ (l : List Seen). LivesAt c first history (object l0 l1 before now) l r.end_seens (object w0 w1 out_before out_now)) (lanes-seen r.sides r.seens r.same)
+        (subst (λ (l : List Seen). LivesAt c first history (object l0 l1 before now) (seen_of olds) l (object w0 w1 out_before out_now)) (lanes-seen r.end_sides r.end_seens r.end_same)
+        (panel-of stands watch watched ended first history own legal permits is c (gravest r.end_sides) olds news before now out_before out_now l0 l1 w0 w1 is_code r.before whole-run
+        (lanes-ends end.Done r.end_sides r.end_seens r.end_same) (subst (λ (n : ℕ). IsOfSeatsBelow n history) many below) cause i))
+
+-- ---- stations
+
+module _ {S : Type 0} (R : S → S → Type 0) where
+  -- what holds of stations whose objects keep so
+  pub zip-kept : (seen : S → Seen) (xs ys : List S) → ((s t : S) → Keeps (seen s) (seen t) → R s t) → AllKeep (map seen xs) (map seen ys) → AllZip R xs ys
+  zip-kept seen [] [] each keep = tt
+  zip-kept seen (x ∷ xs) (y ∷ ys) each keep = (each x y keep.0, zip-kept seen xs ys each keep.1)
+  zip-kept seen [] (y ∷ ys) each keep = absurd keep
+  zip-kept seen (x ∷ xs) [] each keep = absurd keep
+
+  -- and of those that stay
+  pub zip-same : (xs : List S) → ((s : S) → R s s) → AllZip R xs xs
+  zip-same [] each = tt
+  zip-same (x ∷ xs) each = (each x, zip-same xs each)

@@ -2,7 +2,6 @@
 use Rattle.std.specs.Prelude.{◌≡◌, ℕ, suc, ◌≤◌, ◌*◌, Bool, false, List, [], ◌∷◌, length, Option, Some, None}
 use Rattle.desk_lines.specs.Ahead.{Reading}
 use Rattle.desk_lines.specs.Reader.{read_to}
-use Rattle.edition_register.specs.Seats.{RegisterSeat}
 use Rattle.live_desk.specs.declared.desk_end.DeskEnd.{DeskEnd}
 use Rattle.live_desk.specs.Scripts.{HasDeskCause, HasRepliesCause, Worked, fails_to_reply}
 use Rattle.live_desk.specs.Standing.{Standing}
@@ -40,21 +39,15 @@ standing_in lane = record {
   held = record { state = lane.state; own = lane.own; written = lane.seen.written };
 }
 
-module _ {P : Type 0} where
-  -- of a desk by its seat, by its side, and by its objects
-  abbrev pub lane_of : RegisterSeat P → DeskSide → Seen → Lane
-  lane_of seat side seen = record {
-    end = side.end;
-    read = read_to side.read;
-    state = panel_state side.desk;
-    own = own_moves seat;
-    seen = seen;
-  }
+-- of a desk by what it owns and by its objects
+abbrev pub lane_of : DeskSide → Seen → Lane
+lane_of side seen =
+    record { end = side.end; read = read_to side.read; state = panel_state side.desk; own = own_moves side.seat; seen = seen }
 
-  -- of each desk
-  abbrev pub lanes : List (RegisterSeat P) → List DeskSide → List Seen → List Lane
-  lanes (seat ∷ seats) (side ∷ sides) (seen ∷ others) = lane_of seat side seen ∷ lanes seats sides others
-  lanes seats sides others = []
+-- of each desk
+abbrev pub lanes : List DeskSide → List Seen → List Lane
+lanes (side ∷ sides) (seen ∷ others) = lane_of side seen ∷ lanes sides others
+lanes sides others = []
 
 -- there is room for the moves of the lines that are to come
 abbrev pub HasRoom : Lane → Type 0

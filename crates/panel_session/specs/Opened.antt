@@ -1,5 +1,5 @@
 -- What is known of a run of a panel that was opened. [This profile.]
-use Rattle.std.specs.Prelude.{◌≡◌, ◌≤◌, ℕ, [], length, None}
+use Rattle.std.specs.Prelude.{◌≡◌, ◌≤◌, ℕ, [], length, map, vec_capacity, None}
 use Rattle.std.specs.List.{AllByRecursion}
 use Rattle.desk_lines.specs.Ahead.{reading_start}
 use Rattle.desk_lines.specs.Reader.{read_to}
@@ -28,8 +28,8 @@ pub record IsOpened (desks : ℕ) (run : PanelRun) : Type 0 where
   pub intake : IsSeat 0 run.register run.intake.seat
   pub unused : own_moves run.intake.seat ≡ []
   pub ready : IsReady (first_in run) run.intake.first run.intake.stock
-  pub seats : AreDesksFrom 1 run.register run.seats.items
-  pub unmoved : AllByRecursion (λ seat. own_moves seat ≡ []) run.seats.items
-  pub many : length run.seats.items ≡ desks
-  pub sides : length run.sides.items ≡ desks
+  pub seats : AreDesksFrom 1 run.register (map (λ side. side.seat) run.sides.items)
+  pub unmoved : AllByRecursion (λ seat. own_moves seat ≡ []) (map (λ side. side.seat) run.sides.items)
+  pub many : length run.sides.items ≡ desks
   pub new : AllByRecursion (IsNewSide (first_in run)) run.sides.items
+  pub room : (run.room.items ≡ []) × (desks ≤ vec_capacity run.room)

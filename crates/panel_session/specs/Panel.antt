@@ -70,12 +70,6 @@ HaveObjects (station ∷ stations) (old ∷ olds) (new ∷ news) =
     × (station.replies ≡ object old.written new.written old.reply_faults new.reply_faults) × HaveObjects stations olds news
 HaveObjects stations olds news = ⊥
 
--- a run of a panel of these objects: each desk's script ended somehow
-pub record LivesAt (code : Code) (first : Database) (history : RegisterHistory) (feed : Object) (olds news : List Seen) (out : Object) : Type 0 where
-  pub stations : List Station
-  pub have : HaveObjects stations olds news
-  pub lives : LivesPanel code first history feed stations out
-
 -- the objects of a desk keep their files, and turned to none; replies that didn't fail are handed on where those before were
 pub record Keeps (old new : Seen) : Type 0 where
   pub holds : new.holds ≡ old.holds
@@ -85,3 +79,10 @@ pub record Keeps (old new : Seen) : Type 0 where
 -- so do those of all desks
 abbrev pub AllKeep : List Seen → List Seen → Type 0
 AllKeep olds news = AllZip Keeps olds news
+
+-- a run of a panel of these objects: each desk's script ended somehow, and the objects kept what they keep
+pub record LivesAt (code : Code) (first : Database) (history : RegisterHistory) (feed : Object) (olds news : List Seen) (out : Object) : Type 0 where
+  pub stations : List Station
+  pub have : HaveObjects stations olds news
+  pub lives : LivesPanel code first history feed stations out
+  pub keep : AllKeep olds news

@@ -20,41 +20,39 @@ use turn_cell::Seat;
 fn begin<R: Wait, S: Post>(
     place: &Place<'_, R>,
     intake: &mut Seat<Editions<Edition, Board>>,
-    seat: &mut Seat<Editions<Edition, Board>>,
     side: &mut DeskSide,
     station: &mut S,
 )
     requires intake { IsSeat 0 place.now.register.now intake.old × (own_moves intake.old ≡ []) }
-    requires seat { IsDeskSeat place.now.desk place.now.register.now seat.old × (own_moves seat.old ≡ []) }
+    requires seat { IsDeskSeat place.now.desk place.now.register.now side.old.seat × (own_moves side.old.seat ≡ []) }
     ensures intake { IsSeat 0 place.now.register.now intake.new × (own_moves intake.new ≡ []) }
-    ensures seat { IsDeskSeat place.now.desk place.now.register.now seat.new }
-    ensures begins { BeginsSo place.now.desk (lane_of seat.old side.old (S.seen station.old)) (lane_of seat.new side.new (S.seen station.new))
+    ensures seat { IsDeskSeat place.now.desk place.now.register.now side.new.seat }
+    ensures begins { BeginsSo place.now.desk (lane_of side.old (S.seen station.old)) (lane_of side.new (S.seen station.new))
         (seen_by intake.old) (seen_by intake.new) }
-    ensures room { HasRoom (lane_of seat.new side.new (S.seen station.new)) }
+    ensures room { HasRoom (lane_of side.new (S.seen station.new)) }
 {
-    place.register.meet_desk(intake, seat);
-    station.work(place, seat, side, true);
-    place.register.meet_desk(intake, seat);
+    place.register.meet_desk(intake, &mut side.seat);
+    station.work(place, side, true);
+    place.register.meet_desk(intake, &mut side.seat);
 }
 
 /// Handles the first lines of each desk from that of the place on, in their order.
 pub(crate) fn begin_all<R: Wait, S: Post>(
     place: &Place<'_, R>,
     intake: &mut Seat<Editions<Edition, Board>>,
-    seats: &mut [Seat<Editions<Edition, Board>>],
     sides: &mut [DeskSide],
     stations: &mut [S],
 )
     requires intake { IsSeat 0 place.now.register.now intake.old × (own_moves intake.old ≡ []) }
-    requires desks { AreDesksFrom place.now.desk place.now.register.now seats.old }
-    requires unmoved { AllByRecursion (λ seat. own_moves seat ≡ []) seats.old }
-    requires same { (length sides.old ≡ length seats.old) × (length stations.old ≡ length seats.old) }
-    requires number { place.now.desk + length seats.old ≤ 5 }
+    requires desks { AreDesksFrom place.now.desk place.now.register.now (map (λ side. side.seat) sides.old) }
+    requires unmoved { AllByRecursion (λ seat. own_moves seat ≡ []) (map (λ side. side.seat) sides.old) }
+    requires same { length stations.old ≡ length sides.old }
+    requires number { place.now.desk + length sides.old ≤ 5 }
     ensures intake { IsSeat 0 place.now.register.now intake.new × (own_moves intake.new ≡ []) }
-    ensures desks { AreDesksFrom place.now.desk place.now.register.now seats.new }
-    ensures begin { AllBegin place.now.desk (lanes seats.old sides.old (map S.seen stations.old)) (lanes seats.new sides.new (map S.seen stations.new))
+    ensures desks { AreDesksFrom place.now.desk place.now.register.now (map (λ side. side.seat) sides.new) }
+    ensures begin { AllBegin place.now.desk (lanes sides.old (map S.seen stations.old)) (lanes sides.new (map S.seen stations.new))
         (seen_by intake.old) (seen_by intake.new) }
-    ensures room { AllByRecursion HasRoom (lanes seats.new sides.new (map S.seen stations.new)) }
+    ensures room { AllByRecursion HasRoom (lanes sides.new (map S.seen stations.new)) }
 {
     let next = Place {
         rt: place.rt,
@@ -62,15 +60,12 @@ pub(crate) fn begin_all<R: Wait, S: Post>(
         register: place.register,
         desk: place.desk + 1,
     };
-    let Some((seat, other_seats)) = seats.split_first_mut() else {
-        return;
-    };
     let Some((side, other_sides)) = sides.split_first_mut() else {
-        unreachable!();
+        return;
     };
     let Some((station, other_stations)) = stations.split_first_mut() else {
         unreachable!();
     };
-    begin(place, intake, seat, side, station);
-    begin_all(&next, intake, other_seats, other_sides, other_stations);
+    begin(place, intake, side, station);
+    begin_all(&next, intake, other_sides, other_stations);
 }

@@ -13,13 +13,14 @@ use std::alloc::{AllocError, Global};
 use std::sync::Arc;
 use turn_cell::Seat;
 
-/// A run that was opened: its register, what its intake owns, and its desks with their seats. Nothing was read or entered yet.
+/// A run that was opened: its register, what its intake owns, its desks, and room for their
+/// seats at its end. Nothing was read or entered yet.
 #[derive(Drop)]
 pub(crate) struct PanelRun {
     pub register: Register<Edition, Board>,
     pub intake: IntakeSide<NoWatch>,
-    pub seats: Vec<Seat<Editions<Edition, Board>>>,
     pub sides: Vec<DeskSide>,
+    pub room: Vec<Seat<Editions<Edition, Board>>>,
 }
 
 impl PanelRun {
@@ -37,12 +38,13 @@ impl PanelRun {
     {
         let stock = Stock::new(alloc, first.params(), workers)?;
         let start = at_first(alloc, first)?;
-        let sides = new_sides(alloc, &start.handle, desks)?;
+        let room = Vec::with_capacity(alloc, desks as usize)?;
         let (register, intake, seats) = Register::with_desks(
             alloc,
             Arc::try_clone(&start.handle)?,
             desks,
         )?;
+        let sides = new_sides(alloc, &start.handle, seats)?;
         Ok(PanelRun {
             register,
             intake: IntakeSide {
@@ -52,8 +54,8 @@ impl PanelRun {
                 workers,
                 watch: NoWatch,
             },
-            seats,
             sides,
+            room,
         })
     }
 }

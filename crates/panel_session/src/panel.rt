@@ -4,11 +4,12 @@ ghost use Rattle.std.specs.List.{AllZip};
 ghost use Rattle.edition_register.specs.Seats.{history_of};
 ghost use Rattle.live_session.specs.Live.{EndsAs, StaysHandedOn, object};
 ghost use Rattle.panel_session.specs.Opened.{IsOpened, first_in};
-ghost use Rattle.panel_session.specs.Panel.{AllKeep, LivesAt};
+ghost use Rattle.panel_session.specs.Panel.{LivesAt};
 
 use crate::beginning::begin_all;
 use crate::code::code_of;
 use crate::opening::PanelRun;
+use crate::side::take_seats;
 use crate::station::{Post, Station};
 use crate::work::run_beside;
 use edition::Edition;
@@ -46,15 +47,14 @@ impl PanelRun {
             (object (F.left feed.old) (F.left feed.new) (F.faults feed.old) (F.faults feed.new)) (map S.seen stations.old) (map S.seen stations.new)
             (object (O.written out.old) (O.written out.new) (O.faults out.old) (O.faults out.new)) }
         ensures handed { result.code ≢ Code.OutFault → O.handed out.new ≡ O.written out.new }
-        ensures desks_kept { AllKeep (map S.seen stations.old) (map S.seen stations.new) }
         ensures numbers { EndsAs (first_in self) result.closed }
         ensures feed_kept { (F.holds feed.new ≡ F.holds feed.old) × (F.missed feed.new ≡ F.missed feed.old) }
     {
         let PanelRun {
             register,
             mut intake,
-            mut seats,
             mut sides,
+            room,
         } = self;
         let ended = {
             let place = Place {
@@ -63,22 +63,13 @@ impl PanelRun {
                 register: &register,
                 desk: 1,
             };
-            begin_all(&place, &mut intake.seat, &mut seats, &mut sides, stations);
-            run_beside(
-                &place,
-                gate,
-                &mut intake,
-                feed,
-                out,
-                &mut seats,
-                &mut sides,
-                stations,
-            )
+            begin_all(&place, &mut intake.seat, &mut sides, stations);
+            run_beside(&place, gate, &mut intake, feed, out, &mut sides, stations)
         };
         let IntakeSide { seat, .. } = intake;
         PanelLived {
             code: code_of(ended, &sides),
-            closed: register.close_desks(seat, seats),
+            closed: register.close_desks(seat, take_seats(sides, room)),
         }
     }
 }

@@ -7,13 +7,9 @@ ghost use Rattle.turn_cell.specs.Seats.{seen_by};
 
 use crate::side::DeskSide;
 use desk_lines::DeskReader;
-use edition::Edition;
-use edition_register::Editions;
-use fold_state::Board;
 use live_desk::Place;
 use std::sync::Wait;
 use tm_io::{Sink, Source};
-use turn_cell::Seat;
 
 /// A desk's place at a panel: its script, and where the replies to its lines go.
 #[derive(Drop)]
@@ -28,19 +24,13 @@ pub trait Post {
     ghost seen: { Self → Seen };
 
     /// Handles the lines of the script from where its reading stands, to its end, or up to and with a `go` where that is to be waited for.
-    fn work<R: Wait>(
-        &mut self,
-        place: &Place<'_, R>,
-        seat: &mut Seat<Editions<Edition, Board>>,
-        side: &mut DeskSide,
-        until_go: bool,
-    )
-        requires seat { IsDeskSeat place.now.desk place.now.register.now seat.old }
-        requires room { HasRoom (lane_of seat.old side.old (seen self.old)) }
-        ensures seat { IsDeskSeat place.now.desk place.now.register.now seat.new }
-        ensures goes { Goes place.now.desk until_go (lane_of seat.old side.old (seen self.old)) (lane_of seat.new side.new (seen self.new)) }
-        ensures room { HasRoom (lane_of seat.new side.new (seen self.new)) }
-        ensures behind { StartsWith (seen_by seat.new) (seen_by seat.old) };
+    fn work<R: Wait>(&mut self, place: &Place<'_, R>, side: &mut DeskSide, until_go: bool)
+        requires seat { IsDeskSeat place.now.desk place.now.register.now side.old.seat }
+        requires room { HasRoom (lane_of side.old (seen self.old)) }
+        ensures seat { IsDeskSeat place.now.desk place.now.register.now side.new.seat }
+        ensures goes { Goes place.now.desk until_go (lane_of side.old (seen self.old)) (lane_of side.new (seen self.new)) }
+        ensures room { HasRoom (lane_of side.new (seen self.new)) }
+        ensures behind { StartsWith (seen_by side.new.seat) (seen_by side.old.seat) };
 }
 
 impl<D: Source, P: Sink> Post for Station<D, P> {
@@ -54,17 +44,15 @@ impl<D: Source, P: Sink> Post for Station<D, P> {
       reply_faults = P.faults station.replies;
     } };
 
-    fn work<R: Wait>(
-        &mut self,
-        place: &Place<'_, R>,
-        seat: &mut Seat<Editions<Edition, Board>>,
-        side: &mut DeskSide,
-        until_go: bool,
-    ) {
+    fn work<R: Wait>(&mut self, place: &Place<'_, R>, side: &mut DeskSide, until_go: bool) {
         let mut reader = DeskReader::resume(&mut self.desk, side.read);
-        side.end = side
-            .desk
-            .work(place, seat, &mut reader, &mut self.replies, until_go);
+        side.end = side.desk.work(
+            place,
+            &mut side.seat,
+            &mut reader,
+            &mut self.replies,
+            until_go,
+        );
         side.read = reader.bookmark();
     }
 }

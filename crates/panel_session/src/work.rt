@@ -14,7 +14,7 @@ use crate::side::DeskSide;
 use crate::station::Post;
 use decode_session::{RunEnd, RunFault, Stop};
 use edition::Edition;
-use edition_register::{Editions, Register};
+use edition_register::Register;
 use fold_state::Board;
 use live_desk::Place;
 use live_session::{IntakeSide, run_intake};
@@ -24,7 +24,6 @@ use std::sync::Wait;
 use std::thread;
 use std::thread::Threads;
 use tm_io::{Gate, Sink, Source};
-use turn_cell::Seat;
 
 // Handles the lines of a desk behind its first `go`, where its script has one.
 fn go_on<R: Wait, S: Post>(
@@ -32,14 +31,13 @@ fn go_on<R: Wait, S: Post>(
     alloc: Global,
     register: &Register<Edition, Board>,
     desk: u8,
-    seat: &mut Seat<Editions<Edition, Board>>,
     side: &mut DeskSide,
     station: &mut S,
 )
-    requires seat { IsDeskSeat desk register.now seat.old }
-    requires room { HasRoom (lane_of seat.old side.old (S.seen station.old)) }
-    ensures seat { IsDeskSeat desk register.now seat.new }
-    ensures goes { GoesOn desk (lane_of seat.old side.old (S.seen station.old)) (lane_of seat.new side.new (S.seen station.new)) }
+    requires seat { IsDeskSeat desk register.now side.old.seat }
+    requires room { HasRoom (lane_of side.old (S.seen station.old)) }
+    ensures seat { IsDeskSeat desk register.now side.new.seat }
+    ensures goes { GoesOn desk (lane_of side.old (S.seen station.old)) (lane_of side.new (S.seen station.new)) }
 {
     if side.end.is_none() {
         let place = Place {
@@ -48,7 +46,7 @@ fn go_on<R: Wait, S: Post>(
             register,
             desk,
         };
-        station.work(&place, seat, side, false);
+        station.work(&place, side, false);
     }
 }
 
@@ -58,39 +56,35 @@ fn all_go_on<R: Threads + Wait + Sync, S: Post + Send>(
     alloc: Global,
     register: &Register<Edition, Board>,
     desk: u8,
-    seats: &mut [Seat<Editions<Edition, Board>>],
     sides: &mut [DeskSide],
     stations: &mut [S],
 )
-    requires desks { AreDesksFrom desk register.now seats.old }
-    requires room { AllByRecursion HasRoom (lanes seats.old sides.old (map S.seen stations.old)) }
-    requires same { (length sides.old ≡ length seats.old) × (length stations.old ≡ length seats.old) }
-    requires number { desk + length seats.old ≤ 5 }
-    ensures desks { AreDesksFrom desk register.now seats.new }
-    ensures go_on { AllGoOn desk (lanes seats.old sides.old (map S.seen stations.old)) (lanes seats.new sides.new (map S.seen stations.new)) }
+    requires desks { AreDesksFrom desk register.now (map (λ side. side.seat) sides.old) }
+    requires room { AllByRecursion HasRoom (lanes sides.old (map S.seen stations.old)) }
+    requires same { length stations.old ≡ length sides.old }
+    requires number { desk + length sides.old ≤ 5 }
+    ensures desks { AreDesksFrom desk register.now (map (λ side. side.seat) sides.new) }
+    ensures go_on { AllGoOn desk (lanes sides.old (map S.seen stations.old)) (lanes sides.new (map S.seen stations.new)) }
 {
-    let Some((seat, other_seats)) = seats.split_first_mut() else {
-        return;
-    };
     let Some((side, other_sides)) = sides.split_first_mut() else {
-        unreachable!();
+        return;
     };
     let Some((station, other_stations)) = stations.split_first_mut() else {
         unreachable!();
     };
     thread::join_mut(
         rt,
-        &mut || go_on(rt, alloc, register, desk, seat, side, station),
+        &mut || go_on(rt, alloc, register, desk, side, station),
         &mut ||
             requires sync { IsSync R.row }
-            requires desks { AreDesksFrom (desk + 1) register.now other_seats.now }
-            requires room { AllByRecursion HasRoom (lanes other_seats.now other_sides.now (map S.seen other_stations.now)) }
-            requires same { (length other_sides.now ≡ length other_seats.now) × (length other_stations.now ≡ length other_seats.now) }
-            requires number { desk + 1 + length other_seats.now ≤ 5 }
-            ensures desks { AreDesksFrom (desk + 1) register.entry.now other_seats.exit.now }
-            ensures go_on { AllGoOn (desk + 1) (lanes other_seats.entry.now other_sides.entry.now (map S.seen other_stations.entry.now))
-                (lanes other_seats.exit.now other_sides.exit.now (map S.seen other_stations.exit.now)) }
-        { all_go_on(rt, alloc, register, desk + 1, other_seats, other_sides, other_stations) },
+            requires desks { AreDesksFrom (desk + 1) register.now (map (λ side. side.seat) other_sides.now) }
+            requires room { AllByRecursion HasRoom (lanes other_sides.now (map S.seen other_stations.now)) }
+            requires same { length other_stations.now ≡ length other_sides.now }
+            requires number { desk + 1 + length other_sides.now ≤ 5 }
+            ensures desks { AreDesksFrom (desk + 1) register.entry.now (map (λ side. side.seat) other_sides.exit.now) }
+            ensures go_on { AllGoOn (desk + 1) (lanes other_sides.entry.now (map S.seen other_stations.entry.now))
+                (lanes other_sides.exit.now (map S.seen other_stations.exit.now)) }
+        { all_go_on(rt, alloc, register, desk + 1, other_sides, other_stations) },
     );
 }
 
@@ -108,32 +102,40 @@ pub(crate) fn run_beside<
     intake: &mut IntakeSide<W>,
     feed: &mut F,
     out: &mut O,
-    seats: &mut [Seat<Editions<Edition, Board>>],
     sides: &mut [DeskSide],
     stations: &mut [S],
 ) -> Result<RunEnd, RunFault>
     requires intake { IsSeat 0 place.now.register.now intake.old.seat × (own_moves intake.old.seat ≡ []) }
     requires ready { IsReady (first_of place.now.register.now) intake.old.first intake.old.stock }
-    requires desks { AreDesksFrom place.now.desk place.now.register.now seats.old × (place.now.desk + length seats.old ≤ 5) }
-    requires room { AllByRecursion HasRoom (lanes seats.old sides.old (map S.seen stations.old)) }
-    requires same { (length sides.old ≡ length seats.old) × (length stations.old ≡ length seats.old) }
+    requires desks { AreDesksFrom place.now.desk place.now.register.now (map (λ side. side.seat) sides.old) × (place.now.desk + length sides.old ≤ 5) }
+    requires room { AllByRecursion HasRoom (lanes sides.old (map S.seen stations.old)) }
+    requires same { length stations.old ≡ length sides.old }
     ensures intake { IsSeat 0 place.now.register.now intake.new.seat × StartsWith (seen_by intake.new.seat) (seen_by intake.old.seat) }
     ensures intakes { Intakes W.stands result (first_of place.now.register.now) (own_moves intake.new.seat) (F.faults feed.old) (F.faults feed.new)
         (F.left feed.old) (F.left feed.new) (O.written out.old) (O.written out.new) intake.old.watch intake.new.watch }
     ensures out { HasOutCause result (O.faults out.old) (O.faults out.new) }
     ensures handed { result ≢ Err (RunFault.Print Stop.Out) → O.handed out.new ≡ O.written out.new }
     ensures kept { (F.holds feed.new ≡ F.holds feed.old) × (F.missed feed.new ≡ F.missed feed.old) }
-    ensures desks { AreDesksFrom place.now.desk place.now.register.now seats.new }
-    ensures go_on { AllGoOn place.now.desk (lanes seats.old sides.old (map S.seen stations.old)) (lanes seats.new sides.new (map S.seen stations.new)) }
+    ensures desks { AreDesksFrom place.now.desk place.now.register.now (map (λ side. side.seat) sides.new) }
+    ensures go_on { AllGoOn place.now.desk (lanes sides.old (map S.seen stations.old)) (lanes sides.new (map S.seen stations.new)) }
 {
     let (_, ended) = thread::join_mut(
         place.rt,
         &mut ||
-            requires desks { AreDesksFrom place.now.desk place.now.register.now seats.now }
-            requires room { AllByRecursion HasRoom (lanes seats.now sides.now (map S.seen stations.now)) }
-            requires same { (length sides.now ≡ length seats.now) × (length stations.now ≡ length seats.now) }
-            requires number { place.now.desk + length seats.now ≤ 5 }
-        { all_go_on(place.rt, place.alloc, place.register, place.desk, seats, sides, stations) },
+            requires desks { AreDesksFrom place.now.desk place.now.register.now (map (λ side. side.seat) sides.now) }
+            requires room { AllByRecursion HasRoom (lanes sides.now (map S.seen stations.now)) }
+            requires same { length stations.now ≡ length sides.now }
+            requires number { place.now.desk + length sides.now ≤ 5 }
+        {
+            all_go_on(
+                place.rt,
+                place.alloc,
+                place.register,
+                place.desk,
+                sides,
+                stations,
+            )
+        },
         &mut || -> Result<RunEnd, RunFault>
             requires seat { IsSeat 0 place.now.register.now intake.now.seat }
             requires unused { own_moves intake.now.seat ≡ [] }
