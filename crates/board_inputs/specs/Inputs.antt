@@ -1,5 +1,5 @@
 -- The inputs of a board: what is said of them where they were opened, and where one was not to be had. [This profile.]
-use Rattle.std.specs.Prelude.{◌≡◌, ◌⊎◌, ℕ, List, None, Ok, IfSome, IsSomeAnd}
+use Rattle.std.specs.Prelude.{◌≡◌, ◌⊎◌, ℕ, List, None, IfSome, IsSomeAnd}
 use Rattle.folder_tables.specs.Refusals.{HasRefusalCause, Refuses}
 use Rattle.folder_tables.specs.declared.folder.Refusal.{Refusal}
 use Rattle.folder_tables.specs.declared.folder.Refusal.TheVariants as refusal
@@ -9,8 +9,9 @@ use Rattle.page_texts.specs.declared.code.BoardCode.{BoardCode}
 use Rattle.page_texts.specs.declared.code.BoardCode.TheVariants as code
 use Rattle.page_texts.specs.declared.code.BoardInput.TheVariants as input
 use Rattle.tool_objects.specs.Objects.{ShelfView, HasStood, IsUncalled}
+use Rattle.tool_objects.specs.Opened.{AreSound, IsTurned}
 use Rattle.tool_objects.specs.Sources.{sound_in}
-use Rattle.tool_objects.specs.Told.{HasMissed, HasTurned, OfFile, StoodAt}
+use Rattle.tool_objects.specs.Told.{HasMissed, OfFile}
 use Rattle.tool_words.specs.Boards.{BoardWords}
 
 -- the end of a board whose tables are refused so
@@ -35,12 +36,6 @@ Undesked other name desk = ⊥
 abbrev pub Unpaged : {P : Type 0} → BoardCode → List ℕ → ShelfView P → Type 0
 Unpaged c name page = HasPageCause c (page.faults page.before) (page.faults page.now) × OfFile page name (RefusesFile c)
 
--- a shelf was turned to the file of that name, which is held where the shelf tells that
-pub record IsTurned {S : Type 0} (name : List ℕ) (s : ShelfView S) : Type 0 where
-  pub stood : HasStood s
-  pub turned : HasTurned s
-  pub held : StoodAt s name (s.left s.now)
-
 -- the file of that name has these names, which is held where the shelf tells that
 pub record IsPaged {P : Type 0} (names : List (List ℕ)) (name : List ℕ) (page : ShelfView P) : Type 0 where
   pub stood : HasStood page
@@ -64,11 +59,6 @@ pub record AreUnread {T : Type 0} (c : BoardCode) (folder : List ℕ) (tables : 
   pub is_code : c ≡ code_of_refusal refusal
   pub cause : HasRefusalCause refusal (tables.faults tables.before) (tables.faults tables.now)
   pub refused : IfSome (tables.holds tables.before) (λ files. Refuses refusal (sound_in files folder))
-
--- sound tables were had, those of the folder where they are told
-pub record AreSound {T : Type 0} (db : Database) (folder : List ℕ) (tables : ShelfView T) : Type 0 where
-  pub stood : HasStood tables
-  pub of_tables : IfSome (tables.holds tables.before) (λ files. sound_in files folder ≡ Ok db)
 
 -- all inputs were opened: sound tables, feed and desk at the start of their files, and the names of the page
 pub record AreOpened {T F D P : Type 0} (db : Database) (names : List (List ℕ)) (w : BoardWords) (tables : ShelfView T) (feed : ShelfView F)

@@ -1,14 +1,16 @@
 -- Where nothing fails, a panel runs whole, and an input that isn't accepted or isn't there is refused.
-use Rattle.std.proofs.Common.{◌≡◌, ◌⊎◌, ◌∙◌, ◌||◌, ◌==◌, ℕ, Bool, true, false, List, [], ◌∷◌, length, map, Option, None, Some, Ok, Err, IfSome, IsSomeAnd, inl, inr, refl, subst, arith}
-use Rattle.std.specs.List.{list_any}
+use Rattle.std.proofs.Common.{◌≡◌, ◌⊎◌, ◌∙◌, ◌||◌, ◌==◌, ◌<◌, ℕ, Bool, true, false, cond, not, List, [], ◌∷◌, length, map, Option, None, Some, Ok, Err, IfSome, IsSomeAnd, inl, inr, refl, sym, ap, subst, arith}
+use Rattle.std.specs.Prelude.{suc, ⊤}
+use Rattle.std.specs.List.{AllByRecursion, list_any}
 use Rattle.decode_session.specs.Run.{most_packets}
 use Rattle.desk_panel_tool.specs.Inputs.{AreNotTurned, AreRefused}
-use Rattle.desk_panel_tool.specs.Panel.{AreOf, IsWanting, Paneled, StoodAtEach, from, written_to}
+use Rattle.desk_panel_tool.specs.Panel.{AreOf, IsWanting, Paneled, Ran, StoodAtEach, from, written_to}
 use Rattle.desk_panel_tool.specs.Stations.{StationView}
-use Rattle.desk_panel_tool.specs.Whole.{AreCalm, AreHeld, AreThere, CompletesPanel, OneIsMissing, RefusesPanel, RunsWhole}
+use Rattle.desk_panel_tool.specs.Whole.{AreCalm, AreHeld, AreThere, CompletesPanel, OneIsMissing, RefusesPanel, RunsWhole, SomeStation, TellsFaults}
 use Rattle.folder_tables.specs.Refusals.{HasRefusalCause, Refuses, code_of_refusal}
 use Rattle.folder_tables.specs.declared.folder.Refusal.{Refusal}
 use Rattle.folder_tables.specs.declared.folder.Refusal.TheVariants as refusal
+use Rattle.live_desk.specs.declared.desk_end.DeskEnd.{DeskEnd}
 use Rattle.live_desk.specs.DeskEnds.{is_desk_fault, is_reply_fault}
 use Rattle.mib_model.specs.declared.code.Code.{Code}
 use Rattle.mib_model.specs.declared.code.Code.TheVariants as code
@@ -20,25 +22,12 @@ use Rattle.mib_model.specs.RegisterHistories.{RegisterHistory}
 use Rattle.panel_session.specs.Panel.{LivesPanel, StandInOrder, Station, panel_ending}
 use Rattle.session.specs.Sources.{Files}
 use Rattle.tm_io.specs.Causes.{HasRisen, RisesWhere}
+use Rattle.tool_objects.proofs.CalmFacts.{not-failed, of-file, stood}
 use Rattle.tool_objects.specs.Calm.{HoldsCalm, IsCalm, IsCalmSink}
 use Rattle.tool_objects.specs.Objects.{ShelfView, SinkView}
 use Rattle.tool_objects.specs.Opened.{IsUnturned}
 use Rattle.tool_objects.specs.Sources.{sound_in}
-use Rattle.tool_objects.specs.Told.{OfFile}
 use Rattle.tool_words.specs.Panels.{PanelWords}
-
--- a count that stays as it was, below its end, didn't rise
-not-failed : (before now : ℕ) → IsCalm before now → HasRisen before now → ⊥
-not-failed before now calm failed = omega (arith, calm.same, calm.more, failed.1)
-
--- an object whose count didn't rise didn't fail
-stood : (failed : Bool) (before now : ℕ) → IsCalm before now → RisesWhere failed before now → failed ≡ false
-stood false before now calm counts = refl
-stood true before now calm counts = absurd (not-failed before now calm counts)
-
--- what is said of a file of a shelf is said of it
-of-file : {S : Type 0} (s : ShelfView S) (files : Files) (name : List ℕ) (found : Option (List ℕ)) → HoldsCalm s files → files name ≡ found → (P : Option (List ℕ) → Type 0) → OfFile s name P → P found
-of-file s files name found calm is P said = subst P is (subst (λ (x : Option Files). IfSome x (λ f. P (f name))) calm.holds said)
 
 -- a shelf that holds a file and doesn't fail is turned to it
 turned : {S : Type 0} (missing fault c : Code) (name octets : List ℕ) (s : ShelfView S) (files : Files) → HoldsCalm s files → files name ≡ Some octets → IsUnturned missing fault c name s → ⊥
@@ -79,34 +68,81 @@ scripts-of (name ∷ names) (script ∷ scripts) (s ∷ stations) (files ∷ des
 
 -- ---- a run that nothing hinders
 
--- a list of which none is so
+-- an object whose count rose failed
+failed : (flag : Bool) (before now : ℕ) → RisesWhere flag before now → before < now → flag ≡ true
+failed true before now counts rose = refl
+failed false before now counts rose = absurd (omega (arith, counts, rose))
+
+-- of none of the first, and of none of the others
 none-more : (one others : Bool) → one ≡ false → others ≡ false → one || others ≡ false
 none-more one others first rest = rw (first, rest) refl
 
-module _ {D R : Type 0} where
-  -- no desk failed
-  no-desk-fault : (number : ℕ) (db : Database) (history before : RegisterHistory) (desks : List Station) (lines : List (Option (List ℕ))) (stations : List (StationView D R)) (files : List Files)
-      → StandInOrder number db history before desks → AreOf desks lines stations → AreCalm stations files → list_any (λ desk. is_desk_fault desk.end) desks ≡ false
-  no-desk-fault number db history before [] lines stations files stand are calm = refl
-  no-desk-fault number db history before (d ∷ desks) [] stations files stand are calm = absurd are
-  no-desk-fault number db history before (d ∷ desks) (l ∷ lines) [] files stand are calm = absurd are
-  no-desk-fault number db history before (d ∷ desks) (l ∷ lines) (s ∷ stations) [] stand are calm = absurd calm
-  no-desk-fault number db history before (d ∷ desks) (l ∷ lines) (s ∷ stations) (f ∷ files) (one, stand) (script, replies, are) (first, calm) =
-      none-more (is_desk_fault d.end) (list_any (λ desk. is_desk_fault desk.end) desks)
-      (stood (is_desk_fault d.end) _ _ first.0.calm (subst (λ o. RisesWhere (is_desk_fault d.end) o.before o.now) script one.desk_count))
-      (no-desk-fault _ db history _ desks lines stations files stand are calm)
+-- of one of the others
+one-more : (one others : Bool) → others ≡ true → one || others ≡ true
+one-more true others rest = refl
+one-more false others rest = rest
 
-  -- no replies failed
-  no-reply-fault : (number : ℕ) (db : Database) (history before : RegisterHistory) (desks : List Station) (lines : List (Option (List ℕ))) (stations : List (StationView D R)) (files : List Files)
-      → StandInOrder number db history before desks → AreOf desks lines stations → AreCalm stations files → list_any (λ desk. is_reply_fault desk.end) desks ≡ false
-  no-reply-fault number db history before [] lines stations files stand are calm = refl
-  no-reply-fault number db history before (d ∷ desks) [] stations files stand are calm = absurd are
-  no-reply-fault number db history before (d ∷ desks) (l ∷ lines) [] files stand are calm = absurd are
-  no-reply-fault number db history before (d ∷ desks) (l ∷ lines) (s ∷ stations) [] stand are calm = absurd calm
-  no-reply-fault number db history before (d ∷ desks) (l ∷ lines) (s ∷ stations) (f ∷ files) (one, stand) (script, replies, are) (first, calm) =
-      none-more (is_reply_fault d.end) (list_any (λ desk. is_reply_fault desk.end) desks)
-      (stood (is_reply_fault d.end) _ _ first.1 (subst (λ o. RisesWhere (is_reply_fault d.end) o.before o.now) replies one.replies_count))
-      (no-reply-fault _ db history _ desks lines stations files stand are calm)
+module _ {D R : Type 0} (flag : DeskEnd → Bool) (before now : StationView D R → ℕ) where
+  -- such a count of each station rose just where its desk's end has the flag
+  abbrev AreCounted : List Station → List (StationView D R) → Type 0
+  AreCounted [] [] = ⊤
+  AreCounted (d ∷ desks) (s ∷ stations) = RisesWhere (flag d.end) (before s) (now s) × AreCounted desks stations
+  AreCounted desks stations = ⊥
+
+  none-failed : (desks : List Station) (stations : List (StationView D R)) → AreCounted desks stations → AllByRecursion (λ s. IsCalm (before s) (now s)) stations → list_any (λ d. flag d.end) desks ≡ false
+  none-failed [] stations counted calm = refl
+  none-failed (d ∷ desks) [] counted calm = absurd counted
+  none-failed (d ∷ desks) (s ∷ stations) (one, counted) (first, calm) =
+      none-more (flag d.end) (list_any (λ d. flag d.end) desks) (stood (flag d.end) (before s) (now s) first one) (none-failed desks stations counted calm)
+
+  some-failed : (desks : List Station) (stations : List (StationView D R)) → AreCounted desks stations → SomeStation (λ s. before s < now s) stations → list_any (λ d. flag d.end) desks ≡ true
+  some-failed [] [] counted some = absurd some
+  some-failed [] (s ∷ stations) counted some = absurd counted
+  some-failed (d ∷ desks) [] counted some = absurd some
+  some-failed (d ∷ desks) (s ∷ stations) (one, counted) (inl rose) = rw (failed (flag d.end) (before s) (now s) one rose) refl
+  some-failed (d ∷ desks) (s ∷ stations) (one, counted) (inr some) = one-more (flag d.end) (list_any (λ d. flag d.end) desks) (some-failed desks stations counted some)
+
+  failed-some : (desks : List Station) (stations : List (StationView D R)) → AreCounted desks stations → list_any (λ d. flag d.end) desks ≡ true → SomeStation (λ s. HasRisen (before s) (now s)) stations
+  failed-some [] stations counted some = absurd (let bad : false ≡ true = some in cc bad)
+  failed-some (d ∷ desks) [] counted some = absurd counted
+  failed-some (d ∷ desks) (s ∷ stations) (one, counted) some = by (flag d.end) one some (failed-some desks stations counted)
+    where
+      by : (b : Bool) → RisesWhere b (before s) (now s) → b || list_any (λ d. flag d.end) desks ≡ true
+          → (list_any (λ d. flag d.end) desks ≡ true → SomeStation (λ s. HasRisen (before s) (now s)) stations) → SomeStation (λ s. HasRisen (before s) (now s)) (s ∷ stations)
+      by true rose some others = inl rose
+      by false same some others = inr (others some)
+
+module _ {D R : Type 0} (db : Database) (history : RegisterHistory) where
+  desk-counts : (number : ℕ) (before : RegisterHistory) (desks : List Station) (lines : List (Option (List ℕ))) (stations : List (StationView D R)) → StandInOrder number db history before desks
+      → AreOf desks lines stations → AreCounted (λ e. is_desk_fault e) (λ s. s.desk.faults s.desk.before) (λ s. s.desk.faults s.desk.now) desks stations
+  desk-counts number before [] [] [] stand are = tt
+  desk-counts number before [] (l ∷ lines) stations stand are = absurd are
+  desk-counts number before [] [] (s ∷ stations) stand are = absurd are
+  desk-counts number before (d ∷ desks) [] stations stand are = absurd are
+  desk-counts number before (d ∷ desks) (l ∷ lines) [] stand are = absurd are
+  desk-counts number before (d ∷ desks) (l ∷ lines) (s ∷ stations) (one, stand) (script, replies, are) =
+      (subst (λ o. RisesWhere (is_desk_fault d.end) o.before o.now) script one.desk_count, desk-counts (suc number) _ desks lines stations stand are)
+
+  reply-counts : (number : ℕ) (before : RegisterHistory) (desks : List Station) (lines : List (Option (List ℕ))) (stations : List (StationView D R)) → StandInOrder number db history before desks
+      → AreOf desks lines stations → AreCounted (λ e. is_reply_fault e) (λ s. s.replies.faults s.replies.before) (λ s. s.replies.faults s.replies.now) desks stations
+  reply-counts number before [] [] [] stand are = tt
+  reply-counts number before [] (l ∷ lines) stations stand are = absurd are
+  reply-counts number before [] [] (s ∷ stations) stand are = absurd are
+  reply-counts number before (d ∷ desks) [] stations stand are = absurd are
+  reply-counts number before (d ∷ desks) (l ∷ lines) [] stand are = absurd are
+  reply-counts number before (d ∷ desks) (l ∷ lines) (s ∷ stations) (one, stand) (script, replies, are) =
+      (subst (λ o. RisesWhere (is_reply_fault d.end) o.before o.now) replies one.replies_count, reply-counts (suc number) _ desks lines stations stand are)
+
+-- stations that didn't fail have scripts and replies that didn't
+calm-desks : {D R : Type 0} (stations : List (StationView D R)) (files : List Files) → AreCalm stations files → AllByRecursion (λ s. IsCalm (s.desk.faults s.desk.before) (s.desk.faults s.desk.now)) stations
+calm-desks [] files calm = tt
+calm-desks (s ∷ stations) [] calm = absurd calm
+calm-desks (s ∷ stations) (f ∷ files) (one, calm) = (one.0.calm, calm-desks stations files calm)
+
+calm-replies : {D R : Type 0} (stations : List (StationView D R)) (files : List Files) → AreCalm stations files → AllByRecursion (λ s. IsCalmSink s.replies) stations
+calm-replies [] files calm = tt
+calm-replies (s ∷ stations) [] calm = absurd calm
+calm-replies (s ∷ stations) (f ∷ files) (one, calm) = (one.1, calm-replies stations files calm)
 
 code-whole : (out_failed feed_failed : Bool) (desks : List Station) (rest : List ℕ) (packets : List (List ℕ)) → out_failed ≡ false → feed_failed ≡ false
     → list_any (λ desk. is_desk_fault desk.end) desks ≡ false → list_any (λ desk. is_reply_fault desk.end) desks ≡ false
@@ -123,8 +159,9 @@ module _ {F D R O : Type 0} (feed : ShelfView F) (stations : List (StationView D
       let p = lives.prints in
       let prints : p.out_failed ≡ false = stood p.out_failed _ _ calm_out p.out_count in
       let reads : p.feed_failed ≡ false = stood p.feed_failed _ _ calm_feed p.feed_count in
-      let asks = no-desk-fault 1 db history [] desks (map (λ script. Some script) scripts) stations files lives.stand are calm in
-      let answers = no-reply-fault 1 db history [] desks (map (λ script. Some script) scripts) stations files lives.stand are calm in
+      let lines = map (λ script. Some script) scripts in
+      let asks = none-failed (λ e. is_desk_fault e) _ _ desks stations (desk-counts db history 1 [] desks lines stations lives.stand are) (calm-desks stations files calm) in
+      let answers = none-failed (λ e. is_reply_fault e) _ _ desks stations (reply-counts db history 1 [] desks lines stations lives.stand are) (calm-replies stations files calm) in
       record {
         desks = desks;
         are_of = are;
@@ -245,3 +282,114 @@ module _ {T F D R O : Type 0} (w : PanelWords) (files : Files) (tables : ShelfVi
       no-desk c None octets desks is calm missing (inl (inr (d, accepted, inr (fed, undesked))), unwritten, unreplied) = (refl, inl (first-missing c w.desks stations desks calm missing undesked))
       no-desk c None octets desks is calm missing (inr wanting, unwritten, unreplied) = (refl, inr wanting.0)
       no-desk c (Some history) octets desks is calm missing said = absurd (missing-stood w.desks stations desks said.lines calm missing said.of_desks)
+
+-- ---- faults that are told
+
+-- which fault a code is, and 0 where it is none
+abbrev fault-of : Code → ℕ
+fault-of code.OutFault = 1
+fault-of code.ReplyFault = 2
+fault-of code.FeedFault = 3
+fault-of code.DeskFault = 4
+fault-of other = 0
+
+-- the first that happened
+abbrev first-of : Bool → Bool → Bool → Bool → ℕ
+first-of true r f d = 1
+first-of false true f d = 2
+first-of false false true d = 3
+first-of false false false true = 4
+first-of false false false false = 0
+
+rest-none : (zero is_limit : Bool) (rest : ℕ) → fault-of (cond (not zero) (code.Cut rest) (cond is_limit code.Limit code.Ok)) ≡ 0
+rest-none true true rest = refl
+rest-none true false rest = refl
+rest-none false is_limit rest = refl
+
+fault-is : (o r f d is_limit : Bool) (rest : ℕ)
+    → fault-of (code_of_ending (record { out_failed = o; replies_failed = r; feed_failed = f; desk_failed = d; rest = rest; is_limit = is_limit })) ≡ first-of o r f d
+unfolding code_of_ending
+fault-is true r f d is_limit rest = refl
+fault-is false true f d is_limit rest = refl
+fault-is false false true d is_limit rest = refl
+fault-is false false false true is_limit rest = refl
+fault-is false false false false is_limit rest = rest-none (rest == 0) is_limit rest
+
+is-first : (o r f d : Bool) → first-of o r f d ≡ 1 → o ≡ true
+is-first true r f d is = refl
+is-first false true f d is = absurd (omega (arith, is))
+is-first false false true d is = absurd (omega (arith, is))
+is-first false false false true is = absurd (omega (arith, is))
+is-first false false false false is = absurd (omega (arith, is))
+
+is-second : (o r f d : Bool) → first-of o r f d ≡ 2 → r ≡ true
+is-second true r f d is = absurd (omega (arith, is))
+is-second false true f d is = refl
+is-second false false true d is = absurd (omega (arith, is))
+is-second false false false true is = absurd (omega (arith, is))
+is-second false false false false is = absurd (omega (arith, is))
+
+is-third : (o r f d : Bool) → first-of o r f d ≡ 3 → f ≡ true
+is-third true r f d is = absurd (omega (arith, is))
+is-third false true f d is = absurd (omega (arith, is))
+is-third false false true d is = refl
+is-third false false false true is = absurd (omega (arith, is))
+is-third false false false false is = absurd (omega (arith, is))
+
+is-fourth : (o r f d : Bool) → first-of o r f d ≡ 4 → d ≡ true
+is-fourth true r f d is = absurd (omega (arith, is))
+is-fourth false true f d is = absurd (omega (arith, is))
+is-fourth false false true d is = absurd (omega (arith, is))
+is-fourth false false false true is = refl
+is-fourth false false false false is = absurd (omega (arith, is))
+
+-- the code of the first fault that happened
+abbrev code-first : (o r f d is_limit : Bool) (rest : ℕ) → Code
+code-first o r f d is_limit rest = code_of_ending (record { out_failed = o; replies_failed = r; feed_failed = f; desk_failed = d; rest = rest; is_limit = is_limit })
+
+out-first : (o r f d is_limit : Bool) (rest : ℕ) → o ≡ true → code-first o r f d is_limit rest ≡ code.OutFault
+unfolding code_of_ending
+out-first o r f d is_limit rest is = rw is refl
+
+reply-first : (o r f d is_limit : Bool) (rest : ℕ) → o ≡ false → r ≡ true → code-first o r f d is_limit rest ≡ code.ReplyFault
+unfolding code_of_ending
+reply-first o r f d is_limit rest none is = rw (none, is) refl
+
+feed-first : (o r f d is_limit : Bool) (rest : ℕ) → o ≡ false → r ≡ false → f ≡ true → code-first o r f d is_limit rest ≡ code.FeedFault
+unfolding code_of_ending
+feed-first o r f d is_limit rest none fine is = rw (none, fine, is) refl
+
+desk-first : (o r f d is_limit : Bool) (rest : ℕ) → o ≡ false → r ≡ false → f ≡ false → d ≡ true → code-first o r f d is_limit rest ≡ code.DeskFault
+unfolding code_of_ending
+desk-first o r f d is_limit rest none fine read is = rw (none, fine, read, is) refl
+
+rises : (failed : Bool) (before now : ℕ) → RisesWhere failed before now → failed ≡ true → HasRisen before now
+rises true before now counts is = counts
+rises false before now counts is = absurd (let bad : false ≡ true = is in cc bad)
+
+module _ {F D R O : Type 0} (c : Code) (history : RegisterHistory) (first : Database) (octets : Option (List ℕ)) (lines : List (Option (List ℕ)))
+    (feed : ShelfView F) (stations : List (StationView D R)) (out : SinkView O) (ran : Ran c history first octets lines feed stations out) where
+  -- what a run tells of faults
+  pub tells : TellsFaults c feed stations out
+  tells =
+      let p = ran.lives.prints in let o = p.out_failed in let f = p.feed_failed in
+      let r = list_any (λ desk. is_reply_fault desk.end) ran.desks in let d = list_any (λ desk. is_desk_fault desk.end) ran.desks in
+      let l = length p.packets == most_packets in let n = length p.rest in
+      let replied = reply-counts first history 1 [] ran.desks lines stations ran.lives.stand ran.are_of in
+      let asked = desk-counts first history 1 [] ran.desks lines stations ran.lives.stand ran.are_of in
+      let is : c ≡ code-first o r f d l n = ran.lives.is_code in
+      let told : fault-of c ≡ first-of o r f d = ap fault-of is ∙ fault-is o r f d l n in
+      let no_out : IsCalmSink out → o ≡ false = (λ calm. stood o _ _ calm p.out_count) in
+      let no_reply : AllByRecursion (λ s. IsCalmSink s.replies) stations → r ≡ false = (λ calm. none-failed (λ e. is_reply_fault e) _ _ ran.desks stations replied calm) in
+      record {
+        output = λ rose. is ∙ out-first o r f d l n (failed o _ _ p.out_count rose);
+        replies = λ calm rose. is ∙ reply-first o r f d l n (no_out calm) (some-failed (λ e. is_reply_fault e) _ _ ran.desks stations replied rose);
+        intake = λ calm answers rose. is ∙ feed-first o r f d l n (no_out calm) (no_reply answers) (failed f _ _ p.feed_count rose);
+        scripts =
+            λ calm answers reads rose. is ∙ desk-first o r f d l n (no_out calm) (no_reply answers) (stood f _ _ reads p.feed_count)
+            (some-failed (λ e. is_desk_fault e) _ _ ran.desks stations asked rose);
+        only_output = λ fault. rises o _ _ p.out_count (is-first o r f d (sym told ∙ ap fault-of fault));
+        only_replies = λ fault. failed-some (λ e. is_reply_fault e) _ _ ran.desks stations replied (is-second o r f d (sym told ∙ ap fault-of fault));
+        only_intake = λ fault. rises f _ _ p.feed_count (is-third o r f d (sym told ∙ ap fault-of fault));
+        only_scripts = λ fault. failed-some (λ e. is_desk_fault e) _ _ ran.desks stations asked (is-fourth o r f d (sym told ∙ ap fault-of fault));
+      }

@@ -1,6 +1,6 @@
 -- What a panel comes to where nothing hinders it, and where an input is refused. [This profile.]
-use Rattle.std.specs.Prelude.{◌≡◌, ◌⊎◌, ◌==◌, ℕ, List, [], ◌∷◌, false, length, map, Option, None, Some, Ok, ⊤}
-use Rattle.std.specs.List.{AllZip, list_any}
+use Rattle.std.specs.Prelude.{◌≡◌, ◌⊎◌, ◌<◌, ◌==◌, ℕ, List, [], ◌∷◌, false, length, map, Option, None, Some, Ok, ⊤}
+use Rattle.std.specs.List.{AllByRecursion, AllZip, list_any}
 use Rattle.decode_session.specs.Run.{most_packets}
 use Rattle.desk_panel_tool.specs.Panel.{AreOf, from, written_to}
 use Rattle.desk_panel_tool.specs.Stations.{StationView}
@@ -12,8 +12,8 @@ use Rattle.mib_model.specs.Endings.{code_of_rest}
 use Rattle.mib_model.specs.RegisterHistories.{RegisterHistory}
 use Rattle.panel_session.specs.Panel.{LivesPanel, Station}
 use Rattle.session.specs.Sources.{Files}
-use Rattle.tool_objects.specs.Calm.{HoldsCalm, IsCalmSink}
-use Rattle.tool_objects.specs.Objects.{ShelfView, SinkView}
+use Rattle.tool_objects.specs.Calm.{HoldsCalm, IsCalm, IsCalmSink}
+use Rattle.tool_objects.specs.Objects.{HasBroken, HasFailed, ShelfView, SinkView}
 use Rattle.tool_objects.specs.Sources.{sound_in}
 use Rattle.tool_words.specs.Panels.{PanelWords}
 
@@ -59,3 +59,22 @@ RefusesPanel refusal c closed = (closed ≡ None) × ((c ≡ refusal) ⊎ (c ≡
 abbrev pub OneIsMissing : List Files → List (List ℕ) → Type 0
 OneIsMissing (files ∷ others) (name ∷ names) = (files name ≡ None) ⊎ ((script : List ℕ) × (files name ≡ Some script) × OneIsMissing others names)
 OneIsMissing others names = ⊥
+
+-- this is said of some station
+abbrev pub SomeStation : {D R : Type 0} → (StationView D R → Type 0) → List (StationView D R) → Type 0
+SomeStation says [] = ⊥
+SomeStation says (s ∷ stations) = says s ⊎ SomeStation says stations
+
+-- a fault that is told is that of an object whose count rose; and where counts rose, strictly and with room, the first is told: the output's goes before
+-- that of replies, this before the feed's, and that before a script's
+pub record TellsFaults {F D R O : Type 0} (c : Code) (feed : ShelfView F) (stations : List (StationView D R)) (out : SinkView O) : Type 0 where
+  pub output : out.faults out.before < out.faults out.now → c ≡ code.OutFault
+  pub replies : IsCalmSink out → SomeStation (λ s. s.replies.faults s.replies.before < s.replies.faults s.replies.now) stations → c ≡ code.ReplyFault
+  pub intake : IsCalmSink out → AllByRecursion (λ s. IsCalmSink s.replies) stations → feed.faults feed.before < feed.faults feed.now → c ≡ code.FeedFault
+  pub scripts :
+      IsCalmSink out → AllByRecursion (λ s. IsCalmSink s.replies) stations → IsCalm (feed.faults feed.before) (feed.faults feed.now)
+      → SomeStation (λ s. s.desk.faults s.desk.before < s.desk.faults s.desk.now) stations → c ≡ code.DeskFault
+  pub only_output : c ≡ code.OutFault → HasBroken out
+  pub only_replies : c ≡ code.ReplyFault → SomeStation (λ s. HasBroken s.replies) stations
+  pub only_intake : c ≡ code.FeedFault → HasFailed feed
+  pub only_scripts : c ≡ code.DeskFault → SomeStation (λ s. HasFailed s.desk) stations

@@ -2,7 +2,7 @@
 ghost use Rattle.std.specs.Prelude.{◌≡◌, ℕ, Err, List, None, Ok, Option, Some};
 ghost use Rattle.desk_panel_tool.specs.Panel.{Paneled};
 ghost use Rattle.desk_panel_tool.specs.Stations.{StationView};
-ghost use Rattle.desk_panel_tool.specs.Whole.{AreCalm, AreThere, CompletesPanel, OneIsMissing, RefusesPanel};
+ghost use Rattle.desk_panel_tool.specs.Whole.{AreCalm, AreThere, CompletesPanel, OneIsMissing, RefusesPanel, TellsFaults};
 ghost use Rattle.mib_model.specs.RegisterHistories.{RegisterHistory};
 ghost use Rattle.mib_model.specs.declared.database.Database.{Database};
 ghost use Rattle.mib_model.specs.declared.fault.MibFault.{MibFault};
@@ -49,4 +49,12 @@ pub fn a_missing_desk_is_refused<T, F, D, O, R>()
         → HoldsCalm tables files → sound_in files w.folder ≡ Ok db → HoldsCalm feed feeds → feeds w.feed ≡ Some octets
         → AreCalm stations desks → OneIsMissing desks w.desks
         → Paneled c closed w tables feed stations out → RefusesPanel (Code.NoFile Input.Desk) c closed }
+{}
+
+/// Where a panel's run opened, a code that is a fault is that of an object whose count rose; and where counts of the output, of the replies and the
+/// scripts of used stations or of the feed rose, the first of these faults is told.
+pub fn a_fault_is_told<T, F, D, O, R>()
+    ensures { (c : Code) (history : RegisterHistory) (w : PanelWords)
+        → (tables : ShelfView T) (feed : ShelfView F) (stations : List (StationView D R)) (out : SinkView O)
+        → Paneled c (Some history) w tables feed stations out → TellsFaults c feed stations out }
 {}

@@ -21,30 +21,19 @@ use Rattle.page_texts.specs.declared.code.BoardInput.TheVariants as input
 use Rattle.page_texts.specs.PageFiles.{bad_line}
 use Rattle.session.specs.Sources.{Files}
 use Rattle.tm_io.specs.Causes.{HasRisen, RisesWhere}
+use Rattle.tool_objects.proofs.CalmFacts.{not-failed, of-file, stood}
+use Rattle.tool_objects.specs.Calm.{HoldsCalm, IsCalm, IsCalmSink}
 use Rattle.tool_objects.specs.Objects.{ShelfView, SinkView}
 use Rattle.tool_objects.specs.Sources.{sound_in}
 use Rattle.tool_objects.specs.Told.{OfFile}
 use Rattle.tool_words.specs.Boards.{BoardWords}
 use Rattle.live_board_tool.specs.Board.{Boarded, IsWanting, Lived, LivesShown, from, written_to}
 use Rattle.live_board_tool.specs.Codes.{code_by, code_of_live}
-use Rattle.live_board_tool.specs.Whole.{AreThere, CompletesBoard, HoldsCalm, IsCalm, IsCalmSink, RefusesBoard, ShowsWhole}
-
--- a count that stays as it was, below its end, didn't rise
-not-failed : (before now : ℕ) → IsCalm before now → HasRisen before now → ⊥
-not-failed before now calm failed = omega (arith, calm.same, calm.more, failed.1)
-
--- an object whose count didn't rise didn't fail
-stood : (failed : Bool) (before now : ℕ) → IsCalm before now → RisesWhere failed before now → failed ≡ false
-stood false before now calm counts = refl
-stood true before now calm counts = absurd (not-failed before now calm counts)
-
--- what is said of a file of a shelf is said of it
-of-file : {S : Type 0} (s : ShelfView S) (files : Files) (name octets : List ℕ) → HoldsCalm s files → files name ≡ Some octets → (P : Option (List ℕ) → Type 0) → OfFile s name P → P (Some octets)
-of-file s files name octets calm found P said = subst P found (subst (λ (x : Option Files). IfSome x (λ f. P (f name))) calm.holds said)
+use Rattle.live_board_tool.specs.Whole.{AreThere, CompletesBoard, RefusesBoard, ShowsWhole}
 
 -- a file that is held isn't missing
 absent : {S : Type 0} (s : ShelfView S) (files : Files) (name octets : List ℕ) → HoldsCalm s files → files name ≡ Some octets → OfFile s name (λ found. found ≡ None) → ⊥
-absent s files name octets calm found none = let bad : Some octets ≡ None = of-file s files name octets calm found (λ (o : Option (List ℕ)). o ≡ None) none in cc bad
+absent s files name octets calm found none = let bad : Some octets ≡ None = of-file s files name (Some octets) calm found (λ (o : Option (List ℕ)). o ≡ None) none in cc bad
 
 module _ {T F D P : Type 0} (w : BoardWords) (db : Database) (octets script text : List ℕ) (files feeds desks pages : Files)
     (tables : ShelfView T) (feed : ShelfView F) (desk : ShelfView D) (page : ShelfView P)
@@ -120,7 +109,7 @@ module _ {T F D P : Type 0} (w : BoardWords) (db : Database) (octets script text
   good code.Want accepted said = refl
   good code.ScreenFault accepted (none, said) = absurd none
   good code.PageFault accepted (risen, any) = absurd (not-failed _ _ calm_page.calm risen)
-  good (code.BadPage line) accepted (same, refused) = absurd (let bad = of-file page pages w.page text calm_page paged (λ found. IsSomeAnd found (λ octets. bad_line octets ≡ Some line)) refused in let none = accepted.0 in cc (bad, none))
+  good (code.BadPage line) accepted (same, refused) = absurd (let bad = of-file page pages w.page (Some text) calm_page paged (λ found. IsSomeAnd found (λ octets. bad_line octets ≡ Some line)) refused in let none = accepted.0 in cc (bad, none))
 
   bad : (c : BoardCode) → {number : ℕ} → bad_line text ≡ Some number → Unpaged c w.page page → (c ≡ code.BadPage number) ⊎ (c ≡ code.Want)
   bad code.Ok is (none, said) = absurd none
@@ -139,7 +128,7 @@ module _ {T F D P : Type 0} (w : BoardWords) (db : Database) (octets script text
   bad code.Want is said = inr refl
   bad code.ScreenFault is (none, said) = absurd none
   bad code.PageFault is (risen, any) = absurd (not-failed _ _ calm_page.calm risen)
-  bad (code.BadPage line) is (same, refused) = inl (let told = of-file page pages w.page text calm_page paged (λ found. IsSomeAnd found (λ octets. bad_line octets ≡ Some line)) refused in cc (told, is))
+  bad (code.BadPage line) is (same, refused) = inl (let told = of-file page pages w.page (Some text) calm_page paged (λ found. IsSomeAnd found (λ octets. bad_line octets ≡ Some line)) refused in cc (told, is))
 
 -- ---- a run that nothing hinders
 
@@ -198,7 +187,7 @@ module _ {T F D P O R S : Type 0} (w : BoardWords) (db : Database) (octets scrip
   -- the names of a run are the lines of its page
   named : (names others : List (List ℕ)) → IsPageOf names text → OfFile page w.page (λ file. IsSomeAnd file (IsPageOf others)) → others ≡ names
   named names others is said =
-      let told : IsPageOf others text = of-file page pages w.page text calm_page paged (λ (o : Option (List ℕ)). IsSomeAnd o (IsPageOf others)) said in told.1 ∙ sym is.1
+      let told : IsPageOf others text = of-file page pages w.page (Some text) calm_page paged (λ (o : Option (List ℕ)). IsSomeAnd o (IsPageOf others)) said in told.1 ∙ sym is.1
 
   lived : (c : BoardCode) (history : RegisterHistory) (names : List (List ℕ)) → IsPageOf names text → IsCalmSink out → IsCalmSink replies → IsCalmSink screen
       → Lived c history w tables feed desk page out replies screen → ShowsWhole c history db names octets script feed desk out replies screen
@@ -207,8 +196,8 @@ module _ {T F D P O R S : Type 0} (w : BoardWords) (db : Database) (octets scrip
       let first : sound_in files w.folder ≡ Ok said.first = subst (λ (x : Option Files). IfSome x (λ f. sound_in f w.folder ≡ Ok said.first)) calm_tables.holds said.sound.of_tables in
       let tables_are = found.tables in let is_db : said.first ≡ db = cc (first, tables_are) in
       let is_names : said.names ≡ names = named names said.names is said.paged.text in
-      let is_octets : said.octets ≡ Some octets = of-file feed feeds w.feed octets calm_feed found.feed (λ (o : Option (List ℕ)). IsSomeAnd o (λ l. said.octets ≡ Some l)) said.of_feed in
-      let is_lines : said.lines ≡ Some script = of-file desk desks w.desk script calm_desk found.desk (λ (o : Option (List ℕ)). IsSomeAnd o (λ l. said.lines ≡ Some l)) said.of_desk in
+      let is_octets : said.octets ≡ Some octets = of-file feed feeds w.feed (Some octets) calm_feed found.feed (λ (o : Option (List ℕ)). IsSomeAnd o (λ l. said.octets ≡ Some l)) said.of_feed in
+      let is_lines : said.lines ≡ Some script = of-file desk desks w.desk (Some script) calm_desk found.desk (λ (o : Option (List ℕ)). IsSomeAnd o (λ l. said.lines ≡ Some l)) said.of_desk in
       let is_failed : r.screen_failed ≡ false = stood r.screen_failed _ _ calm_screen r.lives.count in
       whole feed desk out replies screen calm_feed.calm calm_desk.calm calm_out calm_replies c r.code history db names octets script
       (subst (λ (x : Bool × Database × List (List ℕ) × Option (List ℕ) × Option (List ℕ)).
@@ -233,5 +222,5 @@ module _ {T F D P O R S : Type 0} (w : BoardWords) (db : Database) (octets scrip
       by (inl want) = inr want
       by (inr unpaged) = bad w db octets script text files feeds desks pages tables feed desk page calm_tables calm_feed calm_desk calm_page found paged c is unpaged
   refuses c (Some history) line is said =
-      let told : IsPageOf said.names text = of-file page pages w.page text calm_page paged (λ (o : Option (List ℕ)). IsSomeAnd o (IsPageOf said.names)) said.paged.text in
+      let told : IsPageOf said.names text = of-file page pages w.page (Some text) calm_page paged (λ (o : Option (List ℕ)). IsSomeAnd o (IsPageOf said.names)) said.paged.text in
       let none = told.0 in absurd (cc (none, is))

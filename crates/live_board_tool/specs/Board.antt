@@ -1,6 +1,6 @@
 -- What a board leaves of the objects that it is handed. [This profile.]
 use Rattle.std.specs.Prelude.{◌≡◌, ◌≢◌, ◌⊎◌, ℕ, Bool, false, List, [], Option, None, Some}
-use Rattle.board_inputs.specs.Inputs.{AreRefused, AreSound, IsPaged}
+use Rattle.board_inputs.specs.Inputs.{AreRefused, IsPaged}
 use Rattle.live_board_tool.specs.Codes.{code_by}
 use Rattle.live_session.specs.Live.{Lives, Object, StaysHandedOn, members_by, object}
 use Rattle.mib_model.specs.declared.code.Code.{Code}
@@ -11,6 +11,7 @@ use Rattle.page_texts.specs.declared.code.BoardCode.TheVariants as code
 use Rattle.run_pages.specs.Shown.{ShowsRun}
 use Rattle.tm_io.specs.Causes.{RisesWhere}
 use Rattle.tool_objects.specs.Objects.{ShelfView, SinkView, HasStood, IsUncalled, IsUnwritten}
+use Rattle.tool_objects.specs.Opened.{AreSound}
 use Rattle.tool_objects.specs.Told.{HasTurned, StoodAt}
 use Rattle.tool_words.specs.Boards.{BoardWords}
 

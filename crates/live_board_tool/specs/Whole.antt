@@ -1,5 +1,5 @@
 -- What a board comes to where nothing hinders it, and where its page is refused. [This profile.]
-use Rattle.std.specs.Prelude.{◌≡◌, ◌⊎◌, ◌+◌, ◌<◌, ◌==◌, ◌^◌, ℕ, List, [], false, length, Option, None, Some, Ok}
+use Rattle.std.specs.Prelude.{◌≡◌, ◌⊎◌, ◌==◌, ℕ, List, [], false, length, Option, None, Some, Ok}
 use Rattle.live_board_tool.specs.Board.{LivesShown, from, written_to}
 use Rattle.live_board_tool.specs.Codes.{code_of_live}
 use Rattle.live_desk.specs.DeskEnds.{is_desk_fault, is_reply_fault}
@@ -14,20 +14,6 @@ use Rattle.session.specs.Sources.{Files}
 use Rattle.tool_objects.specs.Objects.{ShelfView, SinkView}
 use Rattle.tool_objects.specs.Sources.{sound_in}
 use Rattle.tool_words.specs.Boards.{BoardWords}
-
--- a count of faults that didn't rise, and could still
-pub record IsCalm (before now : ℕ) : Type 0 where
-  pub same : now ≡ before
-  pub more : before + 1 < 2 ^ 64
-
--- the shelf holds these files and didn't fail, and its count could tell
-pub record HoldsCalm {S : Type 0} (s : ShelfView S) (files : Files) : Type 0 where
-  pub holds : s.holds s.before ≡ Some files
-  pub calm : IsCalm (s.faults s.before) (s.faults s.now)
-
--- the sink didn't fail, and its count could tell
-abbrev pub IsCalmSink : {O : Type 0} → SinkView O → Type 0
-IsCalmSink o = IsCalm (o.faults o.before) (o.faults o.now)
 
 -- by these files the tables are this database, and feed and desk have these octets
 pub record AreThere (files feeds desks : Files) (w : BoardWords) (db : Database) (octets script : List ℕ) : Type 0 where

@@ -1,12 +1,13 @@
 //! What the clauses of a board leave, where nothing fails.
 ghost use Rattle.std.specs.Prelude.{◌≡◌, ℕ, List, Option, Some};
 ghost use Rattle.live_board_tool.specs.Board.{Boarded};
-ghost use Rattle.live_board_tool.specs.Whole.{AreThere, CompletesBoard, HoldsCalm, IsCalmSink, RefusesBoard};
+ghost use Rattle.live_board_tool.specs.Whole.{AreThere, CompletesBoard, RefusesBoard};
 ghost use Rattle.mib_model.specs.RegisterHistories.{RegisterHistory};
 ghost use Rattle.mib_model.specs.declared.database.Database.{Database};
 ghost use Rattle.page_files.specs.Files.{IsPageOf};
 ghost use Rattle.page_texts.specs.PageFiles.{bad_line};
 ghost use Rattle.session.specs.Sources.{Files};
+ghost use Rattle.tool_objects.specs.Calm.{HoldsCalm, IsCalmSink};
 ghost use Rattle.tool_objects.specs.Objects.{ShelfView, SinkView};
 ghost use Rattle.tool_words.specs.Boards.{BoardWords};
 

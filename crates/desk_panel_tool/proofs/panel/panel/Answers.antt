@@ -28,5 +28,5 @@ returns-in-Err-clause-panels g c =
       refused-unwritten c.in-Err.code (words_by c.args.request.now)
           (shelf c.args.tables.now at.tables g.T.Source.holds g.T.Source.left g.T.Source.faults g.T.Source.missed)
           (shelf c.args.feed.now at.feed g.F.Source.holds g.F.Source.left g.F.Source.faults g.F.Source.missed)
-          (stations c.args.desks.now at.desks g.D.Source.holds g.D.Source.left g.D.Source.faults g.D.Source.missed g.R.Sink.written g.R.Sink.handed g.R.Sink.faults) refused
+          (stations c.args.desks.now at.desks g.D.Source.holds g.D.Source.left g.D.Source.faults g.D.Source.missed g.R.Sink.written g.R.Sink.handed g.R.Sink.faults) refused,
     )
