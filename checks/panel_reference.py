@@ -8,6 +8,7 @@ import reference
 from live_reference import MOST_EDITIONS, Differs, touched
 
 HEAD = re.compile(r"(EDITION|PKT) (\d+)")
+MAY_WANT = ("put", "del", "save", "drop", "use", "take")  # want of memory changes nothing
 
 
 class Panelist(live_reference.Desk):
@@ -53,10 +54,16 @@ class Panelist(live_reference.Desk):
         """Handles the script; stops at each edition whose tables aren't there yet."""
         replies = iter(replies)
         for line in script:
-            if line.removesuffix("\r") == "take":
-                yield from self.take(next(replies, "no reply"))
+            bare = line.removesuffix("\r")
+            if bare == "" or bare.startswith("#"):
+                continue
+            reply = next(replies, "no reply")
+            if reply == "WANT" and bare.split(" ")[0] in MAY_WANT:
+                continue
+            if bare == "take":
+                yield from self.take(reply)
             else:
-                self.line(line, replies)
+                self.line(line, iter([reply]))
             if self.gone and self.prelude is None:
                 self.prelude = len(self.entries)
         if self.prelude is None:

@@ -6,7 +6,7 @@ reply what `MIBTM live` does, but for the desk's number.
     checks/panels.py PANEL MIBTM [RUNS [SEED]]
 
 Beside them: four operators who save at once and take the newest edition until all are in, or until no edition has room; a desk without `go`; a desk that hangs up
-behind each octet while another goes on; a desk that is answered while the feed waits; a desk that isn't there; words.
+behind each octet while another goes on; a desk that is answered while the feed waits; each request for memory refused; a desk that isn't there; words.
 """
 import collections
 import os
@@ -25,9 +25,11 @@ import panel_reference
 import random_lives
 import random_missions
 import reference
+import refused_memory
 
 SECONDS = 120
 PUT, TOLD = "put tpcf\t%d\t%s", re.compile(r"DESK (\d) (.*)")
+THIRD = ["put cap\tC1\t2000\t60", "save", "use 3 from 3"]
 
 
 class Script(random_lives.Script):
@@ -209,6 +211,27 @@ def failing_desks(program, folder):
     return wrong
 
 
+def refused_memory_of(program, folder):
+    """Each request for memory of a run with two desks that collide is refused in turn: the run ends with 12 and nothing written, or a line is
+    answered WANT and all is that of the others."""
+    failing_objects.Place(folder)
+    tries, scripts = refused_memory.Tries(program, folder), [["put cap\tC1\t2000\t100", "save", "use 2 from 2", "go"], ["put cap\tC1\t2000\t60", "save", "take", *THIRD, "go"]]
+    for number, lines in enumerate(scripts, 1):
+        with open(os.path.join(folder, "desk%d" % number), "w", encoding="latin-1") as file:
+            file.write("".join(line + "\n" for line in lines))
+    tables = reference.read_folder(os.path.join(folder, "mib"))
+
+    def is_allowed(found):
+        replies, others = panel_reference.replies_of(found[2].decode(), 2)
+        return found == (12, b"", b"MEMORY\n") or found[0] == 0 and not others and not panel_reference.why(tables, failing_objects.FEED, scripts, replies, found[1].decode())
+
+    words = ["panel", "mib", "feed", "desk1", "desk2"]
+    _, number = tries.run(words)
+    for at in range(1, number + 1):
+        tries.is_so("request %d of %d" % (at, number), tries.run(words, at)[0], is_allowed)
+    return ["refused memory: %d of %d" % (tries.wrong, tries.made)] if tries.wrong else []
+
+
 def waiting_feed(program, folder):
     """The second of two desks is answered while the feed waits behind its first packet."""
     place = failing_objects.Place(folder)
@@ -256,6 +279,8 @@ def named(program, seed):
         wrong += failing_desks(program, folder)
     with tempfile.TemporaryDirectory() as folder:
         wrong += refused(program, folder)
+    with tempfile.TemporaryDirectory() as folder:
+        wrong += refused_memory_of(program, folder)
     with tempfile.TemporaryDirectory() as folder:
         signal.alarm(SECONDS)
         wrong += waiting_feed(program, folder)
