@@ -64,7 +64,7 @@ desked-on e first entries seen all left behind w0 w1 on d = record {
 
 module _ {W : Type 0} (stands : W → List Member → Type 0) (watch watched : W) (ended : Result RunEnd RunFault) (first : Database) (history own : RegisterHistory) (legal : IsRegisterHistory first history) (permits : Permits MayEnter history) (is : moves_of 0 history ≡ own) where
   -- what an intake printed is the output of the history
-  pub prints-of : (before now out_before out_now : ℕ) (l0 l1 w0 w1 : Known) → HasOutCause ended out_before out_now → Runs stands ended (begun first watch w0) own before now l0 l1 watched w1 → Prints first history (object l0 l1 before now) (object w0 w1 out_before out_now)
+  unfoldable pub prints-of : (before now out_before out_now : ℕ) (l0 l1 w0 w1 : Known) → HasOutCause ended out_before out_now → Runs stands ended (begun first watch w0) own before now l0 l1 watched w1 → Prints first history (object l0 l1 before now) (object w0 w1 out_before out_now)
   prints-of before now out_before out_now l0 l1 w0 w1 cause i = record {
     read = i.read;
     packets = i.packets;

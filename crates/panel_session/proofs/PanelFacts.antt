@@ -1,5 +1,5 @@
 -- A whole run of a panel, by what its intake and its desks did and by the history at its end.
-use Rattle.std.proofs.Common.{◌≡◌, ◌∙◌, ℕ, zero, suc, ◌+◌, ◌<◌, List, [], ◌∷◌, map, length, Option, Result, refl, sym, ap, subst, arith}
+use Rattle.std.proofs.Common.{◌≡◌, ◌∙◌, ℕ, zero, suc, ◌+◌, ◌<◌, true, List, [], ◌∷◌, map, length, Option, Result, refl, sym, ap, subst, arith}
 use Rattle.std.specs.List.{AllByRecursion, AllZip, fold}
 use Rattle.decode_session.specs.declared.ending.RunEnd.{RunEnd}
 use Rattle.decode_session.specs.declared.ending.RunFault.{RunFault}
@@ -8,6 +8,7 @@ use Rattle.edition_register.specs.Panels.{ListFrom}
 use Rattle.histories.specs.History.{IsOfSeatsBelow, Permits, StartsWith, moves_of}
 use Rattle.live_desk.specs.declared.desk_end.DeskEnd.{DeskEnd}
 use Rattle.live_desk.specs.declared.desk_end.DeskEnd.TheVariants as end
+use Rattle.live_desk.proofs.DeskFacts.{starts-more}
 use Rattle.live_session.specs.Codes.{code_by}
 use Rattle.live_session.specs.Live.{ending_of, object}
 use Rattle.live_session.proofs.EndFacts.{Known, code-is}
@@ -22,7 +23,7 @@ use Rattle.packet_run.specs.Runs.{Runs, is_out_failed}
 use Rattle.packet_run.specs.Told.{Member, begun}
 use Rattle.panel_session.specs.declared.side.DeskSide.{DeskSide}
 use Rattle.panel_session.specs.Codes.{gravest, with_end}
-use Rattle.panel_session.specs.Lanes.{AllBegin, AllGoOn, Lane, Seen, lanes}
+use Rattle.panel_session.specs.Lanes.{Lane, Ran, Seen, lanes}
 use Rattle.panel_session.specs.Opened.{IsNewSide}
 use Rattle.panel_session.specs.Panel.{AllKeep, Keeps, LivesAt, StandInOrder, Station}
 use Rattle.panel_session.proofs.EndFacts.{code-gravest, gravest-same}
@@ -64,7 +65,7 @@ lanes-count (side ∷ sides) [] same = absurd (omega (arith, same))
 lanes-own : (number : ℕ) (history : RegisterHistory) (sides : List DeskSide) (seens : List Seen) → ListFrom number history (map (λ side. side.seat) sides) → AllOwn number history (lanes sides seens)
 lanes-own number history [] seens list = tt
 lanes-own number history (side ∷ sides) [] list = tt
-lanes-own number history (side ∷ sides) (seen ∷ seens) list = (list.0, lanes-own (suc number) history sides seens list.1.1)
+lanes-own number history (side ∷ sides) (seen ∷ seens) list = (list.0, lanes-own (suc number) history sides seens list.2)
 
 -- ---- plans
 
@@ -119,30 +120,27 @@ module _ {W : Type 0} (stands : W → List Member → Type 0) (watch watched : W
     };
   }
 
--- what desks owned and what was seen of their objects as a whole run was opened, when all had begun, and at its end
+-- what desks owned and what was seen of their objects as a whole run was opened and at its end, and what was seen of the history
 pub record Parts (first : Database) (history : RegisterHistory) : Type 0 where
   pub sides : List DeskSide
-  pub begun_sides : List DeskSide
   pub end_sides : List DeskSide
   pub seens : List Seen
-  pub begun_seens : List Seen
   pub end_seens : List Seen
   pub before : RegisterHistory
-  pub now : RegisterHistory
+  pub last : RegisterHistory
   pub unmoved : AllByRecursion (λ seat. own_moves seat ≡ []) (map (λ side. side.seat) sides)
   pub new : AllByRecursion (IsNewSide first) sides
-  pub begin : AllBegin 1 (lanes sides seens) (lanes begun_sides begun_seens) before now
-  pub go_on : AllGoOn 1 (lanes begun_sides begun_seens) (lanes end_sides end_seens)
+  pub ran : Ran (lanes sides seens) (lanes end_sides end_seens) before last
   pub listed : ListFrom 1 history (map (λ side. side.seat) end_sides)
-  pub whole : StartsWith history now
+  pub whole : StartsWith history last
   pub same : length sides ≡ length seens
   pub end_same : length end_sides ≡ length end_seens
 
 module _ (first : Database) (history : RegisterHistory) (r : Parts first history) where
   whole-run : AllWhole 1 first history r.before (lanes r.sides r.seens) (lanes r.end_sides r.end_seens)
   whole-run =
-      all-whole 1 first history r.before r.now (lanes r.sides r.seens) (lanes r.begun_sides r.begun_seens) (lanes r.end_sides r.end_seens) r.whole
-      (lanes-new first r.sides r.seens r.unmoved r.new) r.begin r.go_on (lanes-own 1 history r.end_sides r.end_seens r.listed)
+      all-whole 1 first history r.before r.ran.now (lanes r.sides r.seens) r.ran.begun (lanes r.end_sides r.end_seens) (starts-more r.ran.now r.last history r.ran.later r.whole)
+      (lanes-new first r.sides r.seens r.unmoved r.new) r.ran.begin r.ran.go_on (lanes-own 1 history r.end_sides r.end_seens r.listed)
 
   module _ {W : Type 0} (stands : W → List Member → Type 0) (watch watched : W) (ended : Result RunEnd RunFault) (own : RegisterHistory) (legal : IsRegisterHistory first history) (permits : Permits MayEnter history) (is : moves_of 0 history ≡ own) where
     -- the run

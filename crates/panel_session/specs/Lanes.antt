@@ -2,6 +2,7 @@
 use Rattle.std.specs.Prelude.{◌≡◌, ℕ, suc, ◌≤◌, ◌*◌, Bool, false, List, [], ◌∷◌, length, Option, Some, None}
 use Rattle.desk_lines.specs.Ahead.{Reading}
 use Rattle.desk_lines.specs.Reader.{read_to}
+use Rattle.histories.specs.History.{StartsWith}
 use Rattle.live_desk.specs.declared.desk_end.DeskEnd.{DeskEnd}
 use Rattle.live_desk.specs.Scripts.{HasDeskCause, HasRepliesCause, Worked, fails_to_reply}
 use Rattle.live_desk.specs.Standing.{Standing}
@@ -92,3 +93,11 @@ abbrev pub AllGoOn : ℕ → List Lane → List Lane → Type 0
 AllGoOn number [] [] = Unit {0}
 AllGoOn number (old ∷ olds) (new ∷ news) = GoesOn number old new × AllGoOn (suc number) olds news
 AllGoOn number olds news = ⊥
+
+-- all desks began and went on, by what was seen of the history before they began and what was seen last
+pub record Ran (olds news : List Lane) (before last : RegisterHistory) : Type 0 where
+  pub begun : List Lane
+  pub now : RegisterHistory
+  pub begin : AllBegin 1 olds begun before now
+  pub go_on : AllGoOn 1 begun news
+  pub later : StartsWith last now
