@@ -31,7 +31,7 @@ def main():
         with tempfile.TemporaryDirectory() as folder:
             for name in COPIED:
                 shutil.copytree(f"{TOP}/{name}", f"{folder}/{name}")
-            for name, program in zip(("mibtm", "live_board"), sys.argv[1:]):
+            for name, program in zip(("mibtm", "live_board", "desk_panel"), sys.argv[1:]):
                 os.makedirs(f"{folder}/crates/{name}/out")
                 shutil.copy(program, f"{folder}/crates/{name}/out/{name}")
             with open(f"{folder}/script", "w", encoding="utf-8") as file:

@@ -1,0 +1,3 @@
+pub mod StationFacts
+pub mod PanelFacts
+pub mod WholeFacts

@@ -1,0 +1,4 @@
+pub mod Stations
+pub mod Inputs
+pub mod Panel
+pub mod Whole
