@@ -73,7 +73,8 @@ fn run_desks<
     ensures handed { result ≢ Err (RunFault.Print Stop.Out) → O.handed out.new ≡ O.written out.new }
     ensures kept { (F.holds feed.new ≡ F.holds feed.old) × (F.missed feed.new ≡ F.missed feed.old) }
     ensures desks { AreDesksFrom 1 register.now (map (λ side. side.seat) sides.new) }
-    ensures ran { Ran (lanes sides.old (map S.seen stations.old)) (lanes sides.new (map S.seen stations.new)) (seen_by intake.old.seat) (seen_by intake.new.seat) }
+    ensures ran { Ran (lanes sides.old (map S.seen stations.old)) (lanes sides.new (map S.seen stations.new))
+        (seen_by intake.old.seat) (seen_by intake.new.seat) }
 {
     let place = Place {
         rt,

@@ -1,4 +1,4 @@
-use Rattle.std.proofs.Common.{◌≡◌, ◌∙◌, ◌+◌, ap, length, map, subst}
+use Rattle.std.proofs.Common.{◌∙◌, ◌+◌, ap, length, subst}
 use Rattle.std.proofs.lemmas.List.{length-map}
 use Rattle.edition_register.specs.Panels.{ListFrom}
 use Rattle.edition_register.specs.Seats.{history_of}
