@@ -95,6 +95,17 @@ impl Sink for Counted<'_> {
     }
 }
 
+// A feed of two parts of which nothing was read.
+fn unread<'a>(first: &'a [u8], second: &'a [u8], shown: &'a AtomicU64) -> Waiting<'a> {
+    Waiting {
+        first,
+        second,
+        shown,
+        has_waited: false,
+        is_late: false,
+    }
+}
+
 // The last of 65 packets comes once a page was shown. A run reads no 65th packet before it has printed one.
 #[test]
 fn a_page_comes_while_the_feed_waits(rt: HostRuntime) -> Result<(), Fail> {
@@ -103,13 +114,7 @@ fn a_page_comes_while_the_feed_waits(rt: HostRuntime) -> Result<(), Fail> {
     let last = packets(alloc, &[2000])?;
     for workers in ["1", "4"] {
         let shown = AtomicU64::new(0);
-        let mut feed = Waiting {
-            first: &first,
-            second: &last,
-            shown: &shown,
-            has_waited: false,
-            is_late: false,
-        };
+        let mut feed = unread(&first, &last, &shown);
         let mut screen = Counted {
             sink: sink(alloc, &[])?,
             shown: &shown,
