@@ -10,19 +10,17 @@ pub struct Values<'a> {
 impl Values<'_> {
     ghost use Rattle.std.specs.Prelude.{◌≡◌, ◌≤◌, ◌+◌, ◌++◌, ◌∷◌, [], length, nat_lt, slice_set, if◌then◌else◌};
     ghost use Rattle.mib_model.specs.Fixed.{most_values};
-    ghost use Rattle.bit_field.specs.Taken.{taken};
+    ghost use Rattle.bit_field.specs.Taken.{taken, HasSlots, KeepsSlots};
 
     /// Appends a value, and says whether there was room for it: there is none exactly where 8,192 stand. The slots that
     /// aren't in use stay as they were, but the first of them, and without room all stays.
     pub fn push(&mut self, v: Value) -> bool
-        requires slots { length self.old.slots.now ≡ most_values }
-        requires used { self.old.used ≤ most_values }
+        requires slots { HasSlots self.old }
         ensures room { result ≡ nat_lt self.old.used most_values }
         ensures taken { taken self.new ≡ (if result then taken self.old ++ v ∷ [] else taken self.old) }
         ensures used { self.new.used ≡ (if result then self.old.used + 1 else self.old.used) }
         ensures slots { self.new.slots.now ≡ (if result then slice_set self.old.slots.now self.old.used v else self.old.slots.now) }
-        ensures length { length self.new.slots.now ≡ most_values }
-        ensures borrow { self.new.slots.ghost_name ≡ self.old.slots.ghost_name }
+        ensures stays { KeepsSlots self.old self.new }
     {
         if self.used == MOST_VALUES {
             return false;

@@ -1,6 +1,6 @@
 // What a packet is, and its values.
 ghost use Rattle.std.specs.Prelude.{◌≡◌, ◌≢◌, ◌≤◌, true, false, pos, int_lt, [], is_some, length};
-ghost use Rattle.bit_field.specs.Taken.{taken};
+ghost use Rattle.bit_field.specs.Taken.{taken, KeepsSlots};
 ghost use Rattle.decode_one.specs.Halves.{IsHalf};
 ghost use Rattle.edition_plans.specs.Layouts.{layout_of};
 ghost use Rattle.mib_model.specs.Fixed.{fixed_values, most_values};
@@ -36,9 +36,7 @@ fn fixed<P: Plans>(plans: &P, spid: u32, packet: &[u8], values: &mut Values) -> 
     requires slots { length values.old.slots.now ≡ most_values }
     requires used { values.old.used ≡ 0 }
     ensures values { (taken values.new, result) ≡ fixed_values (P.tables plans.now) spid packet.now }
-    ensures used { values.new.used ≤ most_values }
-    ensures slots { length values.new.slots.now ≡ most_values }
-    ensures borrow { values.new.slots.ghost_name ≡ values.old.slots.ghost_name }
+    ensures stays { KeepsSlots values.old values.new }
 {
     match plans.layout(spid) {
         Some(layout) => layout.extract(packet, values),
@@ -54,9 +52,7 @@ fn walked<P: Plans>(plans: &P, tpsd: i32, dfhsize: u8, packet: &[u8], values: &m
     requires slots { length values.old.slots.now ≡ most_values }
     requires used { values.old.used ≡ 0 }
     ensures values { (taken values.new, result) ≡ structure_values (P.tables plans.now) tpsd dfhsize packet.now }
-    ensures used { values.new.used ≤ most_values }
-    ensures slots { length values.new.slots.now ≡ most_values }
-    ensures borrow { values.new.slots.ghost_name ≡ values.old.slots.ghost_name }
+    ensures stays { KeepsSlots values.old values.new }
 {
     walk(plans, tpsd as u32, dfhsize, packet, values)
 }
@@ -77,9 +73,7 @@ fn extract<P: Plans>(
     requires slots { length values.old.slots.now ≡ most_values }
     requires used { values.old.used ≡ 0 }
     ensures values { (taken values.new, ended.new) ≡ values_of (P.tables plans.now) packet.now found.now }
-    ensures used { values.new.used ≤ most_values }
-    ensures slots { length values.new.slots.now ≡ most_values }
-    ensures borrow { values.new.slots.ghost_name ≡ values.old.slots.ghost_name }
+    ensures stays { KeepsSlots values.old values.new }
 {
     match *found {
         Found::Spid {

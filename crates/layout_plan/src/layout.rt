@@ -2,7 +2,7 @@ ghost use Rattle.std.specs.Prelude.{◌≡◌, ◌≤◌, ◌+◌, ◌++◌, [],
 ghost use Rattle.std.specs.Option.{option_copied};
 ghost use Rattle.mib_model.specs.Fixed.{most_values, occurrences, values_at};
 ghost use Rattle.mib_model.specs.Layouts.{item_named, item_encoding, layout_places};
-ghost use Rattle.bit_field.specs.Taken.{taken};
+ghost use Rattle.bit_field.specs.Taken.{taken, HasSlots, KeepsSlots};
 ghost use Rattle.layout_plan.specs.Readings.{Reads};
 ghost use Rattle.layout_plan.specs.Spans.{span_places, spans_places};
 ghost use Rattle.layout_plan.specs.Stops.{ended_at};
@@ -81,12 +81,9 @@ fn spans_of(
 // Reads the values at the places of spans; where they stop before the last of them, tells why, and in which span.
 #[inline(always)]
 fn read_spans<'a>(spans: &'a [Span], packet: &[u8], values: &mut Values) -> Option<(Stop, &'a Span)>
-    requires slots { length values.old.slots.now ≡ most_values }
-    requires used { values.old.used ≤ most_values }
+    requires slots { HasSlots values.old }
     ensures reads { Reads packet.now (spans_places spans.now) (option_map (λ stopped. ended_at stopped.1.now.name stopped.0) result) values.old values.new }
-    ensures slots { length values.new.slots.now ≡ most_values }
-    ensures used { values.new.used ≤ most_values }
-    ensures borrow { values.new.slots.ghost_name ≡ values.old.slots.ghost_name }
+    ensures stays { KeepsSlots values.old values.new }
 {
     for span in spans {
         if let Some(stop) = span.read(packet, values) {
@@ -99,12 +96,9 @@ fn read_spans<'a>(spans: &'a [Span], packet: &[u8], values: &mut Values) -> Opti
 // Reads them by values of its own, which the loop may keep in registers.
 #[inline(never)]
 fn read_apart<'a>(spans: &'a [Span], packet: &[u8], values: &mut Values) -> Option<(Stop, &'a Span)>
-    requires slots { length values.old.slots.now ≡ most_values }
-    requires used { values.old.used ≤ most_values }
+    requires slots { HasSlots values.old }
     ensures reads { Reads packet.now (spans_places spans.now) (option_map (λ stopped. ended_at stopped.1.now.name stopped.0) result) values.old values.new }
-    ensures slots { length values.new.slots.now ≡ most_values }
-    ensures used { values.new.used ≤ most_values }
-    ensures borrow { values.new.slots.ghost_name ≡ values.old.slots.ghost_name }
+    ensures stays { KeepsSlots values.old values.new }
 {
     let mut own = Values {
         slots: &mut *values.slots,
@@ -148,9 +142,7 @@ impl Layout {
         requires slots { length values.old.slots.now ≡ most_values }
         requires used { values.old.used ≡ 0 }
         ensures values { (taken values.new, result) ≡ values_at packet.now (layout_places self.now.plfs self.now.types) }
-        ensures slots { length values.new.slots.now ≡ most_values }
-        ensures used { values.new.used ≤ most_values }
-        ensures borrow { values.new.slots.ghost_name ≡ values.old.slots.ghost_name }
+        ensures stays { KeepsSlots values.old values.new }
     {
         match read_apart(&self.spans, packet, values) {
             Some((stop, span)) => stop.ended(span.name()),

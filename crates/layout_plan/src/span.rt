@@ -1,5 +1,6 @@
 // The occurrences of one row of plf.
 ghost use Rattle.std.specs.Prelude.{Some, ◌≡◌, ◌≤◌, ◌<◌, ◌^◌, ◌+◌, ◌*◌, [], ◌∷◌, length};
+ghost use Rattle.bit_field.specs.Taken.{HasSlots, KeepsSlots};
 ghost use Rattle.mib_model.specs.Fixed.{Place, most_values, occurrences};
 ghost use Rattle.layout_plan.specs.Readings.{Reads};
 ghost use Rattle.layout_plan.specs.Stops.{ended_at, ended_by};
@@ -64,12 +65,9 @@ fn read_value(
     shape: Shape,
     values: &mut Values,
 ) -> Option<Stop>
-    requires slots { length values.old.slots.now ≡ most_values }
-    requires used { values.old.used ≤ most_values }
+    requires slots { HasSlots values.old }
     ensures reads { Reads packet.now (record { name = name.now; at = at; shape = shape } ∷ []) (ended_by name.now result) values.old values.new }
-    ensures slots { length values.new.slots.now ≡ most_values }
-    ensures used { values.new.used ≤ most_values }
-    ensures borrow { values.new.slots.ghost_name ≡ values.old.slots.ghost_name }
+    ensures stays { KeepsSlots values.old values.new }
 {
     if values.used == MOST_VALUES {
         return Some(Stop::Many);
@@ -157,12 +155,9 @@ impl Span {
     // Reads the values at its places, however many there are, and tells why where they stop before the last of them.
     #[inline(never)]
     fn read_each(&self, packet: &[u8], values: &mut Values) -> Option<Stop>
-        requires slots { length values.old.slots.now ≡ most_values }
-        requires used { values.old.used ≤ most_values }
+        requires slots { HasSlots values.old }
         ensures reads { Reads packet.now (span_places self.now) (ended_by self.now.name result) values.old values.new }
-        ensures slots { length values.new.slots.now ≡ most_values }
-        ensures used { values.new.used ≤ most_values }
-        ensures borrow { values.new.slots.ghost_name ≡ values.old.slots.ghost_name }
+        ensures stays { KeepsSlots values.old values.new }
     {
         for k in 0..self.places() {
             let at = self.place(k);
@@ -176,12 +171,9 @@ impl Span {
     // Reads them by values of its own, so that the caller may keep its own in registers.
     #[inline(always)]
     fn read_apart(&self, packet: &[u8], values: &mut Values) -> Option<Stop>
-        requires slots { length values.old.slots.now ≡ most_values }
-        requires used { values.old.used ≤ most_values }
+        requires slots { HasSlots values.old }
         ensures reads { Reads packet.now (span_places self.now) (ended_by self.now.name result) values.old values.new }
-        ensures slots { length values.new.slots.now ≡ most_values }
-        ensures used { values.new.used ≤ most_values }
-        ensures borrow { values.new.slots.ghost_name ≡ values.old.slots.ghost_name }
+        ensures stays { KeepsSlots values.old values.new }
     {
         let mut own = Values {
             slots: &mut *values.slots,
@@ -195,12 +187,9 @@ impl Span {
     /// Reads the values at its places, and tells why where they stop before the last of them.
     #[inline(always)]
     pub fn read(&self, packet: &[u8], values: &mut Values) -> Option<Stop>
-        requires slots { length values.old.slots.now ≡ most_values }
-        requires used { values.old.used ≤ most_values }
+        requires slots { HasSlots values.old }
         ensures reads { Reads packet.now (span_places self.now) (ended_by self.now.name result) values.old values.new }
-        ensures slots { length values.new.slots.now ≡ most_values }
-        ensures used { values.new.used ≤ most_values }
-        ensures borrow { values.new.slots.ghost_name ≡ values.old.slots.ghost_name }
+        ensures stays { KeepsSlots values.old values.new }
     {
         if self.count == 0
             && values.used < MOST_VALUES

@@ -4,6 +4,8 @@ use Rattle.std.specs.Io.KnownBytes.{Appends}
 use Rattle.tm_io.specs.Causes.{HasRisen}
 use Rattle.tm_io.specs.Octets.{AppendsPrefix}
 use Rattle.session.specs.Sources.{part_read}
+use Rattle.whole_texts.specs.declared.text_fault.TextFault.{TextFault}
+use Rattle.whole_texts.specs.declared.text_fault.TextFault.TheVariants as texts
 use Rattle.mib_model.specs.declared.fault.MibFault.{MibFault}
 use Rattle.mib_model.specs.declared.code.Misuse.{Misuse}
 use Rattle.mib_model.specs.declared.database.Database.{Database}
@@ -80,6 +82,11 @@ Untold (code.NoFile input.Text) name text = HasStood text × OfFile text name (�
 Untold code.TextFault name text = HasFailed text
 Untold code.Want name text = HasStood text
 Untold other name text = ⊥
+
+-- the end of an audit for which a text wasn't read
+abbrev pub unread_code : TextFault → AuditCode
+unread_code texts.Failed = code.TextFault
+unread_code texts.Memory = code.Want
 
 -- the count of the text rose where it failed, and else stands
 abbrev pub HasTextCause : AuditCode → ℕ → ℕ → Type 0

@@ -1,76 +1,25 @@
 // The printed text, read whole or up to one octet more than is audited.
-ghost use Rattle.std.specs.Prelude.{◌≡◌, ◌≤◌, length, vec_len, ◌++◌, IfErr, IfOk, IfSome, OnOk};
-ghost use Rattle.std.specs.Io.{ReadsAtMost};
-ghost use Rattle.std.specs.Io.KnownBytes.{ReadConsumes};
-ghost use Rattle.tm_audit.specs.declared.code.AuditCode.TheVariants as codes;
+ghost use Rattle.std.specs.Prelude.{◌≡◌, IfErr, IfOk, IfSome, OnOk};
 ghost use Rattle.session.specs.Sources.{part_read};
-ghost use Rattle.mibtm_audit.specs.Statement.{HasTextCause, IsTextRead, Untold};
+ghost use Rattle.mibtm_audit.specs.Statement.{HasTextCause, IsTextRead, Untold, unread_code};
 ghost use Rattle.tool_objects.specs.Objects.{shelf};
 
-use std::alloc::{AllocError, Global};
+use std::alloc::Global;
 use tm_audit::{AuditCode, AuditInput, TEXT_MOST};
 use tm_io::{Shelf, Source};
+use whole_texts::{TextFault, read_up_to};
 
 // The most octets of a text that are read.
 const READ_MOST: usize = TEXT_MOST + 1;
 
-// The octets that are read at once.
-const CHUNK_SIZE: usize = 65_536;
-
-// A buffer of so many octets. The size is no literal here, since a proof would write it out as a list.
-fn buffer(alloc: Global, size: usize) -> Result<Vec<u8>, AllocError>
-    ensures { IfOk result (λ buffer. vec_len buffer ≡ size) }
+// The code of a text that wasn't read.
+fn code_of(fault: TextFault) -> AuditCode
+    ensures { result ≡ unread_code fault }
 {
-    Vec::from_elem(alloc, 0, size)
-}
-
-// Appends octets. An error is want of memory.
-fn append(text: &mut Vec<u8>, octets: &[u8]) -> Result<(), AuditCode>
-    ensures text { OnOk result (text.new.items ≡ text.old.items ++ octets.now) }
-    ensures want { IfErr result (λ code. code ≡ codes.Want) }
-{
-    match text.extend_from_slice(octets) {
-        Ok(()) => Ok(()),
-        Err(_) => Err(AuditCode::Want),
+    match fault {
+        TextFault::Failed => AuditCode::TextFault,
+        TextFault::Memory => AuditCode::Want,
     }
-}
-
-// Reads the next octets of a source into a piece.
-fn read_piece<X: Source>(source: &mut X, piece: &mut [u8]) -> Result<usize, AuditCode>
-    ensures bound { ReadsAtMost result piece.new }
-    ensures octets { ReadConsumes (X.left source.old) (X.left source.new) result piece.new }
-    ensures ok { OnOk result (X.faults source.new ≡ X.faults source.old) }
-    ensures cause { IfErr result (λ code. HasTextCause code (X.faults source.old) (X.faults source.new)) }
-    ensures missed { X.missed source.new ≡ X.missed source.old }
-{
-    match source.read(piece) {
-        Ok(count) => Ok(count),
-        Err(_) => Err(AuditCode::TextFault),
-    }
-}
-
-// Reads a source to its end, or to the most octets that are read, in pieces that the buffer has room for.
-fn read_into<X: Source>(
-    source: &mut X,
-    chunk: &mut [u8],
-    text: &mut Vec<u8>,
-) -> Result<(), AuditCode>
-    requires room { 1 ≤ length chunk.old }
-    requires empty { vec_len text.old ≡ 0 }
-    ensures told { OnOk result (IfSome (X.left source.old) (λ octets. text.new.items ≡ part_read octets)) }
-    ensures ok { OnOk result (X.faults source.new ≡ X.faults source.old) }
-    ensures cause { IfErr result (λ code. HasTextCause code (X.faults source.old) (X.faults source.new)) }
-    ensures missed { X.missed source.new ≡ X.missed source.old }
-{
-    while text.len() < READ_MOST {
-        let size = chunk.len().min(READ_MOST - text.len());
-        let count = read_piece(source, &mut chunk[..size])?;
-        if count == 0 {
-            return Ok(());
-        }
-        append(text, &chunk[..count])?;
-    }
-    Ok(())
 }
 
 // What a source has left, up to the most octets that are read.
@@ -80,12 +29,10 @@ fn read_left<X: Source>(alloc: Global, source: &mut X) -> Result<Vec<u8>, AuditC
     ensures cause { IfErr result (λ code. HasTextCause code (X.faults source.old) (X.faults source.new)) }
     ensures missed { X.missed source.new ≡ X.missed source.old }
 {
-    let Ok(mut chunk) = buffer(alloc, CHUNK_SIZE) else {
-        return Err(AuditCode::Want);
-    };
-    let mut text = Vec::new(alloc);
-    read_into(source, &mut chunk, &mut text)?;
-    Ok(text)
+    match read_up_to(alloc, source, READ_MOST) {
+        Ok(text) => Ok(text),
+        Err(fault) => Err(code_of(fault)),
+    }
 }
 
 /// The text of that name, up to the most octets that are read.

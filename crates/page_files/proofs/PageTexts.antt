@@ -1,9 +1,7 @@
 -- As much of a file of names as is read.
 use Rattle.std.proofs.Common.{◌≡◌, ◌≤◌, ◌<◌, ℕ, List, [], ◌++◌, length, take, Option, Some, None, Result, Ok, Err, IfOk, IfErr, IfSome, inl, inr, refl, sym, ap, ◌∙◌, append-nil, subst, arith, length-take}
 use Rattle.std.proofs.lemmas.Bool.{cases_Bool, ltb-false, ltb-true}
-use Rattle.std.proofs.lemmas.List.{take_all, take_at}
-use Rattle.std.proofs.KnownBytes.{Consumes-trans}
-use Rattle.std.specs.Io.KnownBytes.{Consumes, IsAtEnd}
+use Rattle.std.proofs.lemmas.List.{take_all}
 use Rattle.std.specs.Prelude.{nat_lt, Vec}
 use Rattle.mib_model.specs.Lines.{lines}
 use Rattle.page_texts.proofs.NameFacts.{too-long}
@@ -24,25 +22,10 @@ part-all text few = go 65537 text refl few
     go : (n : ℕ) (xs : List ℕ) → n ≡ 65537 → length xs ≤ n → page_part xs ≡ xs
     go n xs is fits = sym (part-by n xs is) ∙ take_all n xs fits
 
-part-full : (text rest : List ℕ) → length text ≡ 65537 → page_part (text ++ rest) ≡ text
-part-full text rest full = sym (part-by (length text) (text ++ rest) full) ∙ take_at text rest (length text) refl
-
--- what was taken of a source up to its end
-pub read_to_end : (old new : Option (List ℕ)) (text : List ℕ) → Consumes old new text → IsAtEnd new → length text ≤ 65537 → IfSome old (λ octets. text ≡ page_part octets)
-read_to_end None new text taken end few = tt
-read_to_end (Some octets) None text taken end few = absurd taken
-read_to_end (Some octets) (Some left) text taken end few =
-    let same : octets ≡ text = taken ∙ ap (λ l. text ++ l) end ∙ append-nil text in sym (ap page_part same ∙ part-all text few)
-
--- what was taken of it as far as is read
-pub read_full : (old new : Option (List ℕ)) (text : List ℕ) → Consumes old new text → length text ≡ 65537 → IfSome old (λ octets. text ≡ page_part octets)
-read_full None new text taken full = tt
-read_full (Some octets) None text taken full = absurd taken
-read_full (Some octets) (Some left) text taken full = sym (ap page_part taken ∙ part-full text left full)
-
--- no octet more
-pub taken_none : (old mid new : Option (List ℕ)) (text : List ℕ) → Consumes old mid text → Consumes mid new [] → Consumes old new text
-taken_none old mid new text taken none = subst (Consumes old new) (append-nil text) (Consumes-trans old mid new text [] taken none)
+-- so much of what a source has left
+pub as-part : (n : ℕ) (left : Option (List ℕ)) (text : List ℕ) → n ≡ 65537 → IfSome left (λ octets. text ≡ take n octets) → IfSome left (λ octets. text ≡ page_part octets)
+as-part n None text is taken = tt
+as-part n (Some octets) text is taken = taken ∙ part-by n octets is
 
 -- where a file is too long, so is the part of it that is read
 part-long : (octets : List ℕ) → PAGE_FILE_MOST < length octets → PAGE_FILE_MOST < length (page_part octets)

@@ -7,6 +7,8 @@ use Rattle.page_texts.specs.declared.code.BoardCode.TheVariants as code
 use Rattle.page_texts.specs.declared.code.BoardInput.TheVariants as input
 use Rattle.page_texts.specs.declared.page_file.TheConstants.{PAGE_FILE_MOST}
 use Rattle.tm_io.specs.Causes.{HasRisen}
+use Rattle.whole_texts.specs.declared.text_fault.TextFault.{TextFault}
+use Rattle.whole_texts.specs.declared.text_fault.TextFault.TheVariants as texts
 
 -- as much of a file as is read: one octet more than it may have
 unfoldable pub page_part : List ℕ → List ℕ
@@ -15,6 +17,11 @@ page_part octets = take (PAGE_FILE_MOST + 1) octets
 -- no line of a file is refused, and its lines are these names
 abbrev pub IsPageOf : List (List ℕ) → List ℕ → Type 0
 IsPageOf names text = (bad_line text ≡ None) × (names ≡ lines text)
+
+-- the end of a board for which a text wasn't read
+abbrev pub stop_code : TextFault → BoardCode
+stop_code texts.Failed = code.PageFault
+stop_code texts.Memory = code.Want
 
 -- with what reading a file may end: it failed, or memory ran out
 abbrev pub IsReadStop : BoardCode → Type 0

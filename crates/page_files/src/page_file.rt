@@ -1,68 +1,38 @@
 // The file of the names of a page.
-ghost use Rattle.std.specs.Prelude.{◌≡◌, ◌≤◌, length, vec_len, IfOk, IfErr, OnOk, IfSome, IsSomeAnd, Some};
+ghost use Rattle.std.specs.Prelude.{◌≡◌, ◌≤◌, length, IfOk, IfErr, OnOk, IfSome, IsSomeAnd, Some};
 ghost use Rattle.display_pages.specs.declared.page.TheConstants.{MOST_CELLS};
-ghost use Rattle.page_files.specs.Files.{HasPageCause, IsPageOf, IsReadStop, RefusesFile, RefusesText, page_part};
+ghost use Rattle.page_files.specs.Files.{HasPageCause, IsPageOf, IsReadStop, RefusesFile, RefusesText, page_part, stop_code};
 
 use mib_model::Name;
 use page_texts::{BoardCode, BoardInput, PAGE_FILE_MOST, PageFileFault, names_in};
-use std::alloc::{AllocError, Global};
+use std::alloc::Global;
 use tm_io::{Shelf, Source};
+use whole_texts::{TextFault, read_up_to};
 
 // The most octets of a file that are read: one more than it may have.
 const READ_MOST: usize = PAGE_FILE_MOST + 1;
 
-// The octets that are read at once.
-const CHUNK_SIZE: usize = 4_096;
-
-// A buffer of so many octets. The size is no literal here, since a proof would write it out as a list.
-fn buffer(alloc: Global, size: usize) -> Result<Vec<u8>, AllocError>
-    ensures { IfOk result (λ buffer. vec_len buffer ≡ size) }
+// The code of a page that wasn't read.
+fn code_of(fault: TextFault) -> BoardCode
+    ensures { result ≡ stop_code fault }
 {
-    Vec::from_elem(alloc, 0, size)
-}
-
-// Reads a source to its end, or to the most octets that are read, in pieces that the buffer has room for.
-fn read_into<S: Source>(
-    source: &mut S,
-    chunk: &mut [u8],
-    text: &mut Vec<u8>,
-) -> Result<(), BoardCode>
-    requires room { 1 ≤ length chunk.old }
-    requires empty { vec_len text.old ≡ 0 }
-    ensures told { OnOk result (IfSome (S.left source.old) (λ octets. text.new.items ≡ page_part octets)) }
-    ensures ok { OnOk result (S.faults source.new ≡ S.faults source.old) }
-    ensures cause { IfErr result (λ code. HasPageCause code (S.faults source.old) (S.faults source.new)) }
-    ensures stop { IfErr result IsReadStop }
-{
-    while text.len() < READ_MOST {
-        let size = chunk.len().min(READ_MOST - text.len());
-        let count = match source.read(&mut chunk[..size]) {
-            Ok(count) => count,
-            Err(_) => return Err(BoardCode::PageFault),
-        };
-        if count == 0 {
-            return Ok(());
-        }
-        if let Err(AllocError) = text.extend_from_slice(&chunk[..count]) {
-            return Err(BoardCode::Want);
-        }
+    match fault {
+        TextFault::Failed => BoardCode::PageFault,
+        TextFault::Memory => BoardCode::Want,
     }
-    Ok(())
 }
 
 // The text of the file that a shelf is turned to, as far as is read.
-fn read_whole<S: Source>(alloc: Global, source: &mut S) -> Result<Vec<u8>, BoardCode>
+fn read_part<S: Source>(alloc: Global, source: &mut S) -> Result<Vec<u8>, BoardCode>
     ensures told { IfOk result (λ text. IfSome (S.left source.old) (λ octets. text.items ≡ page_part octets)) }
     ensures ok { OnOk result (S.faults source.new ≡ S.faults source.old) }
     ensures cause { IfErr result (λ code. HasPageCause code (S.faults source.old) (S.faults source.new)) }
     ensures stop { IfErr result IsReadStop }
 {
-    let Ok(mut chunk) = buffer(alloc, CHUNK_SIZE) else {
-        return Err(BoardCode::Want);
-    };
-    let mut text = Vec::new(alloc);
-    read_into(source, &mut chunk, &mut text)?;
-    Ok(text)
+    match read_up_to(alloc, source, READ_MOST) {
+        Ok(text) => Ok(text),
+        Err(fault) => Err(code_of(fault)),
+    }
 }
 
 // The names that a text is.
@@ -86,7 +56,7 @@ fn read_names<S: Source>(alloc: Global, source: &mut S) -> Result<Vec<Name>, Boa
     ensures ok { OnOk result (S.faults source.new ≡ S.faults source.old) }
     ensures cause { IfErr result (λ code. HasPageCause code (S.faults source.old) (S.faults source.new)) }
 {
-    let text = read_whole(alloc, source)?;
+    let text = read_part(alloc, source)?;
     names_by(alloc, &text)
 }
 

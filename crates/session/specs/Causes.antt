@@ -1,8 +1,10 @@
 -- Which fault comes with which count of faults. [This profile.]
-use Rattle.std.specs.Prelude.{◌≡◌, ℕ, ◌≤◌, ⊤}
+use Rattle.std.specs.Prelude.{◌≡◌, ℕ, ⊤}
 use Rattle.tm_io.specs.Causes.{HasRisen}
 use Rattle.mib_rows.specs.declared.read_fault.ReadFault.{ReadFault}
 use Rattle.mib_rows.specs.declared.read_fault.ReadFault.TheVariants as reads
+use Rattle.whole_texts.specs.declared.text_fault.TextFault.{TextFault}
+use Rattle.whole_texts.specs.declared.text_fault.TextFault.TheVariants as texts
 use Rattle.session.specs.declared.load_fault.LoadFault.{LoadFault}
 use Rattle.session.specs.declared.load_fault.LoadFault.TheVariants as faults
 
@@ -15,6 +17,11 @@ HasLoadCause other before now = now ≡ before
 abbrev pub load_fault : ReadFault → LoadFault
 load_fault (reads.Mib fault) = faults.Mib fault
 load_fault reads.Memory = faults.Memory
+
+-- the fault of a load for which a text wasn't read
+abbrev pub stop_fault : TextFault → LoadFault
+stop_fault texts.Failed = faults.Failed
+stop_fault texts.Memory = faults.Memory
 
 -- the faults that reading a file may end with
 abbrev pub IsReadStop : LoadFault → Type 0

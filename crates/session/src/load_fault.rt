@@ -1,5 +1,5 @@
 ghost use Rattle.std.specs.Prelude.{◌≡◌};
-ghost use Rattle.session.specs.Causes.{load_fault};
+ghost use Rattle.session.specs.Causes.{load_fault, stop_fault};
 ghost use Rattle.session.specs.declared.load_fault.LoadFault.TheVariants as faults;
 
 use mib_model::MibFault;
@@ -7,6 +7,7 @@ use mib_rows::ReadFault;
 use std::alloc::AllocError;
 use thiserror::Error;
 use tm_io::Failed;
+use whole_texts::TextFault;
 
 /// Why the tables of a folder could not be loaded.
 #[derive(Clone, Copy, Debug, PartialEq, Eq, Error)]
@@ -28,6 +29,17 @@ impl From<ReadFault> for LoadFault {
         match fault {
             ReadFault::Mib(fault) => LoadFault::Mib(fault),
             ReadFault::Memory => LoadFault::Memory,
+        }
+    }
+}
+
+impl From<TextFault> for LoadFault {
+    ghost from_gives = { λ fault made. made ≡ stop_fault fault };
+
+    fn from(fault: TextFault) -> LoadFault {
+        match fault {
+            TextFault::Failed => LoadFault::Failed,
+            TextFault::Memory => LoadFault::Memory,
         }
     }
 }

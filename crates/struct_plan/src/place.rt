@@ -4,7 +4,7 @@ ghost use Rattle.mib_model.specs.declared.database.Database.{Database};
 ghost use Rattle.mib_model.specs.Fixed.{most_values};
 ghost use Rattle.mib_model.specs.Structures.{group_repeated, times};
 ghost use Rattle.struct_plan.specs.Sources.{Source, Walked};
-ghost use Rattle.bit_field.specs.Taken.{taken};
+ghost use Rattle.bit_field.specs.Taken.{taken, HasSlots, KeepsValues};
 ghost use Rattle.struct_plan.specs.declared.course.Course.{Course};
 ghost use Rattle.struct_plan.specs.Courses.{Gives, IsStructure, walking};
 ghost use Rattle.struct_plan.specs.Groups.{entered, entered_at, rounds, settled, settled_at, size_at, still_to_walk, Enclose, IsOfRows};
@@ -45,16 +45,12 @@ impl Place {
 
     // Puts a group innermost.
     fn push(&mut self, group: Group, values: &mut Values)
-        requires slots { length values.old.slots.now ≡ most_values }
-        requires used { values.old.used ≤ most_values }
+        requires slots { HasSlots values.old }
         requires place { IsPlace values.old self.old }
         ensures at { self.new.at ≡ self.old.at }
         ensures groups { groups values.new self.new ≡ take (most_values - values.old.used + 1) (group ∷ groups values.old self.old) }
         ensures place { IsPlace values.new self.new }
-        ensures taken { taken values.new ≡ taken values.old }
-        ensures used { values.new.used ≡ values.old.used }
-        ensures slots { length values.new.slots.now ≡ most_values }
-        ensures borrow { values.new.slots.ghost_name ≡ values.old.slots.ghost_name }
+        ensures stays { KeepsValues values.old values.new }
     {
         if let Some(outer) = self.inner {
             self.stack.push(outer, values);
@@ -64,17 +60,13 @@ impl Place {
 
     // Goes on behind a row whose group is walked so often: into the group, or past it.
     fn enter(&mut self, size: u16, count: u32, values: &mut Values)
-        requires slots { length values.old.slots.now ≡ most_values }
-        requires used { values.old.used ≤ most_values }
+        requires slots { HasSlots values.old }
         requires place { IsPlace values.old self.old }
         requires room { self.old.at + 1 + size < 2 ^ 32 }
         ensures at { self.new.at ≡ entered_at self.old.at size count }
         ensures groups { groups values.new self.new ≡ take (most_values - values.old.used + 1) (entered self.old.at count (groups values.old self.old)) }
         ensures place { IsPlace values.new self.new }
-        ensures taken { taken values.new ≡ taken values.old }
-        ensures used { values.new.used ≡ values.old.used }
-        ensures slots { length values.new.slots.now ≡ most_values }
-        ensures borrow { values.new.slots.ghost_name ≡ values.old.slots.ghost_name }
+        ensures stays { KeepsValues values.old values.new }
     {
         if count == 0 {
             self.at += 1 + usize::from(size);
@@ -92,8 +84,7 @@ impl Place {
 
     // Goes back to the start of the innermost group where this stands at its end: once less is it to be repeated.
     fn settle(&mut self, structure: &Structure, values: &Values)
-        requires slots { length values.now.slots.now ≡ most_values }
-        requires used { values.now.used ≤ most_values }
+        requires slots { HasSlots values.now }
         requires place { IsPlace values.now self.old }
         requires rows { IsOfRows structure.now.vpds (groups values.now self.old) }
         ensures at { self.new.at ≡ settled_at structure.now.vpds self.old.at (groups values.now self.old) }
@@ -119,8 +110,7 @@ impl Place {
 
     /// Goes on behind a row.
     pub fn pass(&mut self, structure: &Structure, values: &Values)
-        requires slots { length values.now.slots.now ≡ most_values }
-        requires used { values.now.used ≤ most_values }
+        requires slots { HasSlots values.now }
         requires place { IsPlace values.now self.old }
         requires around { Enclose structure.now.vpds self.old.at (self.old.at + 1) (groups values.now self.old) }
         requires room { length structure.now.vpds < 2 ^ 32 }
@@ -134,8 +124,7 @@ impl Place {
 
     /// Goes on behind a row whose group is counted.
     pub fn repeat(&mut self, size: u16, raw: i128, structure: &Structure, values: &mut Values)
-        requires slots { length values.old.slots.now ≡ most_values }
-        requires used { values.old.used ≤ most_values }
+        requires slots { HasSlots values.old }
         requires place { IsPlace values.old self.old }
         requires size { size ≡ size_at structure.now.vpds self.old.at }
         requires some { 0 < size }
@@ -146,10 +135,7 @@ impl Place {
             course (taken values.old)) →
             Gives db source end (walking (still_to_walk structure.now.vpds self.new.at (groups values.new self.new)) course (taken values.new)) }
         ensures among { IsAmong structure.now.vpds values.new self.new }
-        ensures taken { taken values.new ≡ taken values.old }
-        ensures used { values.new.used ≡ values.old.used }
-        ensures slots { length values.new.slots.now ≡ most_values }
-        ensures borrow { values.new.slots.ghost_name ≡ values.old.slots.ghost_name }
+        ensures stays { KeepsValues values.old values.new }
     {
         self.enter(size, rounds_of(raw), values);
         self.settle(structure, values);
@@ -163,8 +149,7 @@ impl Place {
         structure: &Structure,
         values: &mut Values,
     )
-        requires slots { length values.old.slots.now ≡ most_values }
-        requires used { values.old.used ≤ most_values }
+        requires slots { HasSlots values.old }
         requires place { IsPlace values.old self.old }
         requires size { size ≡ size_at structure.now.vpds self.old.at }
         requires some { 0 < size }
@@ -177,10 +162,7 @@ impl Place {
             Gives db source end (walking (still_to_walk structure.now.vpds self.new.at (groups values.new self.new)) course (taken values.new)) }
         ensures among { IsAmong structure.now.vpds values.new self.new }
         ensures further { self.new.at ≡ self.old.at + 1 }
-        ensures taken { taken values.new ≡ taken values.old }
-        ensures used { values.new.used ≡ values.old.used }
-        ensures slots { length values.new.slots.now ≡ most_values }
-        ensures borrow { values.new.slots.ghost_name ≡ values.old.slots.ghost_name }
+        ensures stays { KeepsValues values.old values.new }
     {
         self.enter(size, u32::from(count), values);
     }

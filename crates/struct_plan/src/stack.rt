@@ -2,7 +2,7 @@
 ghost use Rattle.std.specs.Prelude.{◌≡◌, ◌+◌, ◌-◌, ◌*◌, ◌<◌, ◌≤◌, [], ◌∷◌, ◌++◌, take, drop, length, min, Option, Some, None};
 ghost use Rattle.mib_model.specs.declared.packet.Value.{Value};
 ghost use Rattle.mib_model.specs.Fixed.{most_values};
-ghost use Rattle.bit_field.specs.Taken.{taken};
+ghost use Rattle.bit_field.specs.Taken.{taken, HasSlots, KeepsSlots, KeepsValues};
 ghost use Rattle.struct_plan.specs.Stacks as Spec;
 ghost use Rattle.struct_plan.specs.Stacks.{inner_in, outer_in, kept, standing, IsWithin, popped};
 
@@ -106,10 +106,7 @@ impl Stack {
         ensures within { IsWithin values.new self.new }
         ensures single { self.new.single ≡ self.old.single }
         ensures count { self.new.count ≡ self.old.count }
-        ensures taken { taken values.new ≡ taken values.old }
-        ensures used { values.new.used ≡ values.old.used }
-        ensures slots { length values.new.slots.now ≡ most_values }
-        ensures borrow { values.new.slots.ghost_name ≡ values.old.slots.ghost_name }
+        ensures stays { KeepsValues values.old values.new }
     {
         if values.used < self.top {
             return;
@@ -129,10 +126,7 @@ impl Stack {
         ensures standing { standing values.new self.new ≡ inner ∷ standing values.old self.old }
         ensures count { self.new.count ≡ self.old.count + 1 }
         ensures within { IsWithin values.new self.new }
-        ensures taken { taken values.new ≡ taken values.old }
-        ensures used { values.new.used ≡ values.old.used }
-        ensures slots { length values.new.slots.now ≡ most_values }
-        ensures borrow { values.new.slots.ghost_name ≡ values.old.slots.ghost_name }
+        ensures stays { KeepsValues values.old values.new }
     {
         self.top -= 1;
         let slot = self.top as usize;
@@ -143,15 +137,11 @@ impl Stack {
 
     /// Puts a group innermost. Where there is no slot for another, the outermost is lost.
     pub fn push(&mut self, group: Group, values: &mut Values)
-        requires slots { length values.old.slots.now ≡ most_values }
-        requires used { values.old.used ≤ most_values }
+        requires slots { HasSlots values.old }
         requires within { IsWithin values.old self.old }
         ensures groups { kept values.new self.new ≡ take (most_values - values.old.used) (group ∷ kept values.old self.old) }
         ensures within { IsWithin values.new self.new }
-        ensures taken { taken values.new ≡ taken values.old }
-        ensures used { values.new.used ≡ values.old.used }
-        ensures slots { length values.new.slots.now ≡ most_values }
-        ensures borrow { values.new.slots.ghost_name ≡ values.old.slots.ghost_name }
+        ensures stays { KeepsValues values.old values.new }
     {
         if values.used == MOST_VALUES {
             return;
@@ -168,8 +158,7 @@ impl Stack {
 
     /// Takes the innermost group off, if there is one.
     pub fn pop(&mut self, values: &Values) -> Option<Group>
-        requires slots { length values.now.slots.now ≡ most_values }
-        requires used { values.now.used ≤ most_values }
+        requires slots { HasSlots values.now }
         requires within { IsWithin values.now self.old }
         ensures groups { popped result (kept values.now self.new) ≡ kept values.now self.old }
         ensures none { result ≡ None → kept values.now self.new ≡ [] }
@@ -198,8 +187,7 @@ impl Stack {
         ensures within { IsWithin values.new self.new }
         ensures taken { taken values.new ≡ taken values.old ++ value ∷ [] }
         ensures used { values.new.used ≡ values.old.used + 1 }
-        ensures slots { length values.new.slots.now ≡ most_values }
-        ensures borrow { values.new.slots.ghost_name ≡ values.old.slots.ghost_name }
+        ensures stays { KeepsSlots values.old values.new }
     {
         self.lose(values);
         self.free_slot(values);

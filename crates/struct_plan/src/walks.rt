@@ -6,7 +6,7 @@ ghost use Rattle.mib_model.specs.Fixed.{most_values};
 ghost use Rattle.mib_model.specs.Soundness.{IsSound};
 ghost use Rattle.mib_model.specs.Structures.{structure, Typed};
 ghost use Rattle.mib_model.specs.Walk.{after_value, structure_values, walk_start};
-ghost use Rattle.bit_field.specs.Taken.{taken};
+ghost use Rattle.bit_field.specs.Taken.{taken, HasSlots, KeepsSlots};
 ghost use Rattle.struct_plan.specs.Courses.{Comes, Given, Gives, GoesOn, HasChosen, IsFurther, IsNear, IsStructure, Leads, Moves, value_or_end, walking};
 ghost use Rattle.struct_plan.specs.Sources.{Source, Walked, on_subject_by};
 ghost use Rattle.struct_plan.specs.Entries as Spec;
@@ -75,8 +75,7 @@ fn give<S: Structures, N: Numbers>(
     course: &mut Course,
     values: &mut Values,
 ) -> Result<i128, WalkEnd>
-    requires slots { length values.old.slots.now ≡ most_values }
-    requires used { values.old.used ≤ most_values }
+    requires slots { HasSlots values.old }
     requires within { IsWithin values.old stack.old }
     ensures given { (end : Walked) (row : VpdRow) (rest : List VpdRow) (t : Option Typed) →
         Spec.field_at (S.tables all.now) course.old.last subject ≡ option_map field_of t →
@@ -86,9 +85,7 @@ fn give<S: Structures, N: Numbers>(
     ensures within { OnOk result (IsWithin values.new stack.new) }
     ensures more { OnOk result (values.new.used ≡ values.old.used + 1) }
     ensures near { OnOk result (IsNear course.new.cursor 0) }
-    ensures used { values.new.used ≤ most_values }
-    ensures slots { length values.new.slots.now ≡ most_values }
-    ensures borrow { values.new.slots.ghost_name ≡ values.old.slots.ghost_name }
+    ensures stays { KeepsSlots values.old values.new }
 {
     let last = course.last;
     let Some(field) = field_at(all, subject, last) else {
@@ -111,8 +108,7 @@ fn go_on(
     course: &mut Course,
     values: &mut Values,
 ) -> Option<Way>
-    requires slots { length values.old.slots.now ≡ most_values }
-    requires used { values.old.used ≤ most_values }
+    requires slots { HasSlots values.old }
     requires place { IsPlace values.old place.old }
     requires size { size ≡ size_at structure.now.vpds place.old.at }
     requires some { after ≡ Then.Repeat → 0 < size }
@@ -126,8 +122,7 @@ fn go_on(
     ensures among { result ≡ None → IsAmong structure.now.vpds values.new place.new }
     ensures cursor { course.new.cursor ≡ course.old.cursor }
     ensures used { values.new.used ≡ values.old.used }
-    ensures slots { length values.new.slots.now ≡ most_values }
-    ensures borrow { values.new.slots.ghost_name ≡ values.old.slots.ghost_name }
+    ensures stays { KeepsSlots values.old values.new }
 {
     match after {
         Then::Choose => Some(Way::Chosen(raw)),
@@ -156,8 +151,7 @@ fn walk_row<S: Structures, N: Numbers>(
     course: &mut Course,
     values: &mut Values,
 ) -> Option<Way>
-    requires slots { length values.old.slots.now ≡ most_values }
-    requires used { values.old.used ≤ most_values }
+    requires slots { HasSlots values.old }
     requires structure { IsStructure (S.tables all.now) structure.now }
     requires among { IsAmong structure.now.vpds values.old place.old }
     requires inside { place.old.at < length structure.now.vpds }
@@ -171,9 +165,7 @@ fn walk_row<S: Structures, N: Numbers>(
     ensures near { result ≡ None → IsNear course.new.cursor place.new.at }
     ensures further { result ≡ None → IsFurther values.old.used place.old.at values.new.used place.new.at }
     ensures chosen { (tpsd : ℤ) → result ≡ Some (Way.Chosen tpsd) → HasChosen values.old.used values.new.used course.new }
-    ensures used { values.new.used ≤ most_values }
-    ensures slots { length values.new.slots.now ≡ most_values }
-    ensures borrow { values.new.slots.ghost_name ≡ values.old.slots.ghost_name }
+    ensures stays { KeepsSlots values.old values.new }
 {
     let entry = structure.entry(place.at);
     let size = entry.size;
@@ -200,16 +192,13 @@ fn walk_structure<S: Structures, N: Numbers>(
     course: &mut Course,
     values: &mut Values,
 ) -> Way
-    requires slots { length values.old.slots.now ≡ most_values }
-    requires used { values.old.used ≤ most_values }
+    requires slots { HasSlots values.old }
     requires structure { IsStructure (S.tables all.now) structure.now }
     requires near { IsNear course.old.cursor 0 }
     ensures comes { (end : Walked) → Gives (S.tables all.now) (N.source numbers.now) end (walking structure.now.vpds course.old (taken values.old)) →
         Comes (S.tables all.now) (N.source numbers.now) end course.new (taken values.new) result }
     ensures chosen { (tpsd : ℤ) → result ≡ Way.Chosen tpsd → HasChosen values.old.used values.new.used course.new }
-    ensures used { values.new.used ≤ most_values }
-    ensures slots { length values.new.slots.now ≡ most_values }
-    ensures borrow { values.new.slots.ghost_name ≡ values.old.slots.ghost_name }
+    ensures stays { KeepsSlots values.old values.new }
 {
     let mut place = Place::new();
     while place.at < structure.len() {
@@ -235,9 +224,7 @@ pub fn walk_by<S: Structures, N: Numbers>(
     ensures values { (dfhsize : ℕ) (end : Walked) → start ≡ 8 * (6 + dfhsize) →
         Gives (S.tables all.now) (N.source numbers.now) end (walk_start (S.tables all.now) (pos tpsd) dfhsize) → (taken values.new, result) ≡ end }
     ensures sound { IsSound (S.tables all.now) }
-    ensures used { values.new.used ≤ most_values }
-    ensures slots { length values.new.slots.now ≡ most_values }
-    ensures borrow { values.new.slots.ghost_name ≡ values.old.slots.ghost_name }
+    ensures stays { KeepsSlots values.old values.new }
 {
     let mut course = Course {
         cursor: i128::from(start),
@@ -267,9 +254,7 @@ pub fn walk<S: Structures>(
     requires slots { length values.old.slots.now ≡ most_values }
     requires used { values.old.used ≡ 0 }
     ensures values { (taken values.new, result) ≡ structure_values (S.tables all.now) (pos tpsd) dfhsize packet.now }
-    ensures used { values.new.used ≤ most_values }
-    ensures slots { length values.new.slots.now ≡ most_values }
-    ensures borrow { values.new.slots.ghost_name ≡ values.old.slots.ghost_name }
+    ensures stays { KeepsSlots values.old values.new }
 {
     let start = 8 * (6 + u64::from(dfhsize));
     match walk_by(all, tpsd, start, &PacketNumbers::new(packet), values) {

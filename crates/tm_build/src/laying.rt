@@ -1,7 +1,7 @@
 // The values that items are in a packet of a row.
 ghost use Rattle.std.specs.Prelude.{◌≡◌, ◌≤◌, take, length, false, Ok, Err, IfOk, IfErr};
 ghost use Rattle.mib_model.specs.Fixed.{has_layout, most_values};
-ghost use Rattle.bit_field.specs.Taken.{taken};
+ghost use Rattle.bit_field.specs.Taken.{taken, KeepsSlots};
 ghost use Rattle.build_rules.specs.Laying as Spec;
 ghost use Rattle.build_rules.specs.Laying.{laid, values_by};
 
@@ -24,9 +24,7 @@ fn lay_structure<N: Numbers>(
     requires slots { length values.old.slots.now ≡ most_values }
     requires used { values.old.used ≡ 0 }
     ensures values { (taken values.new, result) ≡ values_by tables.now row.now (N.source numbers.now) }
-    ensures slots { length values.new.slots.now ≡ most_values }
-    ensures used { values.new.used ≤ most_values }
-    ensures borrow { values.new.slots.ghost_name ≡ values.old.slots.ghost_name }
+    ensures stays { KeepsSlots values.old values.new }
 {
     if tables.structure(i128::from(row.tpsd)).is_none() {
         return WalkEnd::Ended(Ended::Whole);
@@ -45,9 +43,7 @@ fn lay<N: Numbers>(
     requires slots { length values.old.slots.now ≡ most_values }
     requires used { values.old.used ≡ 0 }
     ensures values { (taken values.new, result) ≡ values_by tables.now row.now (N.source numbers.now) }
-    ensures slots { length values.new.slots.now ≡ most_values }
-    ensures used { values.new.used ≤ most_values }
-    ensures borrow { values.new.slots.ghost_name ≡ values.old.slots.ghost_name }
+    ensures stays { KeepsSlots values.old values.new }
 {
     if row.has_layout() {
         let rows = tables.places(row.spid);

@@ -5,7 +5,7 @@ ghost use Rattle.std.specs.Option.{option_copied};
 ghost use Rattle.mib_model.specs.Fixed.{most_values, occurrences};
 ghost use Rattle.mib_model.specs.Parameters as Spec;
 ghost use Rattle.mib_model.specs.Parameters.{parameter};
-ghost use Rattle.bit_field.specs.Taken.{taken};
+ghost use Rattle.bit_field.specs.Taken.{taken, HasSlots, KeepsSlots};
 ghost use Rattle.build_rules.specs.Laying.{values_from};
 ghost use Rattle.tm_build.specs.Lays.{Lays};
 
@@ -23,12 +23,9 @@ fn lay_place<N: Numbers>(
     shape: Shape,
     values: &mut Values,
 ) -> Option<WalkEnd>
-    requires slots { length values.old.slots.now ≡ most_values }
-    requires used { values.old.used ≤ most_values }
+    requires slots { HasSlots values.old }
     ensures lays { Lays (N.source numbers.now) (record { name = name; at = at; shape = shape } ∷ []) result values.old values.new }
-    ensures slots { length values.new.slots.now ≡ most_values }
-    ensures used { values.new.used ≤ most_values }
-    ensures borrow { values.new.slots.ghost_name ≡ values.old.slots.ghost_name }
+    ensures stays { KeepsSlots values.old values.new }
 {
     if values.used == MOST_VALUES {
         return Some(WalkEnd::Ended(Ended::Many));
@@ -70,12 +67,9 @@ fn lay_occurrences<N: Numbers>(
     shape: Shape,
     values: &mut Values,
 ) -> Option<WalkEnd>
-    requires slots { length values.old.slots.now ≡ most_values }
-    requires used { values.old.used ≤ most_values }
+    requires slots { HasSlots values.old }
     ensures lays { Lays (N.source numbers.now) (occurrences row.now (Some shape)) result values.old values.new }
-    ensures slots { length values.new.slots.now ≡ most_values }
-    ensures used { values.new.used ≤ most_values }
-    ensures borrow { values.new.slots.ghost_name ≡ values.old.slots.ghost_name }
+    ensures stays { KeepsSlots values.old values.new }
 {
     let first = first_bit(row.offby, row.offbi);
     for k in 0..row.nbocc {
@@ -112,12 +106,9 @@ fn lay_row<N: Numbers>(
     shape: Option<Shape>,
     values: &mut Values,
 ) -> Option<WalkEnd>
-    requires slots { length values.old.slots.now ≡ most_values }
-    requires used { values.old.used ≤ most_values }
+    requires slots { HasSlots values.old }
     ensures lays { Lays (N.source numbers.now) (occurrences row.now shape) result values.old values.new }
-    ensures slots { length values.new.slots.now ≡ most_values }
-    ensures used { values.new.used ≤ most_values }
-    ensures borrow { values.new.slots.ghost_name ≡ values.old.slots.ghost_name }
+    ensures stays { KeepsSlots values.old values.new }
 {
     match shape {
         Some(shape) => lay_occurrences(numbers, row, shape, values),
@@ -136,9 +127,7 @@ pub fn lay_rows<N: Numbers>(
     requires used { values.old.used ≡ 0 }
     ensures values { (taken values.new, result) ≡ values_from (N.source numbers.now) 0
         (flat_map (λ row. occurrences row (Spec.measured_encoding (parameter parameters.now row.name))) rows.now) }
-    ensures slots { length values.new.slots.now ≡ most_values }
-    ensures used { values.new.used ≤ most_values }
-    ensures borrow { values.new.slots.ghost_name ≡ values.old.slots.ghost_name }
+    ensures stays { KeepsSlots values.old values.new }
 {
     for row in rows {
         let shape = measured_shape(parameters.find(&row.name));

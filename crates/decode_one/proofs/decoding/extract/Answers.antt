@@ -29,7 +29,5 @@ returns-else-tpsd-lt1-clause-values g c =
 pub returns-in_default : goal.returns-in_default
 returns-in_default g c = record {
   values = ap (λ n. (take n c.args.values.now.slots.now, Whole)) c.requires.used ∙ sym (no-values (g.P.Structures.tables c.args.plans.now) c.args.packet.now c.args.found.now c.in_default.not-Spid);
-  used = omega (arith, c.requires.used);
-  slots = c.requires.slots;
-  borrow = refl;
+  stays = record { slots = c.requires.slots; used = omega (arith, c.requires.used); borrow = refl };
 }

@@ -13,7 +13,7 @@ returns-in-Some-clause-reads c =
 pub loop-span-preserved : goal.loop-span-preserved
 loop-span-preserved c = record {
   reads = reads-more c.args.packet.now c.args.spans.now c.loop-span.span-index c.span-item.result None c.args.values.now c.loop-span.values c.read.new.values c.loop-span-test.true c.span-item.is c.loop-span.invariant.reads c.in_default.ensures.reads;
-  slots = c.read.ensures.slots;
-  used = c.read.ensures.used;
-  borrow = c.read.ensures.borrow ∙ c.loop-span.invariant.borrow;
+  slots = c.read.ensures.stays.slots;
+  used = c.read.ensures.stays.used;
+  borrow = c.read.ensures.stays.borrow ∙ c.loop-span.invariant.borrow;
 }

@@ -14,5 +14,5 @@ returns-in_default-clause-reads c = λ rest.
 
 pub returns-clause-reads : goal.returns-clause-reads
 returns-clause-reads c = λ rest.
-    let room : c.push.result ≡ true = c.push.ensures.room ∙ lt-ltb _ _ (omega (arith, c.requires.used, c.if-values-eq-MOST_VALUES.false)) in
+    let room : c.push.result ≡ true = c.push.ensures.room ∙ lt-ltb _ _ (omega (arith, c.requires.slots.used, c.if-values-eq-MOST_VALUES.false)) in
     reads-value _ _ _ _ _ (ne_eqb _ _ c.if-values-eq-MOST_VALUES.false) (some-held _ _ _ _ c.take.ensures c.in-Some.is) ∙ pushed _ _ _ _ _ _ _ _ rest room c.push.ensures.taken c.push.ensures.used (some-given _ _ _ _ c.take.ensures c.in-Some.is)

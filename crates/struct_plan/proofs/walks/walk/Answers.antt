@@ -31,7 +31,5 @@ returns-in-Missing g c =
           (subst (λ (octets : List ℕ). Gives db (of_packet octets) end (walk_start db (pos c.args.tpsd) c.args.dfhsize)) (sym c.new.ensures)
           (packet-gives db c.args.packet.now c.walk_by.ensures.sound (pos c.args.tpsd) c.args.dfhsize)))
           c.in-Missing.is);
-      used = c.walk_by.ensures.used;
-      slots = c.walk_by.ensures.slots;
-      borrow = c.walk_by.ensures.borrow;
+      stays = c.walk_by.ensures.stays;
     }

@@ -42,7 +42,7 @@ pub loop-structure-smaller : goal.loop-structure-smaller
 loop-structure-smaller g c =
     let chosen = c.walk_structure.ensures.chosen c.in-Chosen.chosen c.in-Chosen.is in
     let more = chosen.more in
-    omega (arith, more, c.walk_structure.ensures.used)
+    omega (arith, more, c.walk_structure.ensures.stays.used)
 
 pub loop-structure-preserved : goal.loop-structure-preserved
 loop-structure-preserved g c =
@@ -57,9 +57,9 @@ loop-structure-preserved g c =
           (found-gives db source end c.in-Some.structure.now c.loop-structure.course (taken c.loop-structure.values) (to_z w128 c.loop-structure.next-bits) c.in-Some.ensures.found
           (c.loop-structure.invariant.leads dfhsize end at gives)));
       near = goes.near;
-      used = c.walk_structure.ensures.used;
-      slots = c.walk_structure.ensures.slots;
-      borrow = c.walk_structure.ensures.borrow ∙ c.loop-structure.invariant.borrow;
+      used = c.walk_structure.ensures.stays.used;
+      slots = c.walk_structure.ensures.stays.slots;
+      borrow = c.walk_structure.ensures.stays.borrow ∙ c.loop-structure.invariant.borrow;
     }
 
 pub returns-clause-values : goal.returns-clause-values

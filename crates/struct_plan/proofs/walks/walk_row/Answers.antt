@@ -109,7 +109,7 @@ returns-in-Ok-clause-goes g c = λ end gives.
     let raw : to_z w128 (of_z w128 c.in-Ok.raw) ≡ c.in-Ok.raw = grind (arith, to_z-of_z) in
     let used : length (taken old) ≡ old.used = length-take-le old.used old.slots.now (omega arith) in
     let more : c.give.new.values.used ≡ old.used + 1 = c.in-Ok.ensures.more in
-    let most : c.give.new.values.used ≤ most_values = c.give.ensures.used in
+    let most : c.give.new.values.used ≤ most_values = c.give.ensures.stays.used in
     let gives' : Gives db source end (walking (still_to_walk rows.vpds at gs) course (taken old)) =
     subst (λ (hs : List Group). Gives db source end (walking (still_to_walk rows.vpds at hs) course (taken old))) (sym fewer)
     (gives-fewer db rows c.requires.structure at old-groups entry c.requires.inside c.requires.among.around c.requires.among.ahead c.entry-entry.ensures.size c.entry-entry.ensures.entry

@@ -17,15 +17,15 @@ loop-place-init g c =
     let course = c.args.course.now in
     let first : Place = record { at = 0; inner = None; stack = record { top = most_values; single = None; count = 0 } } in
     let there : first ≡ c.new-place.result = sym c.new-place.ensures in
-    let within : IsWithin values first.stack = record { low = c.requires.used; high = omega arith; count = omega arith; whole = omega arith } in
+    let within : IsWithin values first.stack = record { low = c.requires.slots.used; high = omega arith; count = omega arith; whole = omega arith } in
     let among : IsAmong rows values first = record { kept = record { within = within; alone = λ none. refl }; around = omega arith; ahead = omega arith } in
     record {
       gives = λ end gives. subst (λ (p : Place). Gives db (g.N.Numbers.source c.args.numbers.now) end (walking (still_to_walk rows p.at (groups values p)) course (taken values))) there gives;
       among = subst (IsAmong rows values) there among;
       near = subst (λ (p : Place). IsNear course.cursor p.at) there c.requires.near;
       more = omega arith;
-      used = c.requires.used;
-      slots = c.requires.slots;
+      used = c.requires.slots.used;
+      slots = c.requires.slots.slots;
       borrow = refl;
     }
 
@@ -35,7 +35,7 @@ returns-in-Some-clause-comes g c = λ end gives. c.in-Some.ensures.goes end (c.l
 pub loop-place-smaller : goal.loop-place-smaller
 loop-place-smaller g c =
     fewer-left most_values c.loop-place.values.used c.walk_row.new.values.used c.loop-place.place.at c.walk_row.new.place.at (length c.args.structure.now.vpds)
-    (c.in_default.ensures.further refl) c.walk_row.ensures.used (omega arith)
+    (c.in_default.ensures.further refl) c.walk_row.ensures.stays.used (omega arith)
 
 pub loop-place-preserved : goal.loop-place-preserved
 loop-place-preserved g c =
@@ -44,9 +44,9 @@ loop-place-preserved g c =
       among = c.in_default.ensures.among refl;
       near = c.in_default.ensures.near refl;
       more = later c.loop-place.invariant.more (c.in_default.ensures.further refl);
-      used = c.walk_row.ensures.used;
-      slots = c.walk_row.ensures.slots;
-      borrow = c.walk_row.ensures.borrow ∙ c.loop-place.invariant.borrow;
+      used = c.walk_row.ensures.stays.used;
+      slots = c.walk_row.ensures.stays.slots;
+      borrow = c.walk_row.ensures.stays.borrow ∙ c.loop-place.invariant.borrow;
     }
 
 pub returns-clause-comes : goal.returns-clause-comes

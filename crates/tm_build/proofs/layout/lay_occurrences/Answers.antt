@@ -20,7 +20,7 @@ loop-k-preserved g c =
     let here = subst (λ (n : ℕ). Lays source (record { name = row.name; at = n; shape = c.args.shape } ∷ []) None c.loop-k.values c.lay_place.new.values) place c.in_default.ensures.lays in
     record {
       lays = lays-next source row c.args.shape c.loop-k.k None c.args.values.now c.loop-k.values c.lay_place.new.values c.loop-k.invariant.lays here;
-      slots = c.lay_place.ensures.slots;
-      used = c.lay_place.ensures.used;
-      borrow = c.lay_place.ensures.borrow ∙ c.loop-k.invariant.borrow;
+      slots = c.lay_place.ensures.stays.slots;
+      used = c.lay_place.ensures.stays.used;
+      borrow = c.lay_place.ensures.stays.borrow ∙ c.loop-k.invariant.borrow;
     }

@@ -34,9 +34,9 @@ loop-row-preserved g c =
       lays = subst (λ (places : List Place). Lays source places None c.args.values.now c.lay_row.new.values)
           (sym (rows-more f c.args.rows.now c.loop-row.row-index row c.loop-row-test.true c.row-item.is))
           (lays-append source (flat_map f (take c.loop-row.row-index c.args.rows.now)) (f row) None c.args.values.now c.loop-row.values c.lay_row.new.values c.loop-row.invariant.lays here);
-      slots = c.lay_row.ensures.slots;
-      used = c.lay_row.ensures.used;
-      borrow = c.lay_row.ensures.borrow ∙ c.loop-row.invariant.borrow;
+      slots = c.lay_row.ensures.stays.slots;
+      used = c.lay_row.ensures.stays.used;
+      borrow = c.lay_row.ensures.stays.borrow ∙ c.loop-row.invariant.borrow;
     }
 
 pub returns-clause-values : goal.returns-clause-values

@@ -16,7 +16,7 @@ loop-k-preserved c =
     let here = subst (λ (span : Turns). Reads c.args.packet.now (record { name = span.name; at = c.place-at.result; shape = span.shape } ∷ []) None c.loop-k.values c.read_value.new.values) c.self.view_is c.in_default.ensures.reads in
     record {
       reads = reads-next c.args.packet.now c.args.self.now c.loop-k.k c.place-at.result None c.args.values.now c.loop-k.values c.read_value.new.values c.loop-k.invariant.reads c.place-at.ensures here;
-      slots = c.read_value.ensures.slots;
-      used = c.read_value.ensures.used;
-      borrow = c.read_value.ensures.borrow ∙ c.loop-k.invariant.borrow;
+      slots = c.read_value.ensures.stays.slots;
+      used = c.read_value.ensures.stays.used;
+      borrow = c.read_value.ensures.stays.borrow ∙ c.loop-k.invariant.borrow;
     }

@@ -36,7 +36,7 @@ returns-clause-gives c = λ db source end course is gives.
     let at = c.args.self.now.at in
     let gs : List Group = groups old c.args.self.now in
     let gs' : List Group = groups c.enter.new.values c.enter.new.self in
-    let used : length (taken c.enter.new.values) ≡ old.used = ap length c.enter.ensures.taken ∙ length-take-le old.used old.slots.now (omega arith) in
+    let used : length (taken c.enter.new.values) ≡ old.used = ap length c.enter.ensures.stays.taken ∙ length-take-le old.used old.slots.now (omega arith) in
     let few : length (taken old) ≡ old.used = length-take-le old.used old.slots.now (omega arith) in
     let nested = structure-nested db c.args.structure.now is in
     let raw : to_z w128 (of_z w128 c.args.raw) ≡ c.args.raw = grind (arith, to_z-of_z) in
@@ -45,10 +45,10 @@ returns-clause-gives c = λ db source end course is gives.
     subst (λ k. Gives db source end (walking (group_repeated c.args.size k (still_to_walk rows (at + 1) gs)) course (taken old))) count
     (gives-rounds db source end rows course (taken old) at c.args.size c.args.raw gs nested c.requires.size c.requires.some c.requires.around (omega (arith, few)) gives) in
     let same : Gives db source end (walking (group_repeated c.args.size c.rounds_of.result (still_to_walk rows (at + 1) gs)) course (taken c.enter.new.values)) =
-    subst (λ vs. Gives db source end (walking (group_repeated c.args.size c.rounds_of.result (still_to_walk rows (at + 1) gs)) course vs)) (sym c.enter.ensures.taken) fewer in
+    subst (λ vs. Gives db source end (walking (group_repeated c.args.size c.rounds_of.result (still_to_walk rows (at + 1) gs)) course vs)) (sym c.enter.ensures.stays.taken) fewer in
     let around = behind-around rows at c.enter.new.self.at c.args.size old.used c.rounds_of.result gs gs' c.requires.size c.requires.some c.requires.around c.enter.ensures.at c.enter.ensures.groups in
     let behind = behind-gives rows at c.enter.new.self.at c.args.size old.used c.rounds_of.result gs gs' c.requires.size c.requires.some c.requires.around c.enter.ensures.at c.enter.ensures.groups
-    db source end course (taken c.enter.new.values) nested c.requires.used used same in
+    db source end course (taken c.enter.new.values) nested c.requires.slots.used used same in
     subst (λ todo. Gives db source end (walking todo course (taken c.enter.new.values)))
     (sym (settled-todo rows c.enter.new.self.at c.settle.new.self.at gs' (groups c.enter.new.values c.settle.new.self) around c.settle.ensures.at c.settle.ensures.groups)) behind
 

@@ -25,12 +25,12 @@ returns-clause-gives c = λ db source end course is gives.
     let gs : List Group = groups old c.args.self.now in
     let n = c.from.result in
     let count : c.args.count ≡ n = sym c.from.ensures in
-    let used : length (taken c.enter.new.values) ≡ old.used = ap length c.enter.ensures.taken ∙ length-take-le old.used old.slots.now (omega arith) in
+    let used : length (taken c.enter.new.values) ≡ old.used = ap length c.enter.ensures.stays.taken ∙ length-take-le old.used old.slots.now (omega arith) in
     let same : Gives db source end (walking (group_repeated c.args.size n (still_to_walk rows (at + 1) gs)) course (taken c.enter.new.values)) =
-    subst (λ vs. Gives db source end (walking (group_repeated c.args.size n (still_to_walk rows (at + 1) gs)) course vs)) (sym c.enter.ensures.taken)
+    subst (λ vs. Gives db source end (walking (group_repeated c.args.size n (still_to_walk rows (at + 1) gs)) course vs)) (sym c.enter.ensures.stays.taken)
     (subst (λ k. Gives db source end (walking (group_repeated c.args.size k (still_to_walk rows (at + 1) gs)) course (taken old))) count gives) in
     behind-gives rows at c.enter.new.self.at c.args.size old.used n gs (groups c.enter.new.values c.enter.new.self) c.requires.size c.requires.some c.requires.around c.enter.ensures.at c.enter.ensures.groups
-    db source end course (taken c.enter.new.values) (structure-nested db c.args.structure.now is) c.requires.used used same
+    db source end course (taken c.enter.new.values) (structure-nested db c.args.structure.now is) c.requires.slots.used used same
 
 pub returns-clause-among : goal.returns-clause-among
 returns-clause-among c =
