@@ -1,6 +1,1 @@
-pub mod OctetFacts
-pub mod PlaceFacts
 pub mod ShapeFacts
-pub mod ShortFacts
-pub mod NearFacts
-pub mod PlainFacts

@@ -3,26 +3,17 @@
 //! A packet's record is appended to `Lines`, a buffer that is reserved once: a head line, a line for each value and each
 //! change of an alarm, and a line that tells how the values end. Each call appends exactly the text that a definition of
 //! `mib_model` gives, in one pass and without taking memory, and says how many octets it may append at most. It rests on
-//! `mib_model` for definitions and types, on `bit_field` for the bits of raw values, on `dec_num` for engineering values and
-//! on `itoa` for digits.
+//! `mib_model` for definitions and types, on `line_text` for words, names and numbers in a line, and on `bit_field` for the bits
+//! of raw values.
 #![tactic(auto)]
 
 mod code;
-mod count;
 mod fault;
-mod field;
 mod lines;
-mod near;
-mod number;
-mod octets;
 mod page;
-mod place;
-mod plain;
 mod raw;
 mod record;
 mod reply;
-mod short;
-mod short_texts;
 mod tail;
 mod value;
 mod written;

@@ -1,8 +1,8 @@
 ghost use Rattle.std.specs.Prelude.{◌≡◌, [], IfOk};
 
 use crate::page::Page;
-use crate::short_texts::ShortTexts;
 use bit_field::MOST_VALUES;
+use line_text::ShortTexts;
 use mib_model::Line;
 use std::alloc::{AllocError, Global};
 use std::marker::Model;

@@ -7,12 +7,11 @@ ghost use Rattle.mib_model.specs.Kept.{has_number};
 ghost use Rattle.mib_model.specs.RawTexts as Spec;
 ghost use Rattle.record_text.specs.declared.raw.TheConstants.{RAW_ROOM};
 
-use crate::field::field;
-use crate::number::{add_digits, add_number};
-use crate::octets::{Digits, Quoted, add_hex_number, add_octets_at};
-use crate::place::{add_octet, add_word};
-use crate::short_texts::Shorts;
 use bit_field::number;
+use line_text::{
+    Digits, Quoted, Shorts, add_digits, add_hex_number, add_number, add_octet, add_octets_at,
+    add_word, field,
+};
 use mib_model::{Shape, Sort, Value};
 
 /// The most octets of a raw text: 1,024 octets of 4 octets each, and 4 around them.

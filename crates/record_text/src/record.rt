@@ -7,11 +7,10 @@ ghost use Rattle.record_text.specs.HeadViews.{is_identified};
 ghost use Rattle.record_text.specs.declared.lines.TheConstants.{LINES_ROOM, LINE_MOST, HEAD_ROOM, NOTE_ROOM};
 
 use crate::lines::{LINE_MOST, Lines};
-use crate::number::{add_digits, add_number};
-use crate::octets::add_quoted;
-use crate::place::{add_name, add_octet, add_text, add_word};
-use crate::short_texts::Shorts;
 use itoa::Integer;
+use line_text::{
+    Shorts, add_digits, add_name, add_number, add_octet, add_quoted, add_text, add_word,
+};
 use mib_model::{BadWhy, Change, Class, Ended, Found, Header, Name, Text};
 
 // Appends the service type and subtype.

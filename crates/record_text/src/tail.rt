@@ -5,10 +5,7 @@ ghost use Rattle.mib_model.specs.Texts as Spec;
 ghost use Rattle.record_text.specs.TailViews.{gives, tail_as};
 ghost use Rattle.record_text.specs.declared.tail.TheConstants.{TAIL_ROOM};
 
-use crate::count::add_count;
-use crate::octets::add_quoted;
-use crate::place::add_word;
-use crate::short_texts::Shorts;
+use line_text::{Shorts, add_count, add_quoted, add_word};
 use mib_model::{Cal, Line};
 
 /// The most octets of a tail: a status text of 64 octets.

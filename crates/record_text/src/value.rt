@@ -8,10 +8,9 @@ ghost use Rattle.record_text.specs.ValueParts.{begin_text, end_text};
 ghost use Rattle.record_text.specs.declared.lines.TheConstants.{BEGIN_ROOM, END_ROOM, LINES_ROOM, LINE_MOST, VALUE_ROOM};
 
 use crate::lines::{LINE_MOST, Lines};
-use crate::place::{add_indented, add_octet};
 use crate::raw::add_raw;
-use crate::short_texts::Shorts;
 use crate::tail::{Tail, add_tail};
+use line_text::{Shorts, add_indented, add_octet};
 use mib_model::{Line, Value};
 
 // Appends a value's name and raw text.

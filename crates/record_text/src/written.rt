@@ -3,7 +3,7 @@ ghost use Rattle.std.specs.Prelude.{◌≡◌, ◌≤◌, ◌+◌, ◌++◌, len
 ghost use Rattle.record_text.specs.declared.lines.TheConstants.{LINES_ROOM, LINE_MOST, VALUE_ROOM};
 
 use crate::lines::{LINE_MOST, Lines};
-use crate::place::{add_ends, add_text};
+use line_text::{add_ends, add_text};
 
 // Appends octets at a place of a line, a few of them by two stores.
 #[inline(always)]

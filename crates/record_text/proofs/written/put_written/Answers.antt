@@ -1,5 +1,5 @@
 use Rattle.std.proofs.Common.{arith}
-use Rattle.record_text.proofs.PlaceFacts.{window}
+use Rattle.line_text.proofs.PlaceFacts.{window}
 use Rattle.record_text.proofs.written.put_written.Goals as goal
 
 pub returns-clause-text : goal.returns-clause-text

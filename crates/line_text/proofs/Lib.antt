@@ -1,0 +1,5 @@
+pub mod OctetFacts
+pub mod PlaceFacts
+pub mod ShortFacts
+pub mod NearFacts
+pub mod PlainFacts

@@ -1,0 +1,3 @@
+pub mod PlainTexts
+pub mod ShortTexts
+pub mod NearTexts

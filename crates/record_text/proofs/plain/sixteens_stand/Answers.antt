@@ -1,5 +1,0 @@
-use Rattle.record_text.proofs.PlainFacts.{quoted-itself}
-use Rattle.record_text.proofs.plain.sixteens_stand.Goals as goal
-
-pub returns : goal.returns
-returns c = quoted-itself c.both_stand.result c.args.octets.now c.both_stand.ensures
