@@ -1,7 +1,7 @@
 -- Rows of pid by a key: its APID and the rest of it.
 use Rattle.std.proofs.Common.{◌≡◌, Bool, ◌==◌, ◌&&◌}
 use Rattle.mib_model.specs.declared.rows.PidRow.{PidRow}
-use Rattle.ident_plan.specs.declared.keys.PacketKey.{PacketKey}
+use Rattle.packet_keys.specs.declared.keys.PacketKey.{PacketKey}
 use Rattle.ident_plan.specs.Kins.{is_of}
 use Rattle.ident_plan.proofs.KinFacts.{regroup}
 

@@ -6,11 +6,10 @@ ghost use Rattle.mib_model.specs.Match as Spec;
 ghost use Rattle.ident_plan.specs.Rows.{has_apid};
 ghost use Rattle.mib_model.specs.Match.{service_of, subtype_of, lacks_service, is_criterion, found_with, match_by};
 
-use crate::keys::{ByCriterion, ByPacket, CriterionKey, PacketKey};
 use crate::kin::{Kin, kin_at, kins_of};
-use bit_field::unsigned;
 use first_rows::FirstRows;
 use mib_model::{BadWhy, Found, Header, IDLE_APID, PicRow, PidRow, Steps};
+use packet_keys::{ByCriterion, ByPacket, CriterionKey, PacketKey, discriminants, found_by, types};
 use std::alloc::{AllocError, Global};
 use std::marker::Model;
 use std::sync::ledger::Ledger;
@@ -40,60 +39,6 @@ impl Model for Ident {
 
     ghost invariant = { λ ident. (ident.has_own ≡ list_any has_apid ident.pics) × AreKins ident.pids ident.kins.items
         × (IsTrue ident.is_bare → ident.pics ≡ []) };
-}
-
-// The service type and the subtype: octets 7 and 8 behind a secondary header, else 0 (ECSS-E-70-41A, telemetry packet
-// data field header).
-fn types(packet: &[u8], secondary: bool) -> (u8, u8)
-    requires secondary { secondary ≡ (header_of packet.now).secondary }
-    requires long { IsTrue secondary → 9 ≤ length packet.now }
-    ensures service { result.0 ≡ service_of packet.now }
-    ensures subtype { result.1 ≡ subtype_of packet.now }
-{
-    if secondary {
-        (packet[7], packet[8])
-    } else {
-        (0, 0)
-    }
-}
-
-// The discriminant at an octet offset: 0 where there is no offset or no width, none where it passes the end.
-fn discriminant(packet: &[u8], offset: i32, width: u8) -> Option<u64>
-    requires width { width ≤ 64 }
-    ensures { result ≡ Spec.discriminant packet.now offset width }
-{
-    if offset < 0 || width == 0 {
-        return Some(0);
-    }
-    unsigned(packet, 8 * offset as u64, width)
-}
-
-// The two discriminants by the row of pic that stands for a packet, none where one passes the end.
-fn discriminants(packet: &[u8], row: Option<&PicRow>) -> Option<(u64, u64)>
-    ensures { result ≡ Spec.discriminants packet.now (option_copied row.entry) }
-{
-    let Some(row) = row else {
-        return Some((0, 0));
-    };
-    let first = discriminant(packet, row.pi1_off, row.pi1_wid.bits())?;
-    let second = discriminant(packet, row.pi2_off, row.pi2_wid.bits())?;
-    Some((first, second))
-}
-
-// What a packet of these types is by the row that agrees with it, if there is one.
-fn found_by(row: Option<&PidRow>, service: u8, subtype: u8) -> Found
-    ensures { result ≡ Spec.found_of service subtype (option_copied row.entry) }
-{
-    let Some(row) = row else {
-        return Found::Unknown { service, subtype };
-    };
-    Found::Spid {
-        spid: row.spid,
-        service,
-        subtype,
-        tpsd: row.tpsd,
-        dfhsize: row.dfhsize,
-    }
 }
 
 // Whether a row of the key's APID has the rest of the key.

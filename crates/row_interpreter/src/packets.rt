@@ -4,10 +4,10 @@ ghost use Rattle.std.specs.Option.{option_copied};
 ghost use Rattle.mib_model.specs.Headers.{header_of};
 ghost use Rattle.mib_model.specs.Match as Spec;
 
-use crate::keys::{ByCriterion, ByPacket, ByTitle, CriterionKey, PacketKey};
-use bit_field::unsigned;
+use crate::keys::ByTitle;
 use first_rows::FirstRows;
 use mib_model::{BadWhy, Found, Header, IDLE_APID, PicRow, PidRow, TpcfRow};
+use packet_keys::{ByCriterion, ByPacket, CriterionKey, PacketKey, discriminants, found_by, types};
 use std::alloc::{AllocError, Global};
 use std::marker::Model;
 
@@ -35,60 +35,6 @@ impl Model for PacketRows {
     ghost Value = { PacketTables };
 
     ghost view = { λ rows. record { pid = rows.packets; pic = rows.criteria; tpcf = rows.titles } };
-}
-
-// The service type and the subtype: octets 7 and 8 behind a secondary header, else 0 (ECSS-E-70-41A, telemetry packet
-// data field header).
-fn types(packet: &[u8], secondary: bool) -> (u8, u8)
-    requires secondary { secondary ≡ (header_of packet.now).secondary }
-    requires long { IsTrue secondary → 9 ≤ length packet.now }
-    ensures service { result.0 ≡ Spec.service_of packet.now }
-    ensures subtype { result.1 ≡ Spec.subtype_of packet.now }
-{
-    if secondary {
-        (packet[7], packet[8])
-    } else {
-        (0, 0)
-    }
-}
-
-// The number at an octet offset: 0 where there is no offset or no width, none where it passes the end.
-fn discriminant(packet: &[u8], offset: i32, width: u8) -> Option<u64>
-    requires width { width ≤ 64 }
-    ensures { result ≡ Spec.discriminant packet.now offset width }
-{
-    if offset < 0 || width == 0 {
-        return Some(0);
-    }
-    unsigned(packet, 8 * offset as u64, width)
-}
-
-// The two discriminants of a packet by its criterion, none where one passes the end.
-fn discriminants(packet: &[u8], criterion: Option<&PicRow>) -> Option<(u64, u64)>
-    ensures { result ≡ Spec.discriminants packet.now (option_copied criterion.entry) }
-{
-    let Some(row) = criterion else {
-        return Some((0, 0));
-    };
-    let first = discriminant(packet, row.pi1_off, row.pi1_wid.bits())?;
-    let second = discriminant(packet, row.pi2_off, row.pi2_wid.bits())?;
-    Some((first, second))
-}
-
-// What a packet of these types is by the row that agrees with it, if there is one.
-fn found_of(row: Option<&PidRow>, service: u8, subtype: u8) -> Found
-    ensures { result ≡ Spec.found_of service subtype (option_copied row.entry) }
-{
-    let Some(row) = row else {
-        return Found::Unknown { service, subtype };
-    };
-    Found::Spid {
-        spid: row.spid,
-        service,
-        subtype,
-        tpsd: row.tpsd,
-        dfhsize: row.dfhsize,
-    }
 }
 
 impl PacketRows {
@@ -160,7 +106,7 @@ impl PacketRows {
             pi1_val: values.0,
             pi2_val: values.1,
         });
-        found_of(row, service, subtype)
+        found_by(row, service, subtype)
     }
 
     // What a packet is by its rows, which has a service type and a subtype where it has a secondary header.

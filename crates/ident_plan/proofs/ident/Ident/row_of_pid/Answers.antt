@@ -3,7 +3,7 @@ use Rattle.std.specs.List.{filter, find}
 use Rattle.mib_model.specs.declared.rows.PidRow.{PidRow}
 use Rattle.ident_plan.specs.declared.kin.Kin.{Kin}
 use Rattle.ident_plan.specs.declared.kin.Kin.TheVariants.{Empty, One, More}
-use Rattle.ident_plan.specs.declared.keys.PacketKey.{PacketKey}
+use Rattle.packet_keys.specs.declared.keys.PacketKey.{PacketKey}
 use Rattle.ident_plan.specs.Kins.{is_of, IsKin}
 use Rattle.ident_plan.specs.Rows.{IdentRows}
 use Rattle.ident_plan.proofs.KeyFacts.{rest_of, same, whole_of}

@@ -1,8 +1,8 @@
 -- The keys by which rows of pic and pid are looked up. [This profile.]
 use Rattle.mib_model.specs.declared.rows.PicRow.{PicRow}
 use Rattle.mib_model.specs.declared.rows.PidRow.{PidRow}
-use Rattle.ident_plan.specs.declared.keys.CriterionKey.{CriterionKey}
-use Rattle.ident_plan.specs.declared.keys.PacketKey.{PacketKey}
+use Rattle.packet_keys.specs.declared.keys.CriterionKey.{CriterionKey}
+use Rattle.packet_keys.specs.declared.keys.PacketKey.{PacketKey}
 
 -- the types and the APID of a row of pic
 abbrev pub criterion_key : PicRow → CriterionKey

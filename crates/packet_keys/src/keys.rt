@@ -32,7 +32,7 @@ pub struct ByCriterion;
 
 impl By for ByCriterion {
     ghost use Rattle.std.specs.Prelude.{Some};
-    ghost use Rattle.ident_plan.specs.Keys.{criterion_key};
+    ghost use Rattle.packet_keys.specs.Keys.{criterion_key};
 
     type Row = PicRow;
 
@@ -64,7 +64,7 @@ pub struct ByPacket;
 
 impl By for ByPacket {
     ghost use Rattle.std.specs.Prelude.{Some};
-    ghost use Rattle.ident_plan.specs.Keys.{packet_key};
+    ghost use Rattle.packet_keys.specs.Keys.{packet_key};
 
     type Row = PidRow;
 
