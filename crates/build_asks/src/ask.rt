@@ -12,38 +12,15 @@ ghost use Rattle.build_asks.specs.Asking.{ask_with};
 use crate::words::Words;
 use build_rules::Item;
 use dec_num::{are_digits, digits_number};
+use desk_lines::{LINE_MOST, is_comment, without_return};
 use mib_model::Name;
 use std::alloc::AllocError;
-
-// The most octets of a line that asks for something.
-const LINE_MOST: usize = 4_096;
 
 /// The packet that a line asks for, but for its items.
 #[derive(Clone, Copy)]
 pub struct Ask {
     pub spid: u128,
     pub count: u16,
-}
-
-// A line without the CR at its end.
-fn without_return(line: &[u8]) -> &[u8]
-    ensures { result.now ≡ strip_carriage_return line.now }
-{
-    if line.last() == Some(&b'\r') {
-        &line[..line.len() - 1]
-    } else {
-        line
-    }
-}
-
-// Whether a text is empty or a comment.
-fn is_comment(text: &[u8]) -> bool
-    ensures { result ≡ Lines.is_comment text.now }
-{
-    match text {
-        [] => true,
-        [first, ..] => *first == b'#',
-    }
 }
 
 /// Whether a line of any length asks for nothing: it is empty, or a comment.

@@ -14,4 +14,4 @@ mod request;
 pub use laws::{limit_at_start, long_asks_as_front, still_at_start};
 pub use next_line::NextLine;
 pub use reader::{Bookmark, DeskReader, LINE_ROOM};
-pub use request::{Request, request_of};
+pub use request::{LINE_MOST, Request, is_comment, request_of, without_return};

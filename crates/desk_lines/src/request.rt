@@ -10,7 +10,8 @@ ghost use Rattle.desk_lines.specs.Requests.{asked, cut, from_in, only, table_ord
 use dec_num::{are_digits, digits_number};
 use mib_model::Kind;
 
-const LINE_MOST: usize = 4_096;
+/// The most octets of a line.
+pub const LINE_MOST: usize = 4_096;
 
 /// What a line asks for.
 #[derive(Clone, Copy)]
@@ -32,8 +33,8 @@ pub enum Request<'a> {
     Go,
 }
 
-// A line without the CR at its end.
-fn without_return(line: &[u8]) -> &[u8]
+/// A line without the CR at its end.
+pub fn without_return(line: &[u8]) -> &[u8]
     ensures { result.now ≡ strip_carriage_return line.now }
 {
     if line.last() == Some(&b'\r') {
@@ -43,7 +44,8 @@ fn without_return(line: &[u8]) -> &[u8]
     }
 }
 
-fn is_comment(text: &[u8]) -> bool
+/// Whether a text is empty or a comment.
+pub fn is_comment(text: &[u8]) -> bool
     ensures { result ≡ Spec.is_comment text.now }
 {
     match text {

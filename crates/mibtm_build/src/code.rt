@@ -5,9 +5,8 @@ ghost use Rattle.mibtm_build.specs.Codes as Spec;
 ghost use Rattle.mibtm_build.specs.Codes.{build_line, build_number};
 
 use build_rules::BuildFault;
-use itoa::Buffer;
 use mib_model::{Code, Input, Line, MibFault, Misuse};
-use record_text::code_line;
+use record_text::{add_number, code_line};
 
 /// How a call of `build_tool` ends. There is no feed and there are no replies, so their faults never come.
 #[derive(Clone, Copy)]
@@ -58,15 +57,6 @@ fn add_words(fault: &BuildFault, out: &mut Line)
         BuildFault::Ask => out.add(b"ASK"),
         BuildFault::Memory => out.add(b"MEMORY"),
     }
-}
-
-// Appends a number.
-fn add_number(n: u32, out: &mut Line)
-    requires { length out.old ≤ 1000 }
-    ensures text { out.new ≡ out.old ++ decimal n }
-    ensures room { length out.new ≤ length out.old + 40 }
-{
-    out.add(Buffer::new().format(n).as_bytes());
 }
 
 // Writes the line of a refusal into an empty line.

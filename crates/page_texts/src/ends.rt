@@ -3,9 +3,8 @@ ghost use Rattle.std.specs.Prelude.{◌≡◌, ◌≤◌, ◌++◌, codes, decim
 ghost use Rattle.page_texts.specs.Codes as Spec;
 
 use crate::code::{BoardCode, BoardInput};
-use crate::number::add_number;
 use mib_model::{Code, Input, Line};
-use record_text::code_line;
+use record_text::{add_number, code_line};
 
 // Writes the line of a file of names that is refused into an empty line.
 fn add_bad_page(line: u32, out: &mut Line)

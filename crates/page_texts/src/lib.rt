@@ -9,7 +9,6 @@ mod code;
 mod ends;
 mod laws;
 mod lines;
-mod number;
 mod page_file;
 mod page_text;
 

@@ -10,9 +10,9 @@ ghost use Rattle.tm_io.specs.Octets.{AppendsPrefix};
 ghost use Rattle.page_texts.specs.Written.{Passes};
 ghost use Rattle.page_texts.specs.declared.page_text.TheConstants.{CELL_ROOM, GATHERED_MOST};
 
-use crate::number::add_number;
 use display_pages::{Cell, Page};
 use mib_model::{Class, Line, Name};
+use record_text::add_number;
 use tm_io::{Failed, Sink, write_all};
 
 // The most octets of a line of a page.

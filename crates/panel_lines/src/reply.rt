@@ -4,9 +4,8 @@ ghost use Rattle.mib_model.specs.Replies.{desk_line, reply_text};
 ghost use Rattle.mib_model.specs.declared.line.TheConstants.{LINE_ROOM};
 ghost use Rattle.panel_lines.specs.Replies.{told};
 
-use itoa::Buffer;
 use mib_model::{Line, Reply};
-use record_text::reply_line;
+use record_text::{add_number, reply_line};
 
 /// The answer to a line of a desk among several.
 #[derive(Clone, Copy, Debug, PartialEq, Eq)]
@@ -27,7 +26,7 @@ fn add_numbered(word: &[u8], number: u32, out: &mut Line)
     ensures room { length out.new ≤ length out.old + 50 }
 {
     out.add(word);
-    out.add(Buffer::new().format(number).as_bytes());
+    add_number(number, out);
 }
 
 // Appends the line of a reply that a single desk has too.

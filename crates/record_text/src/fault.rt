@@ -7,8 +7,8 @@ ghost use Rattle.mib_model.specs.declared.line.TheConstants.{LINE_ROOM};
 use itoa::{Buffer, Integer};
 use mib_model::{Kind, Line, MibCode, MibFault};
 
-/// Appends a number's digits.
-pub(crate) fn add_number<I: Integer>(n: I, out: &mut Line)
+/// Appends a number's digits to a line, in which at least 40 octets are free.
+pub fn add_number<I: Integer>(n: I, out: &mut Line)
     requires { length out.old + 40 ≤ LINE_ROOM }
     ensures text { out.new ≡ out.old ++ I.text n }
     ensures room { length out.new ≤ length out.old + 40 }

@@ -19,6 +19,7 @@ mod value;
 mod written;
 
 pub use code::code_line;
+pub use fault::add_number;
 pub use lines::{
     BEGIN_ROOM, END_ROOM, HEAD_ROOM, LINE_MOST, LINES_ROOM, Lines, NOTE_ROOM, VALUE_ROOM,
 };

@@ -1,20 +1,10 @@
 // The exit statuses of an audit, the lines of its findings and those of its other ends.
-ghost use Rattle.std.specs.Prelude.{◌≡◌, ◌≤◌, ◌+◌, ◌++◌, [], decimal, length};
+ghost use Rattle.std.specs.Prelude.{◌≡◌, ◌≤◌, [], length};
 ghost use Rattle.tm_audit.specs.Codes as Spec;
 
 use crate::code::{AuditCode, AuditInput};
-use itoa::Buffer;
 use mib_model::{Code, Input, Line};
-use record_text::code_line;
-
-// Appends a number.
-fn add_number(number: u32, out: &mut Line)
-    requires { length out.old ≤ 1000 }
-    ensures text { out.new ≡ out.old ++ decimal number }
-    ensures room { length out.new ≤ length out.old + 40 }
-{
-    out.add(Buffer::new().format(number).as_bytes());
-}
+use record_text::{add_number, code_line};
 
 impl AuditCode {
     // The code of a decoding that ends so too; none of an end that an audit alone has.
