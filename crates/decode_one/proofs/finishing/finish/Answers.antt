@@ -1,4 +1,4 @@
-use Rattle.std.proofs.Common.{List, sym, subst}
+use Rattle.std.proofs.Common.{List, sym, subst, take}
 use Rattle.fold_state.specs.Boards.{memory_of}
 use Rattle.fold_state.specs.Demands.{AreDemandsOf}
 use Rattle.fold_state.specs.Entering.{StandsFor}
@@ -14,7 +14,7 @@ pub returns-clause-step : goal.returns-clause-step
 returns-clause-step g c = λ asked m course s demanded alike.
     let db = g.P.Structures.tables c.args.plans.now in
     let all = c.params-params.ensures.slices in
-    let stands = record {
+    let stands : StandsFor asked db c.params-params.result.now c.args.demands.now c.args.board.now (take c.args.half.now.used c.args.values.now) m = record {
       fits = taken-fit db c.params-params.ensures.sound c.args.packet.now c.args.half.now c.args.values.now c.requires.half c.params-params.result.now c.args.board.now all c.requires.board;
       demanded = subst (λ (params : List ParamSlice). AreDemandsOf asked params c.args.demands.now) (sym all) demanded;
       alike = alike;
