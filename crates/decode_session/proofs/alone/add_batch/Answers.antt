@@ -10,7 +10,7 @@ loop-next-init g c =
     let db = g.P.Structures.tables c.args.plans.now in
     record {
       board = refl;
-      adds = λ m serves. (m, serves, [], adds-none db c.args.number (g.S.Source.left (source_of c.args.feed.now)) m _ c.clear.ensures, omega arith);
+      adds = λ m serves. (m, serves, ([], adds-none db c.args.number (g.S.Source.left (source_of c.args.feed.now)) m _ c.clear.ensures, omega arith));
       limit = c.requires.number;
       few = omega arith;
       ahead = λ some. absurd (omega (arith, some));
@@ -22,32 +22,36 @@ loop-next-init g c =
 pub returns-in-Some-clause-adds : goal.returns-in-Some-clause-adds
 returns-in-Some-clause-adds g c = λ m serves.
     let db = g.P.Structures.tables c.args.plans.now in
-    let (middle, serves', packets, adds, is) = c.loop-next.invariant.adds m serves in
+    let (middle, serves', (packets, adds, is)) = c.loop-next.invariant.adds m serves in
     let (ends, kept, same) = c.in-Some.ensures.adds in (
       middle,
       subst (Serves db middle) (sym kept) serves',
-      packets,
-      g.S.Source.left (source_of c.loop-next.feed),
-      adds-same db c.args.number packets _ _ m _ _ [] _ _ refl same adds,
-      is,
-      batch-ends {A = List ℕ} c.in-Some.why packets _ _ ends (λ some. c.loop-next.invariant.ahead (omega (arith, some, is))),
+      (
+        packets,
+        g.S.Source.left (source_of c.loop-next.feed),
+        adds-same db c.args.number packets _ _ m middle middle [] _ _ refl same adds,
+        is,
+        batch-ends {A = List ℕ} c.in-Some.why packets _ _ ends (λ some. c.loop-next.invariant.ahead (omega (arith, some, is))),
+      ),
     )
 
 pub returns-then-next-gt-MOST_PACKETS-clause-adds : goal.returns-then-next-gt-MOST_PACKETS-clause-adds
 returns-then-next-gt-MOST_PACKETS-clause-adds g c = λ m serves.
     let db = g.P.Structures.tables c.args.plans.now in
-    let (middle, serves', packets, adds, is) = c.loop-next.invariant.adds m serves in
-    let (after, still, packet, one) = c.in_default.ensures.adds middle serves' in
+    let (middle, serves', (packets, adds, is)) = c.loop-next.invariant.adds m serves in
+    let (after, still, (packet, one)) = c.in_default.ensures.adds middle serves' in
     let more = packets ++ packet ∷ [] in
     let count : c.loop-next.next + 1 ≡ c.args.number + length more = omega (arith, is, length-append packets (packet ∷ [])) in
     let some : 0 < length more = omega (arith, length-append packets (packet ∷ [])) in (
       after,
       still,
-      more,
-      g.S.Source.left (source_of c.add_next.new.feed),
-      adds-more db c.args.number c.loop-next.next packets (packet ∷ []) _ _ _ m _ _ [] _ _ is adds one,
-      count,
-      (refl {a = g.S.Source.left (source_of c.add_next.new.feed)}, some),
+      (
+        more,
+        g.S.Source.left (source_of c.add_next.new.feed),
+        adds-more db c.args.number c.loop-next.next packets (packet ∷ []) _ _ _ m middle after [] _ _ is adds one,
+        count,
+        (refl {a = g.S.Source.left (source_of c.add_next.new.feed)}, some),
+      ),
     )
 
 pub loop-next-preserved : goal.loop-next-preserved
@@ -57,13 +61,15 @@ loop-next-preserved g c =
     record {
       board = c.add_next.ensures.board ∙ inv.board;
       adds = λ m serves.
-          let (middle, serves', packets, adds, is) = inv.adds m serves in
-          let (after, still, packet, one) = c.in_default.ensures.adds middle serves' in (
+          let (middle, serves', (packets, adds, is)) = inv.adds m serves in
+          let (after, still, (packet, one)) = c.in_default.ensures.adds middle serves' in (
             after,
             still,
-            packets ++ packet ∷ [],
-            adds-more db c.args.number c.loop-next.next packets (packet ∷ []) _ _ _ m _ _ [] _ _ is adds one,
-            omega (arith, is, length-append packets (packet ∷ [])),
+            (
+              packets ++ packet ∷ [],
+              adds-more db c.args.number c.loop-next.next packets (packet ∷ []) _ _ _ m middle after [] _ _ is adds one,
+              omega (arith, is, length-append packets (packet ∷ [])),
+            ),
           );
       limit = let n = c.if-next-gt-MOST_PACKETS.false in omega arith;
       few = let n = c.loop-next-test.true in omega arith;
@@ -75,14 +81,16 @@ loop-next-preserved g c =
 
 pub returns-clause-adds : goal.returns-clause-adds
 returns-clause-adds g c = λ m serves.
-    let (after, still, packets, adds, is) = c.loop-next.invariant.adds m serves in
+    let (after, still, (packets, adds, is)) = c.loop-next.invariant.adds m serves in
     let last = c.loop-next-test.false in
     let some : 0 < length packets = omega (arith, is, last) in (
       after,
       still,
-      packets,
-      g.S.Source.left (source_of c.loop-next.feed),
-      adds,
-      is,
-      (refl {a = g.S.Source.left (source_of c.loop-next.feed)}, some),
+      (
+        packets,
+        g.S.Source.left (source_of c.loop-next.feed),
+        adds,
+        is,
+        (refl {a = g.S.Source.left (source_of c.loop-next.feed)}, some),
+      ),
     )

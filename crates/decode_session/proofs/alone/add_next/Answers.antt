@@ -22,6 +22,5 @@ returns-in-Packet-clause-adds g c =
     let step = c.finish.ensures.step (asked_in (param_slices db)) m course s c.requires.demands serves (comes-to 1 db m c.args.number packet _ same) in (
       (course_after course s).memory,
       step.memory,
-      packet,
-      adds-one db c.args.number packet _ _ m _ _ _ c.in-Packet.ensures.gives.1 c.in-Packet.ensures.gives.2 (exactly step),
+      (packet, adds-one db c.args.number packet _ _ m _ _ _ c.in-Packet.ensures.gives.1 c.in-Packet.ensures.gives.2 (exactly step)),
     )

@@ -51,7 +51,7 @@ finish_batch-requires-clause-demands g c =
 pub finish_batch-requires-clause-ready : goal.finish_batch-requires-clause-ready
 finish_batch-requires-clause-ready g c =
     let db = g.P.Structures.tables c.args.plans.now in
-    subst (All (IsReady db)) (sym c.deref-2.ensures.value)
+    subst (All (IsReady db)) (sym c.deref-in-loop-number.ensures.value)
     (ready-all db c.fill-filled.new.cells.items c.decode_batch.new.cells.items c.decode_batch.ensures.decoded)
 
 pub returns-in_default-finish_batch-clause-ran : goal.returns-in_default-finish_batch-clause-ran
@@ -64,7 +64,7 @@ returns-in_default-finish_batch-clause-ran g c =
     (subst (λ (n : ℕ). HasFillCause c.fill-filled.result n (g.S.Source.faults (source_of c.fill-filled.new.feed))) c.loop-number.invariant.feed c.fill-filled.ensures.cause)
     (g.S.Source.left (source_of c.args.feed.now)) (g.S.Source.left (source_of c.loop-number.feed)) c.fill-filled.ensures.fills.0 (g.S.Source.left (source_of c.fill-filled.new.feed)) (g.O.Sink.written c.args.out.now) (g.O.Sink.written c.hand_on_before_wait.new.out) (g.O.Sink.written c.finish_batch.new.out)
     c.fill-filled.ensures.fills.1 c.fill-filled.ensures.fills.2
-    (subst (λ (cs : List Cell). AppendsPrefix (g.O.Sink.written c.hand_on_before_wait.new.out) (g.O.Sink.written c.finish_batch.new.out) (batch_text 1 db m (all_stamped 1 db cs))) c.deref-2.ensures.value (c.in_default-finish_batch.ensures.part 1 m c.loop-number.invariant.going.1))
+    (subst (λ (cs : List Cell). AppendsPrefix (g.O.Sink.written c.hand_on_before_wait.new.out) (g.O.Sink.written c.finish_batch.new.out) (batch_text 1 db m (all_stamped 1 db cs))) c.deref-in-loop-number.ensures.value (c.in_default-finish_batch.ensures.part 1 m c.loop-number.invariant.going.1))
     (going-same db c.loop-number.number m (g.S.Source.left (source_of c.args.feed.now)) (g.S.Source.left (source_of c.loop-number.feed))
     (g.O.Sink.written c.args.out.now) (g.O.Sink.written c.loop-number.out) (g.O.Sink.written c.hand_on_before_wait.new.out) c.hand_on_before_wait.ensures.written c.loop-number.invariant.going.2)
 
@@ -90,8 +90,8 @@ loop-number-preserved g c =
           (going-batch db c.loop-number.number m c.fill-filled.new.cells.items c.decode_batch.new.cells.items c.decode_batch.ensures.decoded
           led.0 (g.S.Source.left (source_of c.args.feed.now)) (g.S.Source.left (source_of c.loop-number.feed)) c.in-Paused.ensures.fills.0
           (g.O.Sink.written c.args.out.now) (g.O.Sink.written c.hand_on_before_wait.new.out) (g.O.Sink.written c.finish_batch.new.out) c.in-Paused.ensures.fills.1
-          (subst (λ (cs : List Cell). Appends (g.O.Sink.written c.hand_on_before_wait.new.out) (g.O.Sink.written c.finish_batch.new.out) (batch_text 1 db m (all_stamped 1 db cs))) c.deref-2.ensures.value (c.in-Ok-finish_batch.ensures.all 1 m c.loop-number.invariant.going.1))
-          (subst (λ (cs : List Cell). LeavesAfter 1 db m (all_stamped 1 db cs) led.0) c.deref-2.ensures.value led.2)
+          (subst (λ (cs : List Cell). Appends (g.O.Sink.written c.hand_on_before_wait.new.out) (g.O.Sink.written c.finish_batch.new.out) (batch_text 1 db m (all_stamped 1 db cs))) c.deref-in-loop-number.ensures.value (c.in-Ok-finish_batch.ensures.all 1 m c.loop-number.invariant.going.1))
+          (subst (λ (cs : List Cell). LeavesAfter 1 db m (all_stamped 1 db cs) led.0) c.deref-in-loop-number.ensures.value led.2)
           (going-same db c.loop-number.number m (g.S.Source.left (source_of c.args.feed.now)) (g.S.Source.left (source_of c.loop-number.feed))
           (g.O.Sink.written c.args.out.now) (g.O.Sink.written c.loop-number.out) (g.O.Sink.written c.hand_on_before_wait.new.out) c.hand_on_before_wait.ensures.written c.loop-number.invariant.going.2))));
       feed = c.in-Paused.ensures.cause ∙ c.loop-number.invariant.feed;
@@ -108,8 +108,8 @@ returns-in-End-clause-ran g c =
     (going-batch db c.loop-number.number m c.fill-filled.new.cells.items c.decode_batch.new.cells.items c.decode_batch.ensures.decoded
     led.0 (g.S.Source.left (source_of c.args.feed.now)) (g.S.Source.left (source_of c.loop-number.feed)) c.in-End.ensures.fills.0
     (g.O.Sink.written c.args.out.now) (g.O.Sink.written c.hand_on_before_wait.new.out) (g.O.Sink.written c.finish_batch.new.out) c.in-End.ensures.fills.1
-    (subst (λ (cs : List Cell). Appends (g.O.Sink.written c.hand_on_before_wait.new.out) (g.O.Sink.written c.finish_batch.new.out) (batch_text 1 db m (all_stamped 1 db cs))) c.deref-2.ensures.value (c.in-Ok-finish_batch.ensures.all 1 m c.loop-number.invariant.going.1))
-    (subst (λ (cs : List Cell). LeavesAfter 1 db m (all_stamped 1 db cs) led.0) c.deref-2.ensures.value led.2)
+    (subst (λ (cs : List Cell). Appends (g.O.Sink.written c.hand_on_before_wait.new.out) (g.O.Sink.written c.finish_batch.new.out) (batch_text 1 db m (all_stamped 1 db cs))) c.deref-in-loop-number.ensures.value (c.in-Ok-finish_batch.ensures.all 1 m c.loop-number.invariant.going.1))
+    (subst (λ (cs : List Cell). LeavesAfter 1 db m (all_stamped 1 db cs) led.0) c.deref-in-loop-number.ensures.value led.2)
     (going-same db c.loop-number.number m (g.S.Source.left (source_of c.args.feed.now)) (g.S.Source.left (source_of c.loop-number.feed))
     (g.O.Sink.written c.args.out.now) (g.O.Sink.written c.loop-number.out) (g.O.Sink.written c.hand_on_before_wait.new.out) c.hand_on_before_wait.ensures.written c.loop-number.invariant.going.2))
 
@@ -122,8 +122,8 @@ returns-in-Ok-write_cut-clause-ran g c =
     (going-batch db c.loop-number.number m c.fill-filled.new.cells.items c.decode_batch.new.cells.items c.decode_batch.ensures.decoded
     led.0 (g.S.Source.left (source_of c.args.feed.now)) (g.S.Source.left (source_of c.loop-number.feed)) c.in-Cut.ensures.fills.0
     (g.O.Sink.written c.args.out.now) (g.O.Sink.written c.hand_on_before_wait.new.out) (g.O.Sink.written c.finish_batch.new.out) c.in-Cut.ensures.fills.1
-    (subst (λ (cs : List Cell). Appends (g.O.Sink.written c.hand_on_before_wait.new.out) (g.O.Sink.written c.finish_batch.new.out) (batch_text 1 db m (all_stamped 1 db cs))) c.deref-2.ensures.value (c.in-Ok-finish_batch.ensures.all 1 m c.loop-number.invariant.going.1))
-    (subst (λ (cs : List Cell). LeavesAfter 1 db m (all_stamped 1 db cs) led.0) c.deref-2.ensures.value led.2)
+    (subst (λ (cs : List Cell). Appends (g.O.Sink.written c.hand_on_before_wait.new.out) (g.O.Sink.written c.finish_batch.new.out) (batch_text 1 db m (all_stamped 1 db cs))) c.deref-in-loop-number.ensures.value (c.in-Ok-finish_batch.ensures.all 1 m c.loop-number.invariant.going.1))
+    (subst (λ (cs : List Cell). LeavesAfter 1 db m (all_stamped 1 db cs) led.0) c.deref-in-loop-number.ensures.value led.2)
     (going-same db c.loop-number.number m (g.S.Source.left (source_of c.args.feed.now)) (g.S.Source.left (source_of c.loop-number.feed))
     (g.O.Sink.written c.args.out.now) (g.O.Sink.written c.loop-number.out) (g.O.Sink.written c.hand_on_before_wait.new.out) c.hand_on_before_wait.ensures.written c.loop-number.invariant.going.2))
 
@@ -136,8 +136,8 @@ returns-in-Err-clause-ran g c =
     (going-batch db c.loop-number.number m c.fill-filled.new.cells.items c.decode_batch.new.cells.items c.decode_batch.ensures.decoded
     led.0 (g.S.Source.left (source_of c.args.feed.now)) (g.S.Source.left (source_of c.loop-number.feed)) c.in-Cut.ensures.fills.0
     (g.O.Sink.written c.args.out.now) (g.O.Sink.written c.hand_on_before_wait.new.out) (g.O.Sink.written c.finish_batch.new.out) c.in-Cut.ensures.fills.1
-    (subst (λ (cs : List Cell). Appends (g.O.Sink.written c.hand_on_before_wait.new.out) (g.O.Sink.written c.finish_batch.new.out) (batch_text 1 db m (all_stamped 1 db cs))) c.deref-2.ensures.value (c.in-Ok-finish_batch.ensures.all 1 m c.loop-number.invariant.going.1))
-    (subst (λ (cs : List Cell). LeavesAfter 1 db m (all_stamped 1 db cs) led.0) c.deref-2.ensures.value led.2)
+    (subst (λ (cs : List Cell). Appends (g.O.Sink.written c.hand_on_before_wait.new.out) (g.O.Sink.written c.finish_batch.new.out) (batch_text 1 db m (all_stamped 1 db cs))) c.deref-in-loop-number.ensures.value (c.in-Ok-finish_batch.ensures.all 1 m c.loop-number.invariant.going.1))
+    (subst (λ (cs : List Cell). LeavesAfter 1 db m (all_stamped 1 db cs) led.0) c.deref-in-loop-number.ensures.value led.2)
     (going-same db c.loop-number.number m (g.S.Source.left (source_of c.args.feed.now)) (g.S.Source.left (source_of c.loop-number.feed))
     (g.O.Sink.written c.args.out.now) (g.O.Sink.written c.loop-number.out) (g.O.Sink.written c.hand_on_before_wait.new.out) c.hand_on_before_wait.ensures.written c.loop-number.invariant.going.2))
 
@@ -150,7 +150,7 @@ returns-in-Failed-clause-ran g c =
     (going-batch db c.loop-number.number m c.fill-filled.new.cells.items c.decode_batch.new.cells.items c.decode_batch.ensures.decoded
     led.0 (g.S.Source.left (source_of c.args.feed.now)) (g.S.Source.left (source_of c.loop-number.feed)) c.in-Failed.ensures.fills.0
     (g.O.Sink.written c.args.out.now) (g.O.Sink.written c.hand_on_before_wait.new.out) (g.O.Sink.written c.finish_batch.new.out) c.in-Failed.ensures.fills.1
-    (subst (λ (cs : List Cell). Appends (g.O.Sink.written c.hand_on_before_wait.new.out) (g.O.Sink.written c.finish_batch.new.out) (batch_text 1 db m (all_stamped 1 db cs))) c.deref-2.ensures.value (c.in-Ok-finish_batch.ensures.all 1 m c.loop-number.invariant.going.1))
-    (subst (λ (cs : List Cell). LeavesAfter 1 db m (all_stamped 1 db cs) led.0) c.deref-2.ensures.value led.2)
+    (subst (λ (cs : List Cell). Appends (g.O.Sink.written c.hand_on_before_wait.new.out) (g.O.Sink.written c.finish_batch.new.out) (batch_text 1 db m (all_stamped 1 db cs))) c.deref-in-loop-number.ensures.value (c.in-Ok-finish_batch.ensures.all 1 m c.loop-number.invariant.going.1))
+    (subst (λ (cs : List Cell). LeavesAfter 1 db m (all_stamped 1 db cs) led.0) c.deref-in-loop-number.ensures.value led.2)
     (going-same db c.loop-number.number m (g.S.Source.left (source_of c.args.feed.now)) (g.S.Source.left (source_of c.loop-number.feed))
     (g.O.Sink.written c.args.out.now) (g.O.Sink.written c.loop-number.out) (g.O.Sink.written c.hand_on_before_wait.new.out) c.hand_on_before_wait.ensures.written c.loop-number.invariant.going.2))
