@@ -1,11 +1,14 @@
 -- What is asked of the values of a packet that was decoded, and a step of the interpreter.
-use Rattle.std.proofs.Common.{◌≡◌, ◌∙◌, ℕ, ◌++◌, List, Option, take, true, All, sym, ap, subst}
+use Rattle.std.proofs.Common.{◌≡◌, ◌∙◌, ℕ, Bool, ◌++◌, List, Option, take, true, All, refl, sym, ap, subst}
 use Rattle.std.proofs.lemmas.List.Elements.{All-weaker}
 use Rattle.std.specs.List.{flat_map}
 use Rattle.edition_plans.specs.Params.{param_slices}
 use Rattle.fold_state.specs.Boards.{Slots, plan_names}
 use Rattle.fold_state.specs.Premises.{Fits, HasSlot, IsParamsOf, IsRaw}
 use Rattle.fold_state.specs.Laws.{FinishIsAStep}
+use Rattle.fold_state.specs.Demands.{any_name}
+use Rattle.memory_laws.specs.Alike.{AreAlike}
+use Rattle.memory_laws.proofs.AlikeFacts.{alike-is-same}
 use Rattle.mib_model.specs.declared.database.Database.{Database}
 use Rattle.mib_model.specs.declared.packet.Value.{Value}
 use Rattle.mib_model.specs.Bits.{is_inside}
@@ -20,7 +23,7 @@ use Rattle.mib_model.specs.Walk.{Extracted}
 use Rattle.param_plan.specs.Slices.{ParamSlice}
 use Rattle.decode_one.specs.declared.half.Half.{Half}
 use Rattle.decode_one.specs.Halves.{IsHalf}
-use Rattle.decode_one.specs.Steps.{ComesTo, HasStepped}
+use Rattle.decode_one.specs.Steps.{ComesTo, HasStepped, HasSteppedFor}
 use Rattle.decode_one.specs.Values.{IsValueOf}
 use Rattle.decode_one.proofs.ParamFacts.{params-of, slot-of}
 use Rattle.decode_one.proofs.ValueFacts.{sound-values}
@@ -59,10 +62,10 @@ module _ (db : Database) (sound : IsSound db) (packet : List ℕ) (half : Half) 
   lines_behind head octets tables memory = head ++ flat_map (told_text octets) (all_finished tables (all_entered memory vs) vs).1 ++ ended_text half.ended
 
   -- what was finished by the tables is a step of the interpreter
-  pub has-stepped : FinishIsAStep → (number : ℕ) (title : Option (List ℕ)) (before after : Memory) (old new : List ℕ)
-      → title ≡ title_of db half.found → after ≡ (all_finished db (all_entered before vs) vs).0 → new ≡ old ++ lines_behind (head_text number half.header half.found title) packet db before
-      → (c : Course) (s : StampedPacket) → ComesTo c s number packet db before → HasStepped c s after old new
-  has-stepped steps number title before after old new titled left text c s comes =
+  pub has-stepped : FinishIsAStep → (asked : List ℕ → Bool) (number : ℕ) (title : Option (List ℕ)) (before after : Memory) (old new : List ℕ)
+      → title ≡ title_of db half.found → AreAlike asked (all_finished db (all_entered before vs) vs).0 after → new ≡ old ++ lines_behind (head_text number half.header half.found title) packet db before
+      → (c : Course) (s : StampedPacket) → ComesTo c s number packet db before → HasSteppedFor asked c s after old new
+  has-stepped steps asked number title before after old new titled left text c s comes =
       let given : ◌≡◌ {A = Extracted} (vs, half.ended) (values_of s.tables s.packet (match_of s.tables s.packet)) =
       is.values ∙ sym (λ i. values_of (comes.tables i) (comes.packet i) (match_of (comes.tables i) (comes.packet i))) in
       let step = steps c s vs half.ended given in
@@ -74,5 +77,9 @@ module _ (db : Database) (sound : IsSound db) (packet : List ℕ) (half : Half) 
       let kept : (course_after c s).memory ≡ (all_finished db (all_entered before vs) vs).0 = step.memory ∙ (λ i. (all_finished (comes.tables i) (all_entered (comes.memory i) vs) vs).0) in
       record {
         text = text ∙ ap (λ (t : List ℕ). old ++ t) ((λ i. lines_behind (head_text number (is.header i) (is.found i) (named i)) packet db before) ∙ sym told);
-        memory = kept ∙ sym left;
+        memory = subst (λ (x : Memory). AreAlike asked x after) (sym kept) left;
       }
+
+-- where every name is asked, the step leaves just this memory
+pub stepped-exactly : (c : Course) (s : StampedPacket) (after : Memory) (old new : List ℕ) → HasSteppedFor any_name c s after old new → HasStepped c s after old new
+stepped-exactly c s after old new step = record { text = step.text; memory = alike-is-same any_name (course_after c s).memory after (λ name. refl) step.memory }

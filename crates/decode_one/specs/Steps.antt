@@ -1,5 +1,6 @@
 -- A step of the interpreter, before and after. [This profile.]
-use Rattle.std.specs.Prelude.{◌≡◌, ℕ, List, ◌++◌}
+use Rattle.std.specs.Prelude.{◌≡◌, ℕ, Bool, List, ◌++◌}
+use Rattle.memory_laws.specs.Alike.{AreAlike}
 use Rattle.mib_model.specs.declared.database.Database.{Database}
 use Rattle.mib_model.specs.Interpreter.{Course, StampedPacket, memory_for, record_for, course_after}
 use Rattle.mib_model.specs.Kept.{Memory}
@@ -11,6 +12,12 @@ pub record ComesTo (c : Course) (s : StampedPacket) (count : ℕ) (octets : List
   pub packet : s.packet ≡ octets
   pub tables : s.tables ≡ db
   pub memory : memory_for c s ≡ before
+
+-- the packet's record without its edition stands behind a text, and the step leaves a memory that is alike to this one, as far as names are
+-- asked
+pub record HasSteppedFor (asked : List ℕ → Bool) (c : Course) (s : StampedPacket) (after : Memory) (old new : List ℕ) : Type 0 where
+  pub text : new ≡ old ++ record_body (record_for c s)
+  pub memory : AreAlike asked (course_after c s).memory after
 
 -- the packet's record without its edition stands behind a text, and the step leaves this memory
 pub record HasStepped (c : Course) (s : StampedPacket) (after : Memory) (old new : List ℕ) : Type 0 where

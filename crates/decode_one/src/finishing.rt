@@ -1,18 +1,21 @@
 // The record of a packet that was decoded, what is kept after it, and the lines that are drawn ahead.
-ghost use Rattle.std.specs.Prelude.{◌≡◌, ◌≤◌, ◌+◌, length, take};
+ghost use Rattle.std.specs.Prelude.{◌≡◌, ◌≤◌, ◌+◌, ℕ, Bool, List, length, take};
 ghost use Rattle.std.specs.Option.{option_copied};
 ghost use Rattle.decode_one.specs.Halves.{IsHalf};
-ghost use Rattle.decode_one.specs.Steps.{ComesTo, HasStepped};
+ghost use Rattle.decode_one.specs.Steps.{ComesTo, HasSteppedFor};
 ghost use Rattle.edition_plans.specs.Params.{param_slices};
 ghost use Rattle.fold_state.specs.Boards.{memory_of, plan_names};
+ghost use Rattle.fold_state.specs.Demands.{AreDemandsOf};
 ghost use Rattle.fold_state.specs.declared.finish.TheConstants.{TEXT_BEFORE};
 ghost use Rattle.fold_state.specs.Sketches.{AreShown};
+ghost use Rattle.memory_laws.specs.Alike.{AreAlike};
 ghost use Rattle.mib_model.specs.Interpreter.{Course, StampedPacket, title_of};
+ghost use Rattle.mib_model.specs.Kept.{Memory};
 ghost use Rattle.record_text.specs.declared.lines.TheConstants.{LINES_ROOM, LINE_MOST};
 
 use crate::half::Half;
 use edition_plans::Plans;
-use fold_state::{Board, Drawer, Seen, Sketch, finish_is_a_step};
+use fold_state::{Board, Demand, Drawer, Seen, Sketch, finish_is_a_step};
 use mib_model::{Found, Text, Value};
 use record_text::Lines;
 
@@ -28,12 +31,13 @@ fn title<'a, P: Plans>(plans: &'a P, found: &Found) -> Option<&'a Text>
     }
 }
 
-/// Finishes a packet that was decoded so: appends its record, without the line of its edition, and leaves what is kept. The
-/// board was made for the parameters of these plans, and the text before has at most `TEXT_BEFORE` octets. It takes
-/// no memory.
+/// Finishes a packet that was decoded so: appends its record, without the line of its edition, and leaves what is kept, for each
+/// memory that is alike to what was. The board was made for the parameters of these plans, and the text before has at most
+/// `TEXT_BEFORE` octets. It takes no memory.
 #[inline(always)]
 pub fn finish<P: Plans>(
     plans: &P,
+    demands: &[Demand],
     number: u64,
     packet: &[u8],
     half: &Half,
@@ -45,8 +49,9 @@ pub fn finish<P: Plans>(
     requires board { board.old.names ≡ plan_names (param_slices (P.tables plans.now)) }
     requires room { length out.old ≤ TEXT_BEFORE }
     ensures names { board.new.names ≡ board.old.names }
-    ensures step { (c : Course) (s : StampedPacket) → ComesTo c s number packet.now (P.tables plans.now) (memory_of board.old)
-        → HasStepped c s (memory_of board.new) out.old out.new }
+    ensures step { (asked : List ℕ → Bool) (m : Memory) (c : Course) (s : StampedPacket) → AreDemandsOf asked (param_slices (P.tables plans.now)) demands.now
+        → AreAlike asked m (memory_of board.old) → ComesTo c s number packet.now (P.tables plans.now) m
+        → HasSteppedFor asked c s (memory_of board.new) out.old out.new }
     ensures room { length out.new + LINE_MOST ≤ LINES_ROOM }
 {
     let params = plans.params();
@@ -59,42 +64,7 @@ pub fn finish<P: Plans>(
         values: &values[..half.used as usize],
         title: title(plans, &half.found),
     };
-    board.finish(params, &seen, out);
-    finish_is_a_step();
-}
-
-/// Finishes a packet that was decoded so, of whose values a sketch shows some: as `finish` does.
-#[inline(always)]
-pub fn finish_sketched<P: Plans>(
-    plans: &P,
-    number: u64,
-    packet: &[u8],
-    half: &Half,
-    values: &[Value],
-    sketch: &Sketch,
-    board: &mut Board,
-    out: &mut Lines,
-)
-    requires half { IsHalf (P.tables plans.now) packet.now half.now values.now }
-    requires shown { AreShown (P.tables plans.now) packet.now (take half.now.used values.now) sketch.now }
-    requires board { board.old.names ≡ plan_names (param_slices (P.tables plans.now)) }
-    requires room { length out.old ≤ TEXT_BEFORE }
-    ensures names { board.new.names ≡ board.old.names }
-    ensures step { (c : Course) (s : StampedPacket) → ComesTo c s number packet.now (P.tables plans.now) (memory_of board.old)
-        → HasStepped c s (memory_of board.new) out.old out.new }
-    ensures room { length out.new + LINE_MOST ≤ LINES_ROOM }
-{
-    let params = plans.params();
-    let seen = Seen {
-        number,
-        header: &half.header,
-        found: &half.found,
-        ended: &half.ended,
-        packet,
-        values: &values[..half.used as usize],
-        title: title(plans, &half.found),
-    };
-    board.finish_sketched(params, &seen, sketch, out);
+    board.finish(params, demands, &seen, out);
     finish_is_a_step();
 }
 

@@ -12,6 +12,6 @@ mod finishing;
 mod half;
 mod laws;
 
-pub use finishing::{draw, finish, finish_sketched};
+pub use finishing::{draw, finish};
 pub use half::Half;
 pub use laws::{found_structures_exist, sound_values};

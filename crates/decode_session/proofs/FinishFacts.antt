@@ -1,11 +1,11 @@
 -- Records of packets of one edition, in parts.
-use Rattle.std.proofs.Common.{◌≡◌, ◌<◌, ◌+◌, ℕ, zero, suc, List, [], ◌∷◌, ◌++◌, Option, Some, None, true, cond, ◌==◌, length, take, drop, get_or, refl, sym, ap, ◌∙◌, append-nil, append_assoc, zero-add, arith, subst}
+use Rattle.std.proofs.Common.{◌≡◌, ◌<◌, ◌+◌, ℕ, Bool, zero, suc, List, [], ◌∷◌, ◌++◌, Option, Some, None, true, cond, ◌==◌, length, take, drop, get_or, refl, sym, ap, ◌∙◌, append-nil, append_assoc, zero-add, arith, subst}
 use Rattle.std.proofs.lemmas.List.{take_more, map-append, take-append-drop}
 use Rattle.std.proofs.lemmas.Grind.{flat_map-append}
 use Rattle.std.proofs.KnownBytes.{Appends-trans}
 use Rattle.std.specs.Io.KnownBytes.{Appends}
 use Rattle.tm_io.specs.Octets.{AppendsPrefix}
-use Rattle.decode_one.specs.Steps.{ComesTo, HasStepped}
+use Rattle.decode_one.specs.Steps.{ComesTo, HasStepped, HasSteppedFor}
 use Rattle.decode_session.specs.declared.cell.Cell.{Cell}
 use Rattle.decode_session.specs.Cells.{packet_in, stamped_cell, all_stamped}
 use Rattle.decode_session.specs.Finishing.{standing, next_text, batch_text, Leaves, LeavesAfter}
@@ -17,6 +17,11 @@ use Rattle.mib_model.specs.Kept.{Memory}
 use Rattle.mib_model.specs.Texts.{edition_text_of, record_text, record_body}
 
 -- ---- one packet
+
+-- the step leaves just where it stands
+pub exactly : {asked : List ℕ → Bool} {c : Course} {s : StampedPacket} {kept : Memory} {old new : List ℕ} → HasSteppedFor asked c s kept old new
+    → HasStepped c s (course_after c s).memory old new
+exactly step = record { text = step.text; memory = refl }
 
 same-edition : (edition : ℕ) → (edition == edition) ≡ true
 same-edition edition = search arith

@@ -2,6 +2,9 @@
 use Rattle.std.specs.Prelude.{◌≡◌, ℕ, ◌+◌, List, [], ◌++◌, length, Option, Some, None, ⊤}
 use Rattle.std.specs.List.{All, concat}
 use Rattle.decode_session.specs.Run.{Writes}
+use Rattle.edition_plans.specs.Params.{param_slices}
+use Rattle.fold_state.specs.Demands.{asked_in}
+use Rattle.memory_laws.specs.Alike.{AreAlike}
 use Rattle.mib_model.specs.declared.database.Database.{Database}
 use Rattle.mib_model.specs.Interpreter.{Course, StampedPacket, start, record_for, course_after, interpret, course_after_all, records_text}
 use Rattle.mib_model.specs.Kept.{Memory}
@@ -28,6 +31,19 @@ Leaves edition db memory s after = standing edition db after ≡ course_after (s
 -- this is kept after packets that come there
 abbrev pub LeavesAfter : ℕ → Database → Memory → List StampedPacket → Memory → Type 0
 LeavesAfter edition db memory stamped after = standing edition db after ≡ course_after_all (standing edition db memory) stamped
+
+-- a memory tells the same as what is kept: it differs at most in raw numbers that no plan of a database asks
+abbrev pub Serves : Database → Memory → Memory → Type 0
+Serves db memory kept = AreAlike (asked_in (param_slices db)) memory kept
+
+-- what is kept, before and after, serves for memories of which something is said
+abbrev pub Leads : Database → Memory → Memory → (Memory → Memory → Type 0) → Type 0
+Leads db kept left Says = (memory : Memory) → Serves db memory kept → (after : Memory) × Serves db after left × Says memory after
+
+-- a packet that comes there was finished: what is kept after it, and its record behind a text
+pub record Finishes (edition : ℕ) (db : Database) (s : StampedPacket) (old new : List ℕ) (memory after : Memory) : Type 0 where
+  pub leaves : Leaves edition db memory s after
+  pub text : new ≡ old ++ next_text edition db memory s
 
 -- in a run of edition 1 the packets before the one of this number were read and printed, and this is kept after them
 abbrev pub Going : Database → ℕ → Memory → Option (List ℕ) → Option (List ℕ) → Option (List ℕ) → Option (List ℕ) → Type 0

@@ -2,9 +2,11 @@
 ghost use Rattle.std.specs.Prelude.{◌≡◌, ◌≢◌, ◌+◌, ◌<◌, ◌≤◌, [], Err, MatchOption, length, vec_len, vec_capacity};
 ghost use Rattle.decode_session.specs.Causes.{HasOutCause, HasFeedCause, HasFillCause};
 ghost use Rattle.decode_session.specs.Run.{EndsBy, Ran, most_packets};
+ghost use Rattle.decode_session.specs.Finishing.{Leads};
 ghost use Rattle.decode_session.specs.Turns.{AddsOne, AddsNothing, AddsBatch};
 ghost use Rattle.edition_plans.specs.Params.{param_slices};
 ghost use Rattle.fold_state.specs.Boards.{memory_of, plan_names};
+ghost use Rattle.fold_state.specs.Demands.{AreDemandsOf, asked_in};
 ghost use Rattle.fold_state.specs.declared.finish.TheConstants.{TEXT_BEFORE};
 ghost use Rattle.mib_model.specs.Kept.{empty_memory};
 ghost use Rattle.packet_feed.specs.Feed.{SourceStays, source_of};
@@ -16,7 +18,7 @@ use crate::run::{hand_on_before_wait, write_cut};
 use crate::stock::Stock;
 use decode_one::finish;
 use edition_plans::Plans;
-use fold_state::{Board, TEXT_BEFORE};
+use fold_state::{Board, Demand, TEXT_BEFORE};
 use packet_feed::{Feed, Next};
 use record_text::Lines;
 use tm_io::{Sink, Source, write_all};
@@ -29,16 +31,19 @@ const AT_ONCE: u64 = 16;
 fn add_next<P: Plans, S: Source>(
     number: u64,
     plans: &P,
+    demands: &[Demand],
     feed: &mut Feed<S>,
     room: &mut Room,
     board: &mut Board,
     lines: &mut Lines,
 ) -> Option<Filled>
+    requires demands { AreDemandsOf (asked_in (param_slices (P.tables plans.now))) (param_slices (P.tables plans.now)) demands.now }
     requires board { board.old.names ≡ plan_names (param_slices (P.tables plans.now)) }
     requires room { length lines.old ≤ TEXT_BEFORE }
     ensures board { board.new.names ≡ board.old.names }
     ensures adds { let left = S.left (source_of feed.old) in let new = S.left (source_of feed.new) in
-        MatchOption result (AddsOne (P.tables plans.now) number left new (memory_of board.old) (memory_of board.new) lines.old lines.new)
+        MatchOption result (Leads (P.tables plans.now) (memory_of board.old) (memory_of board.new)
+        (λ m after. AddsOne (P.tables plans.now) number left new m after lines.old lines.new))
         (λ why. AddsNothing why left new (memory_of board.old) (memory_of board.new) lines.old lines.new) }
     ensures cause { let before = S.faults (source_of feed.old) in let now = S.faults (source_of feed.new) in
         MatchOption result (now ≡ before) (λ why. HasFillCause why before now) }
@@ -54,7 +59,7 @@ fn add_next<P: Plans, S: Source>(
         Next::Packet { octets, header } => {
             let packet = &frame.slice()[..octets as usize];
             half.decode(plans, &header, packet, slots.slice_mut());
-            finish(plans, number, packet, half, slots.slice(), board, lines);
+            finish(plans, demands, number, packet, half, slots.slice(), board, lines);
             None
         }
         Next::End => Some(Filled::End),
@@ -68,16 +73,19 @@ fn add_next<P: Plans, S: Source>(
 fn add_batch<P: Plans, S: Source>(
     number: u64,
     plans: &P,
+    demands: &[Demand],
     feed: &mut Feed<S>,
     room: &mut Room,
     board: &mut Board,
     lines: &mut Lines,
 ) -> (u64, Filled)
+    requires demands { AreDemandsOf (asked_in (param_slices (P.tables plans.now))) (param_slices (P.tables plans.now)) demands.now }
     requires number { number ≤ most_packets }
     requires board { board.old.names ≡ plan_names (param_slices (P.tables plans.now)) }
     ensures board { board.new.names ≡ board.old.names }
     ensures adds { let left = S.left (source_of feed.old) in let new = S.left (source_of feed.new) in
-        AddsBatch result.1 (P.tables plans.now) number result.0 left new (memory_of board.old) (memory_of board.new) lines.new }
+        Leads (P.tables plans.now) (memory_of board.old) (memory_of board.new)
+        (λ m after. AddsBatch result.1 (P.tables plans.now) number result.0 left new m after lines.new) }
     ensures few { result.0 ≤ number + AT_ONCE }
     ensures limit { result.0 ≤ most_packets + 1 }
     ensures below { result.1 ≢ Filled.Paused → result.0 ≤ most_packets }
@@ -88,7 +96,7 @@ fn add_batch<P: Plans, S: Source>(
     let end = number + AT_ONCE;
     let mut next = number;
     while next < end {
-        if let Some(why) = add_next(next, plans, feed, room, board, lines) {
+        if let Some(why) = add_next(next, plans, demands, feed, room, board, lines) {
             return (next, why);
         }
         next += 1;
@@ -103,12 +111,14 @@ fn add_batch<P: Plans, S: Source>(
 #[inline(never)]
 fn run_in<P: Plans, S: Source, O: Sink>(
     plans: &P,
+    demands: &[Demand],
     feed: &mut Feed<S>,
     room: &mut Room,
     board: &mut Board,
     lines: &mut Lines,
     out: &mut O,
 ) -> Result<RunEnd, RunFault>
+    requires demands { AreDemandsOf (asked_in (param_slices (P.tables plans.now))) (param_slices (P.tables plans.now)) demands.now }
     requires names { board.old.names ≡ plan_names (param_slices (P.tables plans.now)) }
     requires memory { memory_of board.old ≡ empty_memory }
     ensures ran { let says = EndsBy result (S.faults (source_of feed.old)) (S.faults (source_of feed.new)) in
@@ -123,7 +133,7 @@ fn run_in<P: Plans, S: Source, O: Sink>(
         let Ok(()) = hand_on_before_wait(feed, out) else {
             return Err(RunFault::Print(Stop::Out));
         };
-        let (next, filled) = add_batch(number, plans, feed, room, board, lines);
+        let (next, filled) = add_batch(number, plans, demands, feed, room, board, lines);
         let Ok(()) = write_all(out, lines.bytes()) else {
             return Err(RunFault::Print(Stop::Out));
         };
@@ -151,6 +161,7 @@ pub(crate) fn run_alone<P: Plans, S: Source, O: Sink>(
     out: &mut O,
 ) -> Result<RunEnd, RunFault>
     requires some { 0 < vec_len stock.old.rooms }
+    requires demands { AreDemandsOf (asked_in (param_slices (P.tables plans.now))) (param_slices (P.tables plans.now)) stock.old.demands.items }
     requires names { stock.old.board.names ≡ plan_names (param_slices (P.tables plans.now)) }
     requires memory { memory_of stock.old.board ≡ empty_memory }
     ensures ran { let says = EndsBy result (S.faults (source_of feed.old)) (S.faults (source_of feed.new)) in
@@ -168,6 +179,7 @@ pub(crate) fn run_alone<P: Plans, S: Source, O: Sink>(
     };
     let ended = run_in(
         plans,
+        &stock.demands,
         feed,
         &mut room,
         &mut stock.board,

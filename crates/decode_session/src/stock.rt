@@ -2,6 +2,7 @@
 ghost use Rattle.std.specs.Prelude.{◌≡◌, ◌+◌, ◌<◌, ◌≤◌, [], vec_len, vec_capacity, IfOk, OnOk, OnErr};
 ghost use Rattle.edition_plans.specs.Params.{param_slices};
 ghost use Rattle.fold_state.specs.Boards.{memory_of, plan_names};
+ghost use Rattle.fold_state.specs.Demands.{AreDemandsOf, asked_in};
 ghost use Rattle.mib_model.specs.Kept.{empty_memory};
 ghost use Rattle.decode_session.specs.Homes.{AreOutOf};
 ghost use Rattle.decode_session.specs.Run.{most_in_flight};
@@ -12,7 +13,7 @@ use crate::room::{Buffers, Room};
 use bit_field::{MOST_VALUES, shape_of};
 use decode_one::Half;
 use edition_plans::Plans;
-use fold_state::{Board, Sketch};
+use fold_state::{Board, Demand, Sketch, demands_of};
 use frame_region::Region;
 use mib_model::{Ended, Endian, Found, Header, Name, Shape, Value};
 use packet_feed::PACKET_SIZE;
@@ -37,11 +38,13 @@ pub struct Home {
     slots: Region<Value>,
 }
 
-/// What a run needs: rooms that are free, and cells; what is kept from packet to packet; and the text of a record.
+/// What a run needs: rooms that are free, and cells; what is kept from packet to packet, and what is demanded of values; and the
+/// text of a record.
 pub struct Stock {
     pub rooms: Vec<Room>,
     pub cells: Vec<Cell>,
     pub board: Board,
+    pub demands: Vec<Demand>,
     pub lines: Lines,
 }
 
@@ -52,6 +55,7 @@ impl Drop for Stock {
             rooms: _rooms,
             cells: _cells,
             board: _board,
+            demands: _demands,
             lines: _lines,
         } = self;
     }
@@ -195,12 +199,14 @@ impl Stock {
         ensures rooms { IfOk result (λ stock. rooms ≤ vec_capacity stock.rooms) }
         ensures empty { IfOk result (λ stock. stock.cells.items ≡ []) }
         ensures cells { IfOk result (λ stock. rooms ≤ vec_capacity stock.cells) }
+        ensures demands { IfOk result (λ stock. let params = param_slices (P.tables plans.now) in AreDemandsOf (asked_in params) params stock.demands.items) }
         ensures names { IfOk result (λ stock. stock.board.names ≡ plan_names (param_slices (P.tables plans.now))) }
         ensures memory { IfOk result (λ stock. memory_of stock.board ≡ empty_memory) }
     {
         Ok(Stock {
             cells: Vec::with_capacity(alloc, usize::from(rooms))?,
             board: Board::new(alloc, plans.params())?,
+            demands: demands_of(alloc, plans.params())?,
             lines: Lines::new(alloc)?,
             rooms: home.take_rooms(alloc, rooms)?,
         })
@@ -216,6 +222,7 @@ impl Stock {
             mut rooms,
             mut cells,
             board: _,
+            demands: _,
             lines: _,
         } = self;
         free_rooms(&mut cells, &mut rooms);

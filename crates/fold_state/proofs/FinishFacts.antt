@@ -144,7 +144,7 @@ finish-plain db memory v s is plain =
     let given = no-curve (has_number v.shape.sort) v.raw (curve_in s memory) (plain-curve s plain memory) ∙ given-same db memory v s is in
     finish-valid db memory v s None Plain (memory, None) is valid given refl (ap (checked_by db memory v None) (sym (plain-ocf s plain) ∙ is.ocf))
 
-some-item : {X : Type 0} (xs : List X) (i : ℕ) → i < length xs → X
+pub some-item : {X : Type 0} (xs : List X) (i : ℕ) → i < length xs → X
 some-item [] i below = absurd (omega (arith, below))
 some-item (x ∷ xs) i below = x
 

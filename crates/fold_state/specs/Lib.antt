@@ -1,5 +1,7 @@
 pub mod Boards
 pub mod Places
 pub mod Premises
+pub mod Demands
+pub mod Entering
 pub mod Sketches
 pub mod Laws

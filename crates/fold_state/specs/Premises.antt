@@ -4,7 +4,7 @@ use Rattle.std.specs.Cmp.Lexicographic.{pointwise}
 use Rattle.std.specs.List.{All, find, flat_map}
 use Rattle.std.specs.Str.{bytes_eq}
 use Rattle.check_plan.specs.Rows.{CheckRows}
-use Rattle.fold_state.specs.Boards.{Slots, memory_of, place_of, plan_names}
+use Rattle.fold_state.specs.Boards.{Slots, place_of, plan_names}
 use Rattle.mib_model.specs.declared.packet.Value.{Value}
 use Rattle.mib_model.specs.declared.rows.PcfRow.{PcfRow}
 use Rattle.mib_model.specs.Alarms.{alarm}
@@ -14,7 +14,7 @@ use Rattle.mib_model.specs.Checks.{Sample, checks_of, class_of}
 use Rattle.mib_model.specs.Curves.{curve_of}
 use Rattle.mib_model.specs.declared.database.Database.{Database}
 use Rattle.mib_model.specs.Finish.{CheckedValue, with_alarm, checked_by, finished, all_finished}
-use Rattle.mib_model.specs.Kept.{Memory, all_entered}
+use Rattle.mib_model.specs.Kept.{Memory}
 use Rattle.mib_model.specs.Parameters.{parameter}
 use Rattle.mib_model.specs.Plans.{has_plan}
 use Rattle.mib_model.specs.WholeNumbers.{least_raw, greatest_raw}
@@ -57,12 +57,6 @@ pub record Fits (db : Database) (params : List ParamSlice) (board : Slots) (valu
   pub names : board.names ≡ plan_names params
   pub slots : All (λ v. HasSlot board v.name) values
   pub numbers : All IsRaw values
-
--- the raw numbers of values were entered, and their places noted
-pub record AreEntered (db : Database) (params : List ParamSlice) (vs : List Value) (before after : Slots) (seats : List ℕ) : Type 0 where
-  pub fits : Fits db params after vs
-  pub seated : AreSeated after vs (length vs) seats
-  pub memory : memory_of after ≡ all_entered (memory_of before) vs
 
 -- a value was finished: what is kept after it, and its lines behind a text
 pub record IsFinished (db : Database) (packet : List ℕ) (v : Value) (before after : Memory) (old new : List ℕ) : Type 0 where

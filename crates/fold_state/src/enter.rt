@@ -2,12 +2,13 @@
 ghost use Rattle.std.specs.Prelude.{◌≡◌, ◌≤◌, ◌<◌, Some, length, map, slice_set, take, IsTrue};
 ghost use Rattle.std.specs.List.{All};
 ghost use Rattle.fold_state.specs.Boards.{board_of, memory_of, place_of, slot_name};
+ghost use Rattle.fold_state.specs.Entering.{HasEntered, entered_at};
 ghost use Rattle.fold_state.specs.Places.{Rise};
 ghost use Rattle.fold_state.specs.Premises.{AreSeated, HasSlot, IsRaw};
 ghost use Rattle.mib_model.specs.Kept as Spec;
-ghost use Rattle.mib_model.specs.declared.packet.Value.{Value};
 
 use crate::board::Board;
+use crate::demands::{Demand, is_asked};
 use crate::slot::Slot;
 use crate::value::is_raw;
 use mib_model::{Name, Value};
@@ -24,7 +25,7 @@ fn note_seat(seats: &mut Vec<usize>, k: usize, at: usize)
 
 // Whether the slot at a place has this name.
 #[inline(always)]
-fn is_named(slots: &[Slot], at: usize, name: &Name) -> bool
+pub fn is_named(slots: &[Slot], at: usize, name: &Name) -> bool
     requires { Rise (map slot_name slots.now) }
     ensures within { IsTrue result → at < length slots.now }
     ensures place { IsTrue result → place_of (board_of slots.now) name.now ≡ Some at }
@@ -45,17 +46,36 @@ fn enter_slot(slots: &mut [Slot], at: usize, value: &Value)
     }
 }
 
-// Enters the raw numbers of values, in their order, as long as the slots at these places have their names, notes the places,
-// and tells how many values those are.
+// Enters it where it is asked.
 #[inline(always)]
-fn enter_near(slots: &mut [Slot], values: &[Value], places: &[u32], seats: &mut [usize]) -> usize
+fn enter_asked(slots: &mut [Slot], demands: &[Demand], at: usize, value: &Value)
+    requires { at < length slots.old }
+    ensures names { map slot_name slots.new ≡ map slot_name slots.old }
+    ensures memory { place_of (board_of slots.old) value.now.name ≡ Some at → IsRaw value.now
+        → memory_of (board_of slots.new) ≡ entered_at demands.now at (memory_of (board_of slots.old)) value.now }
+{
+    if is_asked(demands, at) {
+        enter_slot(slots, at, value);
+    }
+}
+
+// Enters the raw numbers of values that are asked, in their order, as long as the slots at these places have their names, notes
+// the places, and tells how many values those are.
+#[inline(always)]
+fn enter_near(
+    slots: &mut [Slot],
+    demands: &[Demand],
+    values: &[Value],
+    places: &[u32],
+    seats: &mut [usize],
+) -> usize
     requires places { length values.now ≤ length places.now }
     requires seats { length values.now ≤ length seats.old }
     requires rise { Rise (map slot_name slots.old) }
     ensures few { result ≤ length values.now }
     ensures names { map slot_name slots.new ≡ map slot_name slots.old }
     ensures seats { AreSeated (board_of slots.old) values.now result seats.new }
-    ensures memory { All IsRaw values.now → memory_of (board_of slots.new) ≡ Spec.all_entered (memory_of (board_of slots.old)) (take result values.now) }
+    ensures memory { All IsRaw values.now → HasEntered demands.now (take result values.now) (board_of slots.old) (board_of slots.new) }
 {
     for k in 0..values.len() {
         let value = &values[k];
@@ -63,7 +83,7 @@ fn enter_near(slots: &mut [Slot], values: &[Value], places: &[u32], seats: &mut 
         if !is_named(slots, at, &value.name) {
             return k;
         }
-        enter_slot(slots, at, value);
+        enter_asked(slots, demands, at, value);
         seats[k] = at;
     }
     values.len()
@@ -73,32 +93,44 @@ impl Board {
     // Enters the raw numbers of the first values, as long as the guesses of their places are right, notes those places, and tells
     // how many values they are.
     #[inline(always)]
-    fn enter_guessed(&mut self, values: &[Value], first: usize, seats: &mut Vec<usize>) -> usize
+    fn enter_guessed(
+        &mut self,
+        demands: &[Demand],
+        values: &[Value],
+        first: usize,
+        seats: &mut Vec<usize>,
+    ) -> usize
         ensures few { result ≤ length values.now }
         ensures names { self.new.names ≡ self.old.names }
         ensures seats { AreSeated self.old values.now result seats.new.items }
-        ensures memory { All IsRaw values.now → memory_of self.new ≡ Spec.all_entered (memory_of self.old) (take result values.now) }
+        ensures memory { All IsRaw values.now → HasEntered demands.now (take result values.now) self.old self.new }
     {
         let places = self.guesses.places(first, values.len());
         if places.len() < values.len() || seats.len() < values.len() {
             return 0;
         }
-        enter_near(&mut self.slots, values, places, seats)
+        enter_near(&mut self.slots, demands, values, places, seats)
     }
 
     // Enters the raw numbers of the first values, as long as these places are theirs, notes the places, and tells how many values
     // they are.
     #[inline(always)]
-    fn enter_hinted(&mut self, values: &[Value], places: &[u32], seats: &mut Vec<usize>) -> usize
+    fn enter_hinted(
+        &mut self,
+        demands: &[Demand],
+        values: &[Value],
+        places: &[u32],
+        seats: &mut Vec<usize>,
+    ) -> usize
         ensures few { result ≤ length values.now }
         ensures names { self.new.names ≡ self.old.names }
         ensures seats { AreSeated self.old values.now result seats.new.items }
-        ensures memory { All IsRaw values.now → memory_of self.new ≡ Spec.all_entered (memory_of self.old) (take result values.now) }
+        ensures memory { All IsRaw values.now → HasEntered demands.now (take result values.now) self.old self.new }
     {
         if places.len() < values.len() || seats.len() < values.len() {
             return 0;
         }
-        enter_near(&mut self.slots, values, places, seats)
+        enter_near(&mut self.slots, demands, values, places, seats)
     }
 
     // Enters the raw numbers of the first values, as long as these places are theirs, or where none are given the guesses from here
@@ -106,6 +138,7 @@ impl Board {
     #[inline(always)]
     fn enter_first(
         &mut self,
+        demands: &[Demand],
         values: &[Value],
         first: usize,
         hints: Option<&[u32]>,
@@ -114,25 +147,26 @@ impl Board {
         ensures few { result ≤ length values.now }
         ensures names { self.new.names ≡ self.old.names }
         ensures seats { AreSeated self.old values.now result seats.new.items }
-        ensures memory { All IsRaw values.now → memory_of self.new ≡ Spec.all_entered (memory_of self.old) (take result values.now) }
+        ensures memory { All IsRaw values.now → HasEntered demands.now (take result values.now) self.old self.new }
     {
         match hints {
-            Some(places) => self.enter_hinted(values, places, seats),
-            None => self.enter_guessed(values, first, seats),
+            Some(places) => self.enter_hinted(demands, values, places, seats),
+            None => self.enter_guessed(demands, values, first, seats),
         }
     }
 
     // Enters the raw number of a value, whose place is looked for where a guess says, and tells the place.
     #[inline(always)]
-    fn enter(&mut self, value: &Value, near: usize) -> usize
+    fn enter(&mut self, demands: &[Demand], value: &Value, near: usize) -> usize
         ensures names { self.new.names ≡ self.old.names }
         ensures seat { HasSlot self.old value.now.name → place_of self.old value.now.name ≡ Some result }
-        ensures memory { HasSlot self.old value.now.name → IsRaw value.now → memory_of self.new ≡ Spec.entered (memory_of self.old) value.now }
+        ensures memory { HasSlot self.old value.now.name → IsRaw value.now
+            → memory_of self.new ≡ entered_at demands.now result (memory_of self.old) value.now }
     {
         let Some(at) = self.place_near(near, &value.name) else {
             return usize::MAX;
         };
-        if is_raw(value) {
+        if is_asked(demands, at) && is_raw(value) {
             self.set_latest(at, value.raw);
         }
         at
@@ -143,6 +177,7 @@ impl Board {
     #[inline(always)]
     pub(crate) fn enter_all(
         &mut self,
+        demands: &[Demand],
         values: &[Value],
         first: usize,
         hints: Option<&[u32]>,
@@ -151,11 +186,11 @@ impl Board {
         ensures names { self.new.names ≡ self.old.names }
         ensures seats { All (λ v. HasSlot self.old v.name) values.now → AreSeated self.old values.now (length values.now) seats.new.items }
         ensures memory { All (λ v. HasSlot self.old v.name) values.now → All IsRaw values.now
-            → memory_of self.new ≡ Spec.all_entered (memory_of self.old) values.now }
+            → HasEntered demands.now values.now self.old self.new }
     {
-        let done = self.enter_first(values, first, hints, seats);
+        let done = self.enter_first(demands, values, first, hints, seats);
         for k in done..values.len() {
-            let at = self.enter(&values[k], first.saturating_add(k));
+            let at = self.enter(demands, &values[k], first.saturating_add(k));
             note_seat(seats, k, at);
         }
     }

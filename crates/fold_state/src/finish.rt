@@ -1,16 +1,18 @@
-ghost use Rattle.std.specs.Prelude.{◌≡◌, ◌≤◌, ◌<◌, ◌+◌, ◌*◌, ◌++◌, List, ℕ, None, Some, length, get_or, option_map, take, true, IsTrue};
+ghost use Rattle.std.specs.Prelude.{◌≡◌, ◌≤◌, ◌<◌, ◌+◌, ◌*◌, ◌++◌, Bool, List, ℕ, None, Some, length, get_or, option_map, take, true, IsTrue};
 ghost use Rattle.std.specs.List.{All, flat_map};
 ghost use Rattle.std.specs.Option.{option_copied};
 ghost use Rattle.fold_state.specs.Boards.{memory_of, place_of, plan_names};
 ghost use Rattle.fold_state.specs.declared.finish.TheConstants.{TEXT_BEFORE};
-ghost use Rattle.fold_state.specs.Premises.{AreEntered, AreFinished, AreSeated, Fits, HasSlot, IsFinished, IsParamsOf, IsRaw, IsSliceOf};
+ghost use Rattle.fold_state.specs.Entering.{AreEntered, AreFinishedFor, StandsFor};
+ghost use Rattle.fold_state.specs.Premises.{AreFinished, AreSeated, Fits, HasSlot, IsFinished, IsParamsOf, IsRaw, IsSliceOf};
+ghost use Rattle.memory_laws.specs.Alike.{AreAlike};
 ghost use Rattle.mib_model.specs.AlarmTexts.{change_text_of};
 ghost use Rattle.mib_model.specs.Bits.{is_inside};
 ghost use Rattle.mib_model.specs.CalibrationViews.{calibrated_as};
 ghost use Rattle.mib_model.specs.declared.database.Database.{Database};
 ghost use Rattle.mib_model.specs.Finish as Spec;
 ghost use Rattle.mib_model.specs.Fixed.{most_values};
-ghost use Rattle.mib_model.specs.Kept.{all_entered};
+ghost use Rattle.mib_model.specs.Kept.{Memory, all_entered};
 ghost use Rattle.mib_model.specs.Tails.{Plain};
 ghost use Rattle.mib_model.specs.Texts.{ended_text, head_text, told_text, value_text};
 ghost use Rattle.param_plan.specs.Plain.{AreMarksOf};
@@ -19,6 +21,8 @@ ghost use Rattle.record_text.specs.TailViews.{tail_as};
 ghost use Rattle.record_text.specs.declared.lines.TheConstants.{LINES_ROOM, LINE_MOST, HEAD_ROOM, VALUE_ROOM, NOTE_ROOM};
 
 use crate::board::Board;
+use crate::demands::Demand;
+use crate::quiet::add_plain_values;
 use crate::value::is_raw;
 use mib_model::{Cal, Change, Ended, Found, Header, Text, Value};
 use param_plan::{Param, Params};
@@ -208,21 +212,22 @@ impl Board {
         }
     }
 
-    /// Enters the raw numbers of values, and gives their places, as far as there are seats for them. The places are looked for where
-    /// hints say, if there are any, and else where the guesses do from here on.
+    /// Enters the raw numbers of values that are asked, and gives the places of all, as far as there are seats for them. The places are
+    /// looked for where hints say, if there are any, and else where the guesses do from here on.
     #[inline(always)]
     pub(crate) fn enter_seated(
         &mut self,
+        demands: &[Demand],
         values: &[Value],
         first: usize,
         hints: Option<&[u32]>,
     ) -> Vec<usize>
         ensures names { self.new.names ≡ self.old.names }
         ensures entered { (db : Database) (params : List ParamSlice) → Fits db params self.old values.now
-            → AreEntered db params values.now self.old self.new result.items }
+            → AreEntered db params demands.now values.now self.old self.new result.items }
     {
         let mut seats = self.take_seats();
-        self.enter_all(values, first, hints, &mut seats);
+        self.enter_all(demands, values, first, hints, &mut seats);
         seats
     }
 
@@ -237,28 +242,78 @@ impl Board {
         ended_line(ended, out);
     }
 
-    /// Finishes the values of a packet: enters their raw numbers, then calibrates and checks each in its order, and appends
-    /// the packet's record without its edition. There are at most 8,192 values, whose bits are in the packet, and the text
-    /// before has at most `TEXT_BEFORE` octets. What is kept and appended is that of the definitions where the board was made
-    /// for these plans, each value's name has a plan, and its number is a raw number; else some text that fits is appended
-    /// and the names stay. It takes no memory.
-    pub fn finish(&mut self, params: &Params, seen: &Seen<'_>, out: &mut Lines)
+    // Enters the raw numbers of a packet's values that are asked, then finishes each in its order, and appends their lines.
+    fn finish_entered(
+        &mut self,
+        params: &Params,
+        demands: &[Demand],
+        seen: &Seen<'_>,
+        first: usize,
+        out: &mut Lines,
+    )
+        requires few { length seen.now.values.now ≤ most_values }
+        requires inside { All (λ v. is_inside seen.now.packet.now v.at v.shape.width ≡ true) seen.now.values.now }
+        requires room { length out.old + most_values * (VALUE_ROOM + NOTE_ROOM) + LINE_MOST ≤ LINES_ROOM }
+        ensures names { self.new.names ≡ self.old.names }
+        ensures finished { (asked : List ℕ → Bool) (db : Database) (m : Memory) → let vs = seen.now.values.now in
+            StandsFor asked db params.now demands.now self.old vs m
+            → AreFinishedFor asked db seen.now.packet.now vs (all_entered m vs) (memory_of self.new) out.old out.new }
+        ensures room { length out.new ≤ length out.old + most_values * (VALUE_ROOM + NOTE_ROOM) }
+    {
+        let seats = self.enter_seated(demands, seen.values, first, None);
+        self.finish_all(params, &seats, seen.values, seen.packet, out);
+        self.give_seats(seats);
+    }
+
+    // Finishes the values of a packet, and appends their lines. Nothing is entered or noted where the raw numbers of all are shown alone,
+    // and none is asked.
+    #[inline(always)]
+    fn finish_values(
+        &mut self,
+        params: &Params,
+        demands: &[Demand],
+        seen: &Seen<'_>,
+        first: usize,
+        out: &mut Lines,
+    )
+        requires few { length seen.now.values.now ≤ most_values }
+        requires inside { All (λ v. is_inside seen.now.packet.now v.at v.shape.width ≡ true) seen.now.values.now }
+        requires room { length out.old + most_values * (VALUE_ROOM + NOTE_ROOM) + LINE_MOST ≤ LINES_ROOM }
+        ensures names { self.new.names ≡ self.old.names }
+        ensures finished { (asked : List ℕ → Bool) (db : Database) (m : Memory) → let vs = seen.now.values.now in
+            StandsFor asked db params.now demands.now self.old vs m
+            → AreFinishedFor asked db seen.now.packet.now vs (all_entered m vs) (memory_of self.new) out.old out.new }
+        ensures room { length out.new ≤ length out.old + most_values * (VALUE_ROOM + NOTE_ROOM) }
+    {
+        if self.are_quiet(demands, seen.values, first) {
+            add_plain_values(seen.values, seen.packet, out);
+        } else {
+            self.finish_entered(params, demands, seen, first, out);
+        }
+    }
+
+    /// Finishes the values of a packet: enters their raw numbers as far as plans ask them, then calibrates and checks each in its
+    /// order, and appends the packet's record without its edition. There are at most 8,192 values, whose bits are in the packet, and
+    /// the text before has at most `TEXT_BEFORE` octets. What is appended is that of the definitions for each memory that is alike to
+    /// what is kept, and what is kept is alike to what they leave, where the board was made for these plans, each value's name has a
+    /// plan, its number is a raw number, and what is asked is demanded; else some text that fits is appended and the names stay. It
+    /// takes no memory.
+    pub fn finish(&mut self, params: &Params, demands: &[Demand], seen: &Seen<'_>, out: &mut Lines)
         requires few { length seen.now.values.now ≤ most_values }
         requires inside { All (λ v. is_inside seen.now.packet.now v.at v.shape.width ≡ true) seen.now.values.now }
         requires room { length out.old ≤ TEXT_BEFORE }
         ensures names { self.new.names ≡ self.old.names }
-        ensures memory { (db : Database) → Fits db params.now self.old seen.now.values.now
-            → memory_of self.new ≡ (Spec.all_finished db (all_entered (memory_of self.old) seen.now.values.now) seen.now.values.now).0 }
-        ensures text { (db : Database) → Fits db params.now self.old seen.now.values.now
+        ensures memory { (asked : List ℕ → Bool) (db : Database) (m : Memory) → StandsFor asked db params.now demands.now self.old seen.now.values.now m
+            → AreAlike asked (Spec.all_finished db (all_entered m seen.now.values.now) seen.now.values.now).0 (memory_of self.new) }
+        ensures text { (asked : List ℕ → Bool) (db : Database) (m : Memory) → StandsFor asked db params.now demands.now self.old seen.now.values.now m
             → out.new ≡ out.old ++ (head_text seen.now.number seen.now.header.now seen.now.found.now (option_copied seen.now.title)
-            ++ flat_map (told_text seen.now.packet.now) (Spec.all_finished db (all_entered (memory_of self.old) seen.now.values.now) seen.now.values.now).1
+            ++ flat_map (told_text seen.now.packet.now) (Spec.all_finished db (all_entered m seen.now.values.now) seen.now.values.now).1
             ++ ended_text seen.now.ended.now) }
         ensures room { length out.new + LINE_MOST ≤ LINES_ROOM }
     {
         head_line(seen.number, seen.header, seen.found, seen.title, out);
         let first = self.begin(params, kind_of(seen.found), seen.values.len());
-        let seats = self.enter_seated(seen.values, first, None);
-        self.finish_all(params, &seats, seen.values, seen.packet, out);
-        self.end(seats, seen.ended, out);
+        self.finish_values(params, demands, seen, first, out);
+        ended_line(seen.ended, out);
     }
 }

@@ -152,7 +152,7 @@ impl Board {
     {
         head_line(seen.number, seen.header, seen.found, seen.title, out);
         self.begin_sketched(params, seen.values, sketch);
-        let seats = self.enter_seated(seen.values, usize::MAX, Some(sketch.places()));
+        let seats = self.enter_seated(&[], seen.values, usize::MAX, Some(sketch.places()));
         self.finish_shown(params, &seats, seen.values, seen.packet, sketch, out);
         self.end(seats, seen.ended, out);
     }

@@ -59,7 +59,7 @@ module _ (asked : List ℕ → Bool) where
       (keeping-alike m n v.name _ _ alike (record { latest = λ h. refl; spoken = (alike v.name).spoken; run = (alike v.name).run; previous = (alike v.name).previous })) alike
 
   -- the raw number of a name that isn't asked
-  one-entered : (m n : Memory) (v : Value) → asked v.name ≡ false → AreAlike asked m n → AreAlike asked (entered m v) n
+  pub one-entered : (m n : Memory) (v : Value) → asked v.name ≡ false → AreAlike asked m n → AreAlike asked (entered m v) n
   one-entered m n v unasked alike = go (has_number v.shape.sort) where
     kept : AreAlike asked (keeping m v.name (record (m v.name) { latest = Some v.raw })) n
     kept other = by (bytes_eq other v.name) refl where
@@ -76,15 +76,18 @@ all_entered-alike : (asked : List ℕ → Bool) (m n : Memory) (vs : List Value)
 all_entered-alike asked m n [] alike = alike
 all_entered-alike asked m n (v ∷ vs) alike = all_entered-alike asked (entered m v) (entered n v) vs (both-entered asked m n v alike)
 
-next-entered : (asked : List ℕ → Bool) (m n : Memory) (v : Value) → AreAlike asked m n → AreAlike asked (entered m v) (entered_if asked n v)
-next-entered asked m n v alike = by (asked v.name) refl where
-  by : (b : Bool) → asked v.name ≡ b → AreAlike asked (entered m v) (cond b (entered n v) n)
-  by true is = both-entered asked m n v alike
+-- one raw number, which is entered in one of them, and in the other at least where its name is asked
+pub entered-where : (asked : List ℕ → Bool) (m n : Memory) (v : Value) (enters : Bool) → (asked v.name ≡ true → enters ≡ true) → AreAlike asked m n
+    → AreAlike asked (entered m v) (cond enters (entered n v) n)
+entered-where asked m n v true asks_it alike = both-entered asked m n v alike
+entered-where asked m n v false asks_it alike = by (asked v.name) refl where
+  by : (b : Bool) → asked v.name ≡ b → AreAlike asked (entered m v) n
+  by true is = absurd (false≢true (asks_it is))
   by false is = one-entered asked m n v is alike
 
 pub entered-alike : EnteredAlike
 entered-alike asked m n [] alike = alike
-entered-alike asked m n (v ∷ vs) alike = entered-alike asked (entered m v) (entered_if asked n v) vs (next-entered asked m n v alike)
+entered-alike asked m n (v ∷ vs) alike = entered-alike asked (entered m v) (entered_if asked n v) vs (entered-where asked m n v (asked v.name) (λ h. h) alike)
 
 -- one value: what is told is the same, and what is kept is alike
 module _ (asked : List ℕ → Bool) (db : Database) (m n : Memory) (alike : AreAlike asked m n) where

@@ -122,6 +122,7 @@ pub(crate) fn finish_alone<P: Plans + Drop>(
     cell.decode(plans);
     finish(
         plans,
+        &[],
         cell.number,
         cell.packet(),
         &cell.buffers.half,

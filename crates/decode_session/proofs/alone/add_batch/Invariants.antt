@@ -1,6 +1,7 @@
 use Rattle.std.proofs.Common.{◌+◌, ◌-◌, ◌≡◌, ◌<◌, ◌≤◌, ℕ, List, [], length}
 use Rattle.std.specs.Prelude.{IfSome}
 use Rattle.decode_session.specs.Run.{most_packets}
+use Rattle.decode_session.specs.Finishing.{Leads}
 use Rattle.decode_session.specs.Turns.{Adds}
 use Rattle.decode_session.proofs.alone.add_batch.Given as goal
 use Rattle.fold_state.specs.Boards.{memory_of}
@@ -10,7 +11,7 @@ use Rattle.packet_feed.specs.Feed.{BeginsWithPacket, SourceStays, source_of}
 abbrev pub invariant-loop-next : goal.invariant-loop-next
 invariant-loop-next g l = record {
   board : l.board.names ≡ l.initial.board.names;
-  adds : (packets : List (List ℕ)) × Adds (g.P.Structures.tables l.plans) l.number packets (g.S.Source.left (source_of l.initial.feed)) (g.S.Source.left (source_of l.feed)) (memory_of l.initial.board) (memory_of l.board) [] l.lines × (l.next ≡ l.number + length packets);
+  adds : Leads (g.P.Structures.tables l.plans) (memory_of l.initial.board) (memory_of l.board) (λ m after. (packets : List (List ℕ)) × Adds (g.P.Structures.tables l.plans) l.number packets (g.S.Source.left (source_of l.initial.feed)) (g.S.Source.left (source_of l.feed)) m after [] l.lines × (l.next ≡ l.number + length packets));
   limit : l.next ≤ most_packets;
   few : l.next ≤ l.number + 16;
   ahead : l.number < l.next → IfSome (g.S.Source.left (source_of l.feed)) BeginsWithPacket;

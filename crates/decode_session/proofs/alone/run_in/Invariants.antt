@@ -1,16 +1,17 @@
 use Rattle.std.proofs.Common.{◌+◌, ◌-◌, ◌≡◌, ◌≤◌}
-use Rattle.decode_session.specs.Finishing.{Going}
+use Rattle.decode_session.specs.Finishing.{Going, Serves}
 use Rattle.decode_session.specs.Run.{most_packets}
 use Rattle.decode_session.proofs.alone.run_in.Given as goal
 use Rattle.edition_plans.specs.Params.{param_slices}
 use Rattle.fold_state.specs.Boards.{memory_of, plan_names}
+use Rattle.mib_model.specs.Kept.{Memory}
 use Rattle.packet_feed.specs.Feed.{SourceStays, source_of}
 
 abbrev pub invariant-loop-number : goal.invariant-loop-number
 invariant-loop-number g l = record {
   names : l.board.names ≡ plan_names (param_slices (g.P.Structures.tables l.plans));
   limit : l.number ≤ most_packets + 1;
-  going : Going (g.P.Structures.tables l.plans) l.number (memory_of l.board) (g.S.Source.left (source_of l.initial.feed)) (g.S.Source.left (source_of l.feed)) (g.O.Sink.written l.initial.out) (g.O.Sink.written l.out);
+  going : (m : Memory) × Serves (g.P.Structures.tables l.plans) m (memory_of l.board) × Going (g.P.Structures.tables l.plans) l.number m (g.S.Source.left (source_of l.initial.feed)) (g.S.Source.left (source_of l.feed)) (g.O.Sink.written l.initial.out) (g.O.Sink.written l.out);
   feed : g.S.Source.faults (source_of l.feed) ≡ g.S.Source.faults (source_of l.initial.feed);
   stays : SourceStays g.S.Source.holds g.S.Source.missed g.S.Source.borrow (source_of l.initial.feed) (source_of l.feed);
   out : g.O.Sink.faults l.out ≡ g.O.Sink.faults l.initial.out;

@@ -1,17 +1,18 @@
-use Rattle.std.proofs.Common.{◌≡◌, ◌∙◌, ◌<◌, List, ℕ, length, take, refl, sym, subst, ap, arith}
-use Rattle.mib_model.specs.Kept.{Memory, all_entered, entered}
-use Rattle.fold_state.specs.Boards.{board_of, memory_of}
+use Rattle.std.proofs.Common.{◌≡◌, ◌∙◌, ◌<◌, List, ℕ, length, take, refl, sym, subst, arith}
+use Rattle.fold_state.specs.Boards.{board_of}
+use Rattle.fold_state.specs.Entering.{HasEntered}
 use Rattle.fold_state.specs.Places.{Rise}
 use Rattle.fold_state.specs.Premises.{IsRaw}
 use Rattle.fold_state.proofs.FinishFacts.{each-item}
-use Rattle.fold_state.proofs.SeatFacts.{entered-more, place-kept, seated-more}
+use Rattle.fold_state.proofs.EnterFacts.{entered-next}
+use Rattle.fold_state.proofs.SeatFacts.{place-kept, seated-more}
 use Rattle.fold_state.proofs.enter.enter_near.Goals as goal
 
 pub loop-k-init : goal.loop-k-init
 loop-k-init c = record {
   names = refl;
   seats = λ k v below within. absurd (omega (arith, below));
-  memory = λ numbers. refl;
+  memory = λ numbers asked m noted alike. alike;
 }
 
 pub is_named-requires : goal.is_named-requires
@@ -38,13 +39,13 @@ loop-k-preserved c =
     let here = c.is_named.ensures.place c.if-not-is_named.false in
     let within : k < length c.loop-k.seats = omega (arith, below, c.requires.seats, c.loop-k.auto.seats) in
     record {
-      names = c.enter_slot.ensures.names ∙ same;
+      names = c.enter_asked.ensures.names ∙ same;
       seats = seated-more board values v k _ c.loop-k.seats below is within
           (place-kept (board_of c.loop-k.slots) board v.name same here) c.loop-k.invariant.seats;
       memory = λ numbers.
           let raw = each-item IsRaw values k v below is numbers in
-          let front = ap (λ (m : Memory). entered m v) (c.loop-k.invariant.memory numbers) ∙ sym (entered-more (memory_of board) values v k below is) in
-          c.enter_slot.ensures.memory here raw ∙ front;
+          entered-next c.args.demands.now values board v k _ (board_of c.loop-k.slots) (board_of c.enter_asked.new.slots) below is
+          (place-kept (board_of c.loop-k.slots) board v.name same here) (c.enter_asked.ensures.memory here raw) (c.loop-k.invariant.memory numbers);
     }
 
 pub returns-clause-names : goal.returns-clause-names
@@ -56,4 +57,4 @@ returns-clause-seats c = λ k v below within. c.loop-k.invariant.seats k v (omeg
 pub returns-clause-memory : goal.returns-clause-memory
 returns-clause-memory c = λ numbers.
     let past : c.loop-k.k ≡ length c.args.values.now = omega (arith, c.loop-k-test.false, c.loop-k.auto.k-end) in
-    c.loop-k.invariant.memory numbers ∙ ap (λ (n : ℕ). all_entered (memory_of (board_of c.args.slots.now)) (take n c.args.values.now)) past
+    subst (λ (n : ℕ). HasEntered c.args.demands.now (take n c.args.values.now) (board_of c.args.slots.now) (board_of c.loop-k.slots)) past (c.loop-k.invariant.memory numbers)

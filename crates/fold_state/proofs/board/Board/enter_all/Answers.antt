@@ -1,12 +1,12 @@
-use Rattle.std.proofs.Common.{◌∙◌, ◌+◌, List, inl, inr, length, refl, sym, subst, ap, arith}
+use Rattle.std.proofs.Common.{◌∙◌, ◌+◌, List, inl, inr, length, refl, sym, subst, arith}
 use Rattle.std.proofs.lemmas.Bool.{cases_lt}
 use Rattle.std.proofs.lemmas.List.{take_all}
 use Rattle.mib_model.specs.declared.packet.Value.{Value}
-use Rattle.mib_model.specs.Kept.{Memory, all_entered, entered}
-use Rattle.fold_state.specs.Boards.{memory_of}
+use Rattle.fold_state.specs.Entering.{HasEntered}
 use Rattle.fold_state.specs.Premises.{AreSeated, HasSlot, IsRaw}
 use Rattle.fold_state.proofs.FinishFacts.{each-item, slot-kept}
-use Rattle.fold_state.proofs.SeatFacts.{entered-more, seated-kept, seated-more, seated-past, place-kept, slots-kept}
+use Rattle.fold_state.proofs.EnterFacts.{entered-next}
+use Rattle.fold_state.proofs.SeatFacts.{seated-kept, seated-more, seated-past, place-kept, slots-kept}
 use Rattle.fold_state.proofs.board.Board.enter_all.Goals as goal
 
 pub loop-k-init : goal.loop-k-init
@@ -14,7 +14,7 @@ loop-k-init c = record {
   names = refl;
   seats = λ slots. seated-kept c.args.self.now c.enter_first-done.new.self c.args.values.now c.enter_first-done.result c.enter_first-done.new.seats.items c.enter_first-done.ensures.names
       c.enter_first-done.ensures.seats;
-  memory = λ memory same slots numbers. same;
+  memory = λ before named entered slots numbers. entered;
 }
 
 pub loop-k-preserved : goal.loop-k-preserved
@@ -35,10 +35,11 @@ loop-k-preserved c =
             | inl within ↦ subst (AreSeated board values (i + 1)) (sym (c.note_seat.ensures.noted within)) (seated-more board values v i c.enter-at.result c.loop-k.seats.items below is within here (c.loop-k.invariant.seats slots))
             | inr full ↦ subst (AreSeated board values (i + 1)) (sym (c.note_seat.ensures.past full)) (seated-past board values i c.loop-k.seats.items full (c.loop-k.invariant.seats slots))
           ];
-      memory = λ memory before slots numbers.
+      memory = λ before named entered slots numbers.
           let raw = each-item IsRaw values i v below is numbers in
           let slot = slot-kept board c.loop-k.self v.name same (each-item (λ (v : Value). HasSlot board v.name) values i v below is slots) in
-          c.enter-at.ensures.memory slot raw ∙ (ap (λ (m : Memory). entered m v) (c.loop-k.invariant.memory memory before slots numbers) ∙ sym (entered-more memory values v i below is));
+          entered-next c.args.demands.now values before v i c.enter-at.result c.loop-k.self c.enter-at.new.self below is
+          (place-kept c.loop-k.self before v.name (same ∙ named) (c.enter-at.ensures.seat slot)) (c.enter-at.ensures.memory slot raw) (c.loop-k.invariant.memory before named entered slots numbers);
     }
 
 pub returns-clause-names : goal.returns-clause-names
@@ -55,7 +56,8 @@ returns-clause-seats c = λ slots.
 pub returns-clause-memory : goal.returns-clause-memory
 returns-clause-memory c = λ slots numbers.
     let values = c.args.values.now in
-    let memory = memory_of c.args.self.now in
+    let before = c.args.self.now in
     let board = c.enter_first-done.new.self in
-    let entered = c.loop-k.invariant.memory memory (c.enter_first-done.ensures.memory numbers) (slots-kept c.args.self.now board values c.enter_first-done.ensures.names slots) numbers in
-    entered ∙ ap (λ (vs : List Value). all_entered memory vs) (take_all c.loop-k.k values c.loop-k-test.false)
+    let same = c.enter_first-done.ensures.names in
+    let entered = c.loop-k.invariant.memory before same (c.enter_first-done.ensures.memory numbers) (slots-kept before board values same slots) numbers in
+    subst (λ (vs : List Value). HasEntered c.args.demands.now vs before c.loop-k.self) (take_all c.loop-k.k values c.loop-k-test.false) entered

@@ -1,6 +1,6 @@
-use Rattle.std.proofs.Common.{◌∙◌, length, ap}
-use Rattle.mib_model.specs.Kept.{all_entered}
-use Rattle.fold_state.specs.Boards.{Slots, memory_of}
+use Rattle.std.proofs.Common.{length, ap, subst}
+use Rattle.fold_state.specs.Boards.{Slots}
+use Rattle.fold_state.specs.Entering.{HasEntered}
 use Rattle.fold_state.proofs.FinishFacts.{fits-kept}
 use Rattle.fold_state.proofs.SeatFacts.{seated-kept}
 use Rattle.fold_state.proofs.board.Board.enter_seated.Goals as goal
@@ -15,5 +15,5 @@ returns-clause-entered c = λ db params fits.
     record {
       fits = fits-kept db params board after values c.enter_all.ensures.names began;
       seated = seated-kept board after values (length values) c.enter_all.new.seats.items c.enter_all.ensures.names (c.enter_all.ensures.seats began.slots);
-      memory = c.enter_all.ensures.memory began.slots began.numbers ∙ ap (λ (b : Slots). all_entered (memory_of b) values) same;
+      memory = subst (λ (b : Slots). HasEntered c.args.demands.now values b after) same (c.enter_all.ensures.memory began.slots began.numbers);
     }

@@ -1,32 +1,17 @@
-use Rattle.std.proofs.Common.{◌∙◌, ◌++◌, List, ℕ, length, ap, sym, subst, append_assoc}
-use Rattle.mib_model.specs.Finish.{all_finished}
-use Rattle.mib_model.specs.Kept.{Memory, all_entered}
-use Rattle.mib_model.specs.Texts.{told_text}
-use Rattle.std.specs.List.{flat_map}
-use Rattle.fold_state.specs.Boards.{Slots, memory_of}
-use Rattle.fold_state.specs.Premises.{AreSeated}
-use Rattle.fold_state.proofs.FinishFacts.{fits-kept}
+use Rattle.std.proofs.Common.{sym, subst, append_assoc}
+use Rattle.fold_state.specs.Boards.{Slots}
+use Rattle.fold_state.specs.Entering.{StandsFor}
 use Rattle.fold_state.proofs.board.Board.finish.Goals as goal
 
 pub returns-clause-memory : goal.returns-clause-memory
-returns-clause-memory c = λ db fits.
+returns-clause-memory c = λ asked db m stands.
     let values = c.args.seen.now.values.now in
-    let same = c.begin-first.ensures in
-    let board = c.begin-first.new.self in
-    let began = fits-kept db c.args.params.now c.args.self.now board values (ap (λ (b : Slots). b.names) same) fits in
-    let entered = c.enter_seated-seats.ensures.entered db c.args.params.now began in
-    let handed = subst (λ (seats : List ℕ). AreSeated c.enter_seated-seats.new.self values (length values) seats) (sym c.deref.ensures.value) entered.seated in
-    let memory = entered.memory ∙ ap (λ (b : Slots). all_entered (memory_of b) values) same in
-    ap memory_of c.end.ensures.same ∙ ((c.finish_all.ensures.finished db entered.fits handed).memory ∙ ap (λ (m : Memory). (all_finished db m values).0) memory)
+    let began = subst (λ (b : Slots). StandsFor asked db c.args.params.now c.args.demands.now b values m) (sym c.begin-first.ensures) stands in
+    (c.finish_values.ensures.finished asked db m began).memory
 
 pub returns-clause-text : goal.returns-clause-text
-returns-clause-text c = λ db fits.
+returns-clause-text c = λ asked db m stands.
     let values = c.args.seen.now.values.now in
-    let same = c.begin-first.ensures in
-    let board = c.begin-first.new.self in
-    let began = fits-kept db c.args.params.now c.args.self.now board values (ap (λ (b : Slots). b.names) same) fits in
-    let entered = c.enter_seated-seats.ensures.entered db c.args.params.now began in
-    let handed = subst (λ (seats : List ℕ). AreSeated c.enter_seated-seats.new.self values (length values) seats) (sym c.deref.ensures.value) entered.seated in
-    let memory = entered.memory ∙ ap (λ (b : Slots). all_entered (memory_of b) values) same in
-    let text = (c.finish_all.ensures.finished db entered.fits handed).text ∙ ap (λ (m : Memory). c.head_line.new.out ++ flat_map (told_text c.args.seen.now.packet.now) (all_finished db m values).1) memory in
-    c.end.ensures.text ∙ (rw (text, c.head_line.ensures.text) (simp append_assoc))
+    let began = subst (λ (b : Slots). StandsFor asked db c.args.params.now c.args.demands.now b values m) (sym c.begin-first.ensures) stands in
+    let done = c.finish_values.ensures.finished asked db m began in
+    rw (c.ended_line.ensures.text, done.text, c.head_line.ensures.text) (simp append_assoc)
