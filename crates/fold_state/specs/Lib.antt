@@ -2,4 +2,5 @@ pub mod Boards
 pub mod Places
 pub mod Premises
 pub mod Sketches
+pub mod Opened
 pub mod Laws
