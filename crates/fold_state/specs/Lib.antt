@@ -4,4 +4,5 @@ pub mod Premises
 pub mod Demands
 pub mod Entering
 pub mod Sketches
+pub mod Opened
 pub mod Laws

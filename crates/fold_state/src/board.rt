@@ -30,7 +30,7 @@ pub struct Board {
     // Where the places of a packet's values are noted. It says nothing between two packets.
     seats: Vec<usize>,
     // Made of what was read ahead; it says nothing.
-    ahead: usize,
+    pub(crate) ahead: usize,
 }
 
 /// By hand, so that whoever lets one go proves one call.

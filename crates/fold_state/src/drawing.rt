@@ -5,7 +5,6 @@ ghost use Rattle.std.specs.Str.{bytes_eq};
 ghost use Rattle.check_plan.specs.Samples.{sample_of};
 ghost use Rattle.fold_state.specs.Premises.{IsParamsOf, IsRaw, IsSliceOf};
 ghost use Rattle.fold_state.specs.Sketches.{AddsShown, AreShown, IsMarked, IsSettled, IsShown, IsMarkOf, behind};
-ghost use Rattle.fold_state.specs.declared.sketch.TheConstants.{TEXT_ROOM};
 ghost use Rattle.mib_model.specs.Bits.{is_inside};
 ghost use Rattle.mib_model.specs.CalibrationViews.{calibrated_as};
 ghost use Rattle.mib_model.specs.declared.database.Database.{Database};
@@ -14,36 +13,32 @@ ghost use Rattle.mib_model.specs.Kept.{has_number};
 ghost use Rattle.mib_model.specs.Texts.{value_text};
 ghost use Rattle.mib_model.specs.WholeNumbers.{least_raw, greatest_raw};
 ghost use Rattle.record_text.specs.TailViews.{tail_as};
-ghost use Rattle.record_text.specs.declared.lines.TheConstants.{VALUE_ROOM};
+ghost use Rattle.record_text.specs.declared.lines.TheConstants.{LINES_ROOM, LINE_MOST, VALUE_ROOM};
 
-use crate::ahead::{FAR, read_plans_ahead};
 use crate::drawn::Drawn;
-use crate::finish::{kind_of, tail_for};
-use crate::guesses::Guesses;
+use crate::finish::tail_for;
+use crate::places::Places;
 use crate::sketch::{LineEnd, Mark, Sketch, TEXT_ROOM, note};
 use crate::value::{is_raw, sample_for};
 use bit_field::MOST_VALUES;
 use check_plan::{Checks, Nothing, Sample};
-use mib_model::{Cal, Found, Name, Value};
+use mib_model::{Cal, Found, Value};
 use param_plan::{Param, Params};
 use record_text::{Lines, Tail, VALUE_ROOM, begin_value, end_value};
 use std::alloc::{AllocError, Global};
 
-/// What draws sketches: guesses of the places of plans, and a page for the lines of a packet.
+/// What draws sketches: the places of plans, and a page for the lines of a packet.
 pub struct Drawer {
-    guesses: Guesses,
+    places: Places,
     drawn: Drawn,
-    // Made of what was read ahead; it says nothing.
-    ahead: usize,
 }
 
 /// By hand, so that whoever lets one go proves one call.
 impl Drop for Drawer {
     fn drop(self) {
         let Drawer {
-            guesses: _guesses,
+            places: _places,
             drawn: _drawn,
-            ahead: _,
         } = self;
     }
 }
@@ -81,7 +76,7 @@ fn checked_mark(plan: &Param, value: &Value, given: Option<Cal<'_>>) -> Mark
 #[inline(always)]
 fn draw_line(value: &Value, packet: &[u8], tail: &Tail<'_>, out: &mut Lines)
     requires inside { is_inside packet.now value.now.at value.now.shape.width ≡ true }
-    requires room { length out.old ≤ TEXT_ROOM }
+    requires room { length out.old + VALUE_ROOM + LINE_MOST ≤ LINES_ROOM }
     ensures text { out.new ≡ out.old ++ value_text value.now packet.now (tail_as tail.now) }
     ensures room { length out.new ≤ length out.old + VALUE_ROOM }
 {
@@ -95,10 +90,11 @@ fn draw_checked(plan: &Param, value: &Value, packet: &[u8], out: &mut Lines) -> 
     requires low { least_raw ≤ℤ value.now.raw }
     requires high { value.now.raw ≤ℤ greatest_raw }
     requires inside { is_inside packet.now value.now.at value.now.shape.width ≡ true }
-    requires room { length out.old ≤ TEXT_ROOM }
+    requires room { length out.old + VALUE_ROOM + LINE_MOST ≤ LINES_ROOM }
     ensures shown { (db : Database) → IsSliceOf db value.now.name plan.now → IsSettled plan.now → has_number value.now.shape.sort ≡ true
         → IsShown db packet.now value.now (result, behind out.old out.new) }
     ensures added { out.new ≡ out.old ++ behind out.old out.new }
+    ensures open { result ≡ Mark.Open → out.new ≡ out.old }
     ensures room { length out.new ≤ length out.old + VALUE_ROOM }
 {
     let given = plan.calibrate(value.raw, &Nothing);
@@ -113,10 +109,11 @@ fn draw_checked(plan: &Param, value: &Value, packet: &[u8], out: &mut Lines) -> 
 #[inline(always)]
 fn draw_value(plan: &Param, value: &Value, packet: &[u8], out: &mut Lines) -> Mark
     requires inside { is_inside packet.now value.now.at value.now.shape.width ≡ true }
-    requires room { length out.old ≤ TEXT_ROOM }
+    requires room { length out.old + VALUE_ROOM + LINE_MOST ≤ LINES_ROOM }
     ensures shown { (db : Database) → IsSliceOf db value.now.name plan.now → IsRaw value.now
         → IsShown db packet.now value.now (result, behind out.old out.new) }
     ensures added { out.new ≡ out.old ++ behind out.old out.new }
+    ensures open { result ≡ Mark.Open → out.new ≡ out.old }
     ensures room { length out.new ≤ length out.old + VALUE_ROOM }
 {
     if !plan.is_settled() {
@@ -129,9 +126,9 @@ fn draw_value(plan: &Param, value: &Value, packet: &[u8], out: &mut Lines) -> Ma
     Mark::Told
 }
 
-// Draws the line of a value whose plan has a place among the plans, where the line doesn't depend on what is kept.
+/// Draws the line of a value whose plan has a place among the plans, where the line doesn't depend on what is kept.
 #[inline(always)]
-fn draw_at(
+pub fn draw_at(
     params: &Params,
     place: Option<usize>,
     value: &Value,
@@ -139,11 +136,12 @@ fn draw_at(
     out: &mut Lines,
 ) -> Mark
     requires inside { is_inside packet.now value.now.at value.now.shape.width ≡ true }
-    requires room { length out.old ≤ TEXT_ROOM }
+    requires room { length out.old + VALUE_ROOM + LINE_MOST ≤ LINES_ROOM }
     ensures shown { (db : Database) → IsParamsOf db params.now → IsRaw value.now
         → place ≡ position (λ slice. bytes_eq slice.pcf.name value.now.name) params.now
         → IsShown db packet.now value.now (result, behind out.old out.new) }
     ensures added { out.new ≡ out.old ++ behind out.old out.new }
+    ensures open { result ≡ Mark.Open → out.new ≡ out.old }
     ensures room { length out.new ≤ length out.old + VALUE_ROOM }
 {
     let Some(at) = place else {
@@ -196,47 +194,9 @@ impl Drawer {
     /// What draws by these plans. An error is want of memory.
     pub fn new(alloc: Global, params: &Params) -> Result<Drawer, AllocError> {
         Ok(Drawer {
-            guesses: Guesses::of_plans(alloc, params.plans())?,
+            places: Places::new(alloc, params)?,
             drawn: Drawn::new(alloc)?,
-            ahead: 0,
         })
-    }
-
-    // Reads ahead what will be asked of the plans of a packet that is of this kind and has so many values, and tells where the
-    // guesses of their places begin.
-    fn begin(&mut self, params: &Params, spid: u32, count: usize) -> usize {
-        let first = self.guesses.row(spid, count);
-        if params.plans().len() >= FAR {
-            let places = self.guesses.places(first, count);
-            self.ahead = read_plans_ahead(params, places);
-        }
-        first
-    }
-
-    // The place of the plan of a name, which is looked for first where a guess says.
-    #[inline(always)]
-    fn place(&mut self, params: &Params, near: usize, name: &Name) -> Option<usize>
-        ensures place { result ≡ position (λ slice. bytes_eq slice.pcf.name name.now) params.now }
-        ensures drawn { self.new.drawn ≡ self.old.drawn }
-    {
-        let guess = self.guesses.place(near);
-        if params.is_at(guess, name) {
-            return Some(guess);
-        }
-        self.place_noted(params, near, name)
-    }
-
-    // The place of the plan of a name for which a guess was wrong, which is noted for the next time.
-    #[inline(never)]
-    fn place_noted(&mut self, params: &Params, near: usize, name: &Name) -> Option<usize>
-        ensures place { result ≡ position (λ slice. bytes_eq slice.pcf.name name.now) params.now }
-        ensures drawn { self.new.drawn ≡ self.old.drawn }
-    {
-        let at = params.place_near(self.guesses.named(name), name);
-        if let Some(at) = at {
-            self.guesses.note(near, at);
-        }
-        at
     }
 
     // Adds the line of a value whose plan may be where a guess says, where there is room left for it.
@@ -248,7 +208,7 @@ impl Drawer {
         ensures grown { IsTrue result → length self.new.drawn ≡ length self.old.drawn + 1 }
         ensures full { IsFalse result → self.new.drawn ≡ self.old.drawn }
     {
-        let place = self.place(params, near, &value.name);
+        let place = self.places.place(params, near, &value.name);
         self.drawn.add(params, place, value, packet)
     }
 
@@ -284,7 +244,7 @@ impl Drawer {
         ensures shown { (db : Database) → IsParamsOf db params.now → All IsRaw values.now → AreShown db packet.now values.now sketch.new }
         ensures few { length sketch.new ≤ length values.now }
     {
-        let first = self.begin(params, kind_of(found), values.len());
+        let first = self.places.begin(params, found, values.len());
         self.draw_all(params, first, packet, values);
         if !sketch.fill(&self.drawn) {
             sketch.clear();

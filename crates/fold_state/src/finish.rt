@@ -112,7 +112,7 @@ impl Board {
 
     // Finishes a value by the plan of its name, which is at this place.
     #[inline(always)]
-    fn finish_by<'a>(
+    pub(crate) fn finish_by<'a>(
         &mut self,
         params: &'a Params,
         seat: usize,

@@ -1,0 +1,5 @@
+pub mod PlayFacts
+pub mod LyingFacts
+pub mod PlayedFacts
+pub mod AddFacts
+pub mod PacketFacts

@@ -1,0 +1,25 @@
+use Rattle.std.proofs.Common.{ap, arith}
+use Rattle.line_sheets.specs.Sheets.{SheetView}
+use Rattle.line_sheets.proofs.LyingFacts.{write-held, write-view}
+use Rattle.line_sheets.proofs.sheet.Sheet.add_end.Goals as goal
+
+pub invariant_of-self : goal.invariant_of-self
+invariant_of-self c =
+    let sheet = c.self.inside in
+    let inv = c.self.invariant in
+    let size = ap (λ (s : SheetView). s.size) c.self.view_is in (
+      write-held sheet.text _ c.ended_line.new.out sheet.events.items sheet.raws.items sheet.counts.items inv.0 c.ended_line.ensures.text,
+      omega (arith, size, c.requires, c.ended_line.ensures.room),
+      inv.2,
+      inv.3,
+      inv.4,
+      inv.5,
+      inv.6,
+      inv.7,
+      inv.8,
+    )
+
+pub returns-clause-text : goal.returns-clause-text
+returns-clause-text c =
+    let sheet = c.self.inside in
+    write-view sheet.text _ c.ended_line.new.out sheet.events.items sheet.raws.items sheet.counts.items c.self.invariant.0 c.ended_line.ensures.text c.args.self.now c.self.view_is

@@ -1,0 +1,5 @@
+pub mod Pieces
+pub mod Sheets
+pub mod Readings
+pub mod Playing
+pub mod Drawings
