@@ -1,8 +1,8 @@
 -- The first place of a row among rows that grow.
-use Rattle.std.proofs.Common.{◌≡◌, ℕ, suc, ◌+◌, ◌<◌, Bool, true, false, not, cond, List, [], ◌∷◌, ◌++◌, length, get_or, take, if◌then◌else◌, Option, Some, None, option_map, refl, sym, ap, ◌∙◌, nat_lt, arith}
+use Rattle.std.proofs.Common.{◌≡◌, ℕ, suc, ◌+◌, ◌<◌, Bool, true, false, not, cond, List, [], ◌∷◌, ◌++◌, length, get_or, take, if◌then◌else◌, Option, Some, None, is_some, option_map, ◌||◌, refl, sym, ap, ◌∙◌, nat_lt, arith}
 use Rattle.std.proofs.lemmas.Bool.{ltb-true, ltb-false, lt-ltb, le-ltb}
 use Rattle.std.proofs.lemmas.List.{take_more, length-take-le}
-use Rattle.std.specs.List.{find, position, prefix_len, slice_get}
+use Rattle.std.specs.List.{find, list_any, position, prefix_len, slice_get}
 use Rattle.std.specs.Option.{option_and_then, option_or}
 
 -- a place, where something holds of the row there
@@ -58,3 +58,16 @@ found-item p (x ∷ xs) = ap (λ o. option_and_then (λ i. slice_get (x ∷ xs) 
   go true o h = refl
   go false None h = h
   go false (Some i) h = (let e : i + 1 ≡ suc i = omega arith in ap (slice_get (x ∷ xs)) e) ∙ h
+
+-- an item is found where some item passes
+pub found-some : {X : Type 0} (p : X → Bool) (xs : List X) → is_some (find p xs) ≡ list_any p xs
+found-some p [] = refl
+found-some p (x ∷ xs) = go (p x) (found-some p xs) where
+  go : (b : Bool) → is_some (find p xs) ≡ list_any p xs → is_some (cond b (Some x) (find p xs)) ≡ (b || list_any p xs)
+  go true h = refl
+  go false h = h
+
+-- what is there is there under any view
+pub viewed : {A B : Type 0} (view : A → B) (o : Option A) → is_some (option_map view o) ≡ is_some o
+viewed view None = refl
+viewed view (Some x) = refl

@@ -1,6 +1,6 @@
-ghost use Rattle.std.specs.Prelude.{◌≡◌, Option, Some, None, IfOk, OnOk, position, if◌then◌else◌};
+ghost use Rattle.std.specs.Prelude.{◌≡◌, Option, Some, None, IfOk, OnOk, position, is_some, unwrap_or, if◌then◌else◌};
 ghost use Rattle.std.specs.HashMap.{get};
-ghost use Rattle.std.specs.List.{find, slice_get};
+ghost use Rattle.std.specs.List.{find, list_any, slice_get};
 ghost use Rattle.std.specs.Option.{option_and_then, option_copied, option_eq, option_or};
 
 use first_rows::By;
@@ -37,7 +37,20 @@ pub fn has_key<B: By>(row: &B::Row, key: &B::Key) -> bool
     B::key(row) == Some(*key)
 }
 
-/// Notes the place of a key that has none yet, in one probe. An error is want of memory.
+/// The place of a key, which is this one where it has none yet, in one probe. An error is want of memory.
+pub fn noted<K: Eq + Hash + Copy + Drop>(
+    places: &mut HashMap<K, usize>,
+    key: K,
+    place: usize,
+) -> Result<usize, AllocError>
+    ensures first { IfOk result (λ first. first ≡ unwrap_or (get K.eq places.old key) place) }
+    ensures noted { OnOk result ((q : K) → get K.eq places.new q ≡ option_or (get K.eq places.old q) (if K.eq key q then Some place else None)) }
+{
+    let first = *places.entry(key)?.or_insert(place);
+    Ok(first)
+}
+
+/// Notes the place of a key that has none yet. An error is want of memory.
 pub fn note<K: Eq + Hash + Copy + Drop>(
     places: &mut HashMap<K, usize>,
     key: Option<K>,
@@ -46,7 +59,7 @@ pub fn note<K: Eq + Hash + Copy + Drop>(
     ensures { OnOk result ((q : K) → get K.eq places.new q ≡ option_or (get K.eq places.old q) (if option_eq K.eq key (Some q) then Some place else None)) }
 {
     if let Some(key) = key {
-        places.entry(key)?.or_insert(place);
+        noted(places, key, place)?;
     }
     Ok(())
 }
@@ -102,7 +115,8 @@ impl<'a, B: By> Firsts<'a, B> {
 
     /// The first row that has this key.
     pub fn find(&self, key: &B::Key) -> Option<&'a B::Row>
-        ensures { option_copied result ≡ find (λ row. option_eq B.Key.eq (B.key_of row) (Some key.now)) self.now }
+        ensures row { option_copied result ≡ find (λ row. option_eq B.Key.eq (B.key_of row) (Some key.now)) self.now }
+        ensures there { is_some result ≡ list_any (λ row. option_eq B.Key.eq (B.key_of row) (Some key.now)) self.now }
     {
         row_at(self.rows, self.place(key))
     }

@@ -4,8 +4,8 @@ ghost use Rattle.mib_index.specs.Packets.{packet_of};
 
 use first_rows::By;
 use mib_model::{
-    CafRow, CapRow, CurRow, LgfRow, McfRow, Name, OcfRow, OcpRow, PcfRow, PidRow, TxfRow, TxpRow,
-    VpdRow,
+    CafRow, CapRow, CurRow, LgfRow, McfRow, Name, OcfRow, OcpRow, PcfRow, PidRow, PlfRow, TxfRow,
+    TxpRow, VpdRow,
 };
 use std::marker::PhantomData;
 
@@ -32,7 +32,7 @@ pub fn packet_key(row: &PidRow) -> PacketKey
     }
 }
 
-/// A row that is looked up by a name: of its parameter, or of its curve.
+/// A row that has a name: that of its parameter, or of its curve.
 pub trait Named: Copy + Drop {
     ghost name_of: { Self → List ℕ };
 
@@ -114,6 +114,22 @@ impl Named for OcfRow {
 }
 
 impl Named for OcpRow {
+    ghost name_of = { λ row. row.name };
+
+    fn name(&self) -> Name {
+        self.name
+    }
+}
+
+impl Named for PlfRow {
+    ghost name_of = { λ row. row.name };
+
+    fn name(&self) -> Name {
+        self.name
+    }
+}
+
+impl Named for VpdRow {
     ghost name_of = { λ row. row.name };
 
     fn name(&self) -> Name {

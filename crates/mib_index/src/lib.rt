@@ -12,7 +12,7 @@ mod index;
 mod keys;
 
 pub use first_rows::By;
-pub use firsts::{Firsts, note};
+pub use firsts::{Firsts, note, noted};
 pub use groups::Groups;
 pub use index::Index;
 pub use keys::{ByName, ByPacket, BySpid, ByStructure, Named, PacketKey, packet_key};
