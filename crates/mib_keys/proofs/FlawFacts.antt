@@ -20,7 +20,7 @@ use Rattle.mib_model.specs.Soundness.{flaws, flaws_of, first_flaw}
 use Rattle.mib_keys.specs.Alike.{has_its_key, is_like_packet}
 use Rattle.mib_keys.specs.Firsts.{first_from, flaw_by, least, twice_at, flaw_in, first_in, first_over}
 use Rattle.mib_keys.proofs.KeyFacts.{same-by_eq}
-use Rattle.mib_keys.proofs.PlaceFacts.{position-cons}
+use Rattle.mib_index.proofs.PlaceFacts.{position-cons}
 use Rattle.mib_keys.proofs.PointFacts.{position-take}
 
 pub or-assoc : {A : Type 0} (a b c : Option A) → option_or (option_or a b) c ≡ option_or a (option_or b c)
@@ -89,6 +89,13 @@ module _ {R : Type 0} (t : Kind) (alike : R → R → Bool) (rest : List (Rule R
   unfolding table_flaws
   table-first = rows-first 1 all
 
+-- one row more without a flaw
+pub row-passed : {R : Type 0} (flaw : ℕ → R → Option MibFault) (rows : List R) (i : ℕ) (row : R) → i < length rows → row ≡ get_or rows i row → None ≡ flaw (i + 1) row
+    → first_in flaw (i + 1) (drop i rows) ≡ first_in flaw (i + 1 + 1) (drop (i + 1) rows)
+row-passed flaw rows i row below is none =
+    ap (first_in flaw (i + 1)) (drop_more rows i row below)
+    ∙ ap (λ o. option_or o (first_in flaw (i + 1 + 1) (drop (i + 1) rows))) (sym (none ∙ ap (flaw (i + 1)) is))
+
 -- rows that are alike by another test
 pub alike-agree : {R : Type 0} (t : Kind) (p q : R → R → Bool) (rest : List (Rule R)) (all : List R) → ((x y : R) → p x y ≡ q x y) → first_of (table_flaws t (twice_by p ∷ rest) all) ≡ first_of (table_flaws t (twice_by q ∷ rest) all)
 alike-agree {R} t p q rest all same = ap (λ (alike : R → R → Bool). first_of (table_flaws t (twice_by alike ∷ rest) all)) (fun_ext (λ (x : R). fun_ext (λ (y : R). same x y)))
@@ -98,9 +105,14 @@ pub keys-agree : {R : Type 0} (t : Kind) (as_row : R → Row) (rest : List (Rule
 keys-agree {R} t as_row rest all = alike-agree t (has_its_key as_row) _ rest all (λ (x y : R). sym (same-by_eq (key_in (as_row x)) (key_in (as_row y))))
 
 -- an answer that is as another
-pub ok-agree : {E : Type 0} (r : Result (Option MibFault) E) (a b : Option MibFault) → a ≡ b → IfOk r (λ flaw. flaw ≡ a) → IfOk r (λ flaw. flaw ≡ b)
+pub ok-agree : {A E : Type 0} (r : Result A E) (a b : A) → a ≡ b → IfOk r (λ x. x ≡ a) → IfOk r (λ x. x ≡ b)
 ok-agree (Ok x) a b same is = is ∙ same
 ok-agree (Err e) a b same is = tt
+
+-- where an answer is none, so is what it is
+pub ok-none : {A E : Type 0} (r : Result (Option A) E) (a : Option A) → IfOk r (λ x. x ≡ a) → IfOk r (λ x. x ≡ None → a ≡ None)
+ok-none (Ok x) a is = λ none. sym is ∙ none
+ok-none (Err e) a is = tt
 
 -- packets of one number or of one kind
 five : (a b c d e : Bool) → (a && (b && (c && (d && e)))) ≡ (a && b && c && d && e)

@@ -1,5 +1,4 @@
 mod AnyFacts
-pub mod PlaceFacts
 mod LookupFacts
 mod KeyFacts
 mod PointFacts
@@ -7,6 +6,7 @@ pub mod OrderFacts
 mod GroupFacts
 mod SweepFacts
 mod FlawFacts
+mod TwiceFacts
 mod KeptFacts
 mod ReadFacts
 pub mod KnownFacts

@@ -11,12 +11,12 @@ use Rattle.mib_model.specs.declared.rows.CapRow.{CapRow}
 use Rattle.mib_model.specs.Curves.{is_real_format}
 use Rattle.mib_model.specs.CurveFlaws.{is_bad_point, is_bad_x, is_same_x}
 use Rattle.mib_model.specs.WholeNumbers.{whole_number}
-use Rattle.mib_keys.specs.declared.keys.PointKey.{PointKey}
+use Rattle.mib_keys.specs.declared.points.PointKey.{PointKey}
 use Rattle.mib_keys.specs.Indexes.{has_by, first_place, cut}
 use Rattle.mib_keys.specs.Points.{point_eq, point_at, point_of, point_in, repeats, is_repeated_point}
 use Rattle.mib_keys.proofs.AnyFacts.{any-agree}
 use Rattle.mib_keys.proofs.LookupFacts.{found-any}
-use Rattle.mib_keys.proofs.PlaceFacts.{position-cons, below_one_more}
+use Rattle.mib_index.proofs.PlaceFacts.{position-cons, below_one_more}
 
 -- the first place among the first items
 pub position-take : {X : Type 0} (p : X → Bool) (n : ℕ) (xs : List X) → position p (take n xs) ≡ cut n (position p xs)

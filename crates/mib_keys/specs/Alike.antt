@@ -5,7 +5,7 @@ use Rattle.mib_model.specs.declared.key.Key.{Key}
 use Rattle.mib_model.specs.declared.rows.PidRow.{PidRow}
 use Rattle.mib_model.specs.declared.rows.Row.{Row}
 use Rattle.mib_model.specs.Keys.{key_in}
-use Rattle.mib_keys.specs.Packets.{packet_eq, packet_of}
+use Rattle.mib_index.specs.Packets.{packet_eq, packet_of}
 
 -- `==` of keys
 abbrev pub key_eq : Key → Key → Bool

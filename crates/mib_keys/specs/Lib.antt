@@ -1,6 +1,5 @@
 pub mod Indexes
 pub mod Firsts
-pub mod Packets
 pub mod Alike
 pub mod Points
 pub mod Structures

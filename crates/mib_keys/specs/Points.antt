@@ -7,7 +7,7 @@ use Rattle.mib_model.specs.declared.rows.CafRow.{CafRow}
 use Rattle.mib_model.specs.declared.rows.CapRow.{CapRow}
 use Rattle.mib_model.specs.Curves.{is_real_format}
 use Rattle.mib_model.specs.WholeNumbers.{whole_number}
-use Rattle.mib_keys.specs.declared.keys.PointKey.{PointKey}
+use Rattle.mib_keys.specs.declared.points.PointKey.{PointKey}
 use Rattle.mib_keys.specs.Indexes.{cut}
 
 -- whether two points are of one curve and at one x

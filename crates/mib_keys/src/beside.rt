@@ -8,9 +8,9 @@ ghost use Rattle.mib_model.specs.Soundness.{IsSound, first_flaw, flaws_of};
 
 use crate::fault::SoundFault;
 use crate::kept::{covers, same_tables, tables_read};
-use crate::lookups::Lookups;
 use crate::read::alike_tables;
-use crate::soundness::{first_flaw, kind_flaw};
+use crate::soundness::{first_flaw, index_kind_flaw};
+use mib_index::Index;
 use mib_model::{KINDS, Kind, MibFault};
 use mib_tables::{Book, TableSet};
 use std::alloc::{AllocError, Global};
@@ -20,8 +20,8 @@ fn part_flaw(alloc: Global, book: &Book, kind: Kind) -> Result<Option<MibFault>,
     ensures { IfOk result (λ flaw. flaw ≡ first_of (flaws_of book.now kind)) }
 {
     let part = book.part(tables_read(kind))?;
-    let lookups = Lookups::new(alloc, &part)?;
-    kind_flaw(alloc, &lookups, kind)
+    let index = Index::mapped(alloc, &part)?;
+    index_kind_flaw(alloc, &index, kind)
 }
 
 // The first flaw of a table: none where what is read of all that it depends on is that of a sound base.

@@ -1,6 +1,7 @@
 // The rules for the rows of structures. [SCOS-2000 Database Import ICD, vpd.]
 ghost use Rattle.std.specs.Prelude.{◌≡◌, ◌-◌, ◌==◌, ◌&&◌, ◌||◌, not, drop, take, position, None};
 ghost use Rattle.std.specs.Option.{option_copied};
+ghost use Rattle.mib_model.specs.Parameters.{parameter as parameter_of};
 ghost use Rattle.mib_model.specs.GroupFlaws.{is_bad_group, vpd_rules, is_unmeasured, counts, has_group, does_too_much, repeats_nothing, needs_number};
 ghost use Rattle.mib_model.specs.Kept.{has_number};
 ghost use Rattle.mib_keys.specs.Firsts.{flaw_by};
@@ -101,12 +102,18 @@ fn passes_spots(structure: Option<&Structure>, row: &VpdRow) -> bool
 }
 
 // Whether the group, the choice or the reference of a row is out of form.
-fn is_bad_group(lookups: &Lookups<'_>, number: u32, row: &VpdRow) -> bool
-    requires { cut (number - 1) (position (is_same_place row.now) lookups.now.vpd) ≡ None }
+fn is_bad_group(
+    lookups: &Lookups<'_>,
+    number: u32,
+    parameter: Option<&PcfRow>,
+    row: &VpdRow,
+) -> bool
+    requires own { option_copied parameter ≡ parameter_of lookups.now.pcf row.now.name }
+    requires first { cut (number - 1) (position (is_same_place row.now) lookups.now.vpd) ≡ None }
     ensures { result ≡ is_bad_group lookups.now (take (number - 1) lookups.now.vpd) row.now }
 {
     let passes = passes_spots(lookups.structure(row.tpsd), row);
-    let no_number = lacks_number(row, lookups.parameter(row.name));
+    let no_number = lacks_number(row, parameter);
     let shape = either(does_too_much(row), repeats_nothing(row));
     either(either(shape, passes), no_number)
 }
@@ -126,9 +133,10 @@ pub fn vpd_flaw(lookups: &Lookups<'_>, number: u32, row: &VpdRow) -> Option<MibF
         table: Kind::Vpd,
         number,
     };
-    let unmeasured = is_unmeasured(lookups.parameter(row.name));
-    let bad = is_bad_group(lookups, number, row);
-    at.missing(&[(3, lookups.has_parameter(row.name))])
+    let parameter = lookups.parameter(row.name);
+    let unmeasured = is_unmeasured(parameter);
+    let bad = is_bad_group(lookups, number, parameter, row);
+    at.missing(&[(3, parameter.is_some())])
         .or(at.flaw_if(MibCode::BadType, unmeasured))
         .or(at.flaw_if(MibCode::Group, bad))
 }

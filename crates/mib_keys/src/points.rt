@@ -13,14 +13,19 @@ ghost use Rattle.mib_keys.specs.Points.{point_in, point_of, point_at, point_eq, 
 ghost use Rattle.mib_keys.specs.Indexes.{cut};
 
 use crate::flaw::At;
-use crate::index::note_key;
-use crate::keys::PointKey;
-use crate::lookups::{Lookups, row_at};
+use crate::lookups::Lookups;
 use dec_num::{decimal_whole, whole_number};
+use mib_index::{Index, note};
 use mib_model::{CafRow, CapRow, Kind, MibCode, MibFault, Name, TxfRow, TxpRow};
-use mib_tables::Book;
 use std::alloc::{AllocError, Global};
 use std::collections::HashMap;
+
+/// What tells the points of curves apart.
+#[derive(Clone, Copy, PartialEq, Eq, Hash)]
+pub struct PointKey {
+    pub numbr: Name,
+    pub x: i128,
+}
 
 fn is_bad_range(texts: Option<&TxfRow>, row: &TxpRow) -> bool
     ensures { result ≡ is_bad_range (option_copied texts.entry) row.now }
@@ -43,8 +48,9 @@ pub fn txp_flaw(lookups: &Lookups<'_>, number: u32, row: &TxpRow) -> Option<MibF
         table: Kind::Txp,
         number,
     };
-    let bad = is_bad_range(lookups.texts(row.numbr), row);
-    at.missing(&[(1, lookups.has_texts(row.numbr))])
+    let texts = lookups.texts(row.numbr);
+    let bad = is_bad_range(texts, row);
+    at.missing(&[(1, texts.is_some())])
         .or(at.flaw_if(MibCode::Points, bad))
 }
 
@@ -64,15 +70,6 @@ fn point_at(numbr: Name, x: Option<i128>) -> Option<PointKey>
     }
 }
 
-// The first curve of a name.
-#[tactic(auto, using(crate::proofs::LookupFacts::lookups))]
-fn curve_of<'a>(curves: &HashMap<Name, u32>, cafs: &'a [CafRow], numbr: Name) -> Option<&'a CafRow>
-    requires { (q : List ℕ) → get bytes_eq curves.now q ≡ position (λ caf. bytes_eq caf.numbr q) cafs.now }
-    ensures { option_copied result ≡ find (λ caf. bytes_eq caf.numbr numbr) cafs.now }
-{
-    row_at(cafs, curves.get(&numbr).copied())
-}
-
 // The curve and the number of a row, where it has both.
 fn point_of(curve: Option<&CafRow>, row: &CapRow) -> Option<PointKey>
     ensures { result ≡ point_of (option_copied curve.entry) row.now }
@@ -86,37 +83,25 @@ fn point_of(curve: Option<&CafRow>, row: &CapRow) -> Option<PointKey>
 /// The first place of each point.
 pub fn point_places(
     alloc: Global,
-    book: &Book,
-    curves: &HashMap<Name, u32>,
-) -> Result<HashMap<PointKey, u32>, AllocError>
-    requires { (q : List ℕ) → get bytes_eq curves.now q ≡ position (λ caf. bytes_eq caf.numbr q) book.now.caf }
-    ensures { IfOk result (λ points. (q : PointKey) → get point_eq points q ≡ first_place point_eq (point_in book.now.caf) book.now.cap q) }
+    index: &Index<'_>,
+) -> Result<HashMap<PointKey, usize>, AllocError>
+    ensures { IfOk result (λ points. (q : PointKey) → get point_eq points q ≡ first_place point_eq (point_in index.now.caf) index.now.cap q) }
 {
-    let cafs = book.caf();
-    let caps = book.cap();
+    let curves = index.curves();
+    let caps = index.book().cap();
     let mut points = HashMap::with_capacity(alloc, caps.len())?;
     for (place, row) in caps.iter().enumerate() {
-        note_key(
-            &mut points,
-            point_of(curve_of(curves, cafs, row.numbr), row),
-            place as u32,
-        )?;
+        note(&mut points, point_of(curves.find(&row.numbr), row), place)?;
     }
     Ok(points)
 }
 
-/// Whether a place, from 0, is that of a row before the row of a number.
-pub fn before(place: Option<u32>, number: u32) -> Option<u32>
-    ensures { result ≡ cut (number - 1) place }
+/// Whether a place, from 0, is before another.
+pub fn before(place: Option<usize>, end: usize) -> Option<usize>
+    ensures { result ≡ cut end place }
 {
     match place {
-        Some(place) => {
-            if place < number.saturating_sub(1) {
-                Some(place)
-            } else {
-                None
-            }
-        }
+        Some(place) => { if place < end { Some(place) } else { None } }
         None => None,
     }
 }
@@ -128,7 +113,7 @@ fn repeats(lookups: &Lookups<'_>, number: u32, numbr: Name, x: Option<i128>) -> 
     match x {
         Some(x) => {
             let key = point_key(numbr, x);
-            before(lookups.point_place(key), number).is_some()
+            before(lookups.point_place(key), number.saturating_sub(1) as usize).is_some()
         }
         None => true,
     }
@@ -154,7 +139,8 @@ pub fn cap_flaw(lookups: &Lookups<'_>, number: u32, row: &CapRow) -> Option<MibF
         table: Kind::Cap,
         number,
     };
-    let bad = is_bad_point(lookups, number, lookups.curve(row.numbr), row);
-    at.missing(&[(1, lookups.has_points(row.numbr))])
+    let curve = lookups.curve(row.numbr);
+    let bad = is_bad_point(lookups, number, curve, row);
+    at.missing(&[(1, curve.is_some())])
         .or(at.flaw_if(MibCode::Points, bad))
 }

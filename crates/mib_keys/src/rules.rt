@@ -124,12 +124,10 @@ pub fn plf_flaw(lookups: &Lookups<'_>, number: u32, row: &PlfRow) -> Option<MibF
         table: Kind::Plf,
         number,
     };
-    let deduced = is_measured_deduced(lookups.parameter(row.name));
-    at.missing(&[
-        (1, lookups.has_parameter(row.name)),
-        (2, lookups.has_packet(row.spid)),
-    ])
-    .or(at.flaw_if(MibCode::BadType, deduced))
+    let parameter = lookups.parameter(row.name);
+    let deduced = is_measured_deduced(parameter);
+    at.missing(&[(1, parameter.is_some()), (2, lookups.has_packet(row.spid))])
+        .or(at.flaw_if(MibCode::BadType, deduced))
 }
 
 // A curve of the category of a parameter.
@@ -150,9 +148,10 @@ pub fn cur_flaw(lookups: &Lookups<'_>, number: u32, row: &CurRow) -> Option<MibF
         table: Kind::Cur,
         number,
     };
-    let curve = has_curve_of(lookups, lookups.parameter(row.pname), row.curve);
+    let parameter = lookups.parameter(row.pname);
+    let curve = has_curve_of(lookups, parameter, row.curve);
     at.missing(&[
-        (1, lookups.has_parameter(row.pname)),
+        (1, parameter.is_some()),
         (3, lookups.has_parameter(row.rlchk)),
         (5, curve),
     ])

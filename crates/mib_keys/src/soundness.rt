@@ -1,8 +1,10 @@
 // The first flaw of a book's tables.
-ghost use Rattle.std.specs.Prelude.{◌≡◌, ◌≤◌, ◌∷◌, ℕ, length, Option, Some, None, IfOk};
+ghost use Rattle.std.specs.Prelude.{◌≡◌, ◌+◌, ◌<◌, ◌≤◌, ◌∷◌, length, take, Some, None, IfOk, OnOk, if◌then◌else◌};
 ghost use Rattle.std.specs.HashMap.{get};
+ghost use Rattle.std.specs.Option.{option_or};
 ghost use Rattle.mib_model.specs.declared.key.Key.{Key};
 ghost use Rattle.mib_model.specs.Flaws.{table_flaws, twice_by};
+ghost use Rattle.mib_model.specs.Keys.{key_in};
 ghost use Rattle.mib_model.specs.Points.{first_of};
 ghost use Rattle.mib_model.specs.Soundness.{first_flaw, flaws_of};
 ghost use Rattle.mib_keys.specs.Alike.{AreKeyPlaces, key_eq};
@@ -11,86 +13,77 @@ ghost use Rattle.mib_keys.specs.Firsts.{flaw_in, first_in};
 ghost use Rattle.mib_model.specs.declared.limits.TheConstants.{HELD_MOST};
 
 use crate::fault::SoundFault;
-use crate::index::key_places;
 use crate::lookups::Lookups;
-use crate::points::before;
 use crate::tables::Rules;
-use mib_model::{KINDS, Key, Kind, MibCode, MibFault};
+use crate::twice::{ByItsKey, ByNumberOrKind, Repeats};
+use mib_index::Index;
+use mib_model::{
+    CafRow, CapRow, CurRow, KINDS, Key, Kind, LgfRow, McfRow, MibCode, MibFault, OcfRow, OcpRow,
+    PcfRow, PicRow, PlfRow, TableRow, TpcfRow, TxfRow, TxpRow, VpdRow,
+};
 use mib_tables::Book;
 use std::alloc::{AllocError, Global};
 use std::collections::HashMap;
 
-// The first flaw of a row.
-fn row_flaw<R: Rules>(
+// The first flaw of a row. Notes its key.
+fn row_flaw<T: Repeats>(
     lookups: &Lookups<'_>,
-    places: &HashMap<Key, u32>,
-    number: u32,
-    row: &R,
-) -> Option<MibFault>
-    requires { R.noted (get key_eq places.now) lookups.now }
-    ensures { result ≡ flaw_in R.kind R.alike (R.rest lookups.now) (R.listed lookups.now) number row.now }
+    seen: &mut HashMap<Key, usize>,
+    place: usize,
+    row: &T::Row,
+) -> Result<Option<MibFault>, AllocError>
+    requires seen { AreKeyPlaces T.Row.as_row (get key_eq seen.old) (take place (T.Row.listed lookups.now)) }
+    requires few { place < HELD_MOST }
+    ensures flaw { IfOk result (λ flaw. flaw ≡ flaw_in T.Row.kind T.alike (T.Row.rest lookups.now) (T.Row.listed lookups.now) (place + 1) row.now) }
+    ensures seen { OnOk result ((q : Key) → get key_eq seen.new q
+        ≡ option_or (get key_eq seen.old q) (if key_eq (key_in (T.Row.as_row row.now)) q then Some place else None)) }
 {
-    match before(row.first_alike(lookups, places), number) {
-        Some(place) => Some(MibFault {
-            table: R::kind(),
-            row: number,
+    match T::earlier(row, lookups, seen, place)? {
+        Some(first) => Ok(Some(MibFault {
+            table: T::Row::kind(),
+            row: place as u32 + 1,
             column: 0,
-            first: place + 1,
+            first: first as u32 + 1,
             code: MibCode::Twice,
-        }),
-        None => row.flaw(lookups, number),
+        })),
+        None => Ok(row.flaw(lookups, place as u32 + 1)),
     }
 }
 
 // The first flaw of rows, row by row.
-fn rows_flaw<R: Rules>(
+fn rows_flaw<T: Repeats>(
+    alloc: Global,
     lookups: &Lookups<'_>,
-    places: &HashMap<Key, u32>,
-    rows: &[R],
-) -> Option<MibFault>
-    requires noted { R.noted (get key_eq places.now) lookups.now }
+    rows: &[T::Row],
+) -> Result<Option<MibFault>, AllocError>
+    requires own { rows.now ≡ T.Row.listed lookups.now }
     requires few { length rows.now ≤ HELD_MOST }
-    ensures { result ≡ first_in (flaw_in R.kind R.alike (R.rest lookups.now) (R.listed lookups.now)) 1 rows.now }
+    ensures { IfOk result (λ flaw. flaw ≡ first_in (flaw_in T.Row.kind T.alike (T.Row.rest lookups.now) (T.Row.listed lookups.now)) 1 rows.now) }
 {
+    let mut seen = HashMap::with_capacity(alloc, rows.len())?;
     for (place, row) in rows.iter().enumerate() {
-        if let Some(flaw) = row_flaw(lookups, places, place as u32 + 1, row) {
-            return Some(flaw);
+        if let Some(flaw) = row_flaw::<T>(lookups, &mut seen, place, row)? {
+            return Ok(Some(flaw));
         }
     }
-    None
+    Ok(None)
 }
 
 // The first flaw of the rows of a table.
-fn table_flaw<R: Rules>(
-    lookups: &Lookups<'_>,
-    places: &HashMap<Key, u32>,
-    rows: &[R],
-) -> Option<MibFault>
-    requires noted { R.noted (get key_eq places.now) lookups.now }
-    requires own { rows.now ≡ R.listed lookups.now }
-    requires few { length rows.now ≤ HELD_MOST }
-    ensures { result ≡ first_of (table_flaws R.kind (twice_by R.alike ∷ R.rest lookups.now) (R.listed lookups.now)) }
-{
-    rows_flaw(lookups, places, rows)
-}
-
-// The first flaw of a table that is found by its keys.
-fn keyed_flaw<R: Rules>(
+fn table_flaw<T: Repeats>(
     alloc: Global,
     lookups: &Lookups<'_>,
-    rows: &[R],
+    rows: &[T::Row],
 ) -> Result<Option<MibFault>, AllocError>
-    requires noted { (noted : Key → Option ℕ) → AreKeyPlaces R.as_row noted rows.now → R.noted noted lookups.now }
-    requires own { rows.now ≡ R.listed lookups.now }
+    requires own { rows.now ≡ T.Row.listed lookups.now }
     requires few { length rows.now ≤ HELD_MOST }
-    ensures { IfOk result (λ flaw. flaw ≡ first_of (table_flaws R.kind (twice_by R.alike ∷ R.rest lookups.now) (R.listed lookups.now))) }
+    ensures { IfOk result (λ flaw. flaw ≡ first_of (table_flaws T.Row.kind (twice_by T.alike ∷ T.Row.rest lookups.now) (T.Row.listed lookups.now))) }
 {
-    let places = key_places(alloc, rows)?;
-    Ok(table_flaw(lookups, &places, rows))
+    rows_flaw::<T>(alloc, lookups, rows)
 }
 
-/// The first flaw of a table.
-pub fn kind_flaw(
+// The first flaw of a table.
+fn kind_flaw(
     alloc: Global,
     lookups: &Lookups<'_>,
     kind: Kind,
@@ -98,23 +91,22 @@ pub fn kind_flaw(
     ensures { IfOk result (λ flaw. flaw ≡ first_of (flaws_of lookups.now kind)) }
 {
     let book = lookups.book();
-    let none = HashMap::new(alloc);
     match kind {
-        Kind::Pcf => Ok(table_flaw(lookups, &none, book.pcf())),
-        Kind::Pid => Ok(table_flaw(lookups, &none, book.pid())),
-        Kind::Pic => keyed_flaw(alloc, lookups, book.pic()),
-        Kind::Tpcf => keyed_flaw(alloc, lookups, book.tpcf()),
-        Kind::Plf => keyed_flaw(alloc, lookups, book.plf()),
-        Kind::Vpd => keyed_flaw(alloc, lookups, book.vpd()),
-        Kind::Cur => keyed_flaw(alloc, lookups, book.cur()),
-        Kind::Caf => Ok(table_flaw(lookups, &none, book.caf())),
-        Kind::Cap => keyed_flaw(alloc, lookups, book.cap()),
-        Kind::Txf => Ok(table_flaw(lookups, &none, book.txf())),
-        Kind::Txp => keyed_flaw(alloc, lookups, book.txp()),
-        Kind::Mcf => Ok(table_flaw(lookups, &none, book.mcf())),
-        Kind::Lgf => Ok(table_flaw(lookups, &none, book.lgf())),
-        Kind::Ocf => Ok(table_flaw(lookups, &none, book.ocf())),
-        Kind::Ocp => keyed_flaw(alloc, lookups, book.ocp()),
+        Kind::Pcf => table_flaw::<ByItsKey<PcfRow>>(alloc, lookups, book.pcf()),
+        Kind::Pid => table_flaw::<ByNumberOrKind>(alloc, lookups, book.pid()),
+        Kind::Pic => table_flaw::<ByItsKey<PicRow>>(alloc, lookups, book.pic()),
+        Kind::Tpcf => table_flaw::<ByItsKey<TpcfRow>>(alloc, lookups, book.tpcf()),
+        Kind::Plf => table_flaw::<ByItsKey<PlfRow>>(alloc, lookups, book.plf()),
+        Kind::Vpd => table_flaw::<ByItsKey<VpdRow>>(alloc, lookups, book.vpd()),
+        Kind::Cur => table_flaw::<ByItsKey<CurRow>>(alloc, lookups, book.cur()),
+        Kind::Caf => table_flaw::<ByItsKey<CafRow>>(alloc, lookups, book.caf()),
+        Kind::Cap => table_flaw::<ByItsKey<CapRow>>(alloc, lookups, book.cap()),
+        Kind::Txf => table_flaw::<ByItsKey<TxfRow>>(alloc, lookups, book.txf()),
+        Kind::Txp => table_flaw::<ByItsKey<TxpRow>>(alloc, lookups, book.txp()),
+        Kind::Mcf => table_flaw::<ByItsKey<McfRow>>(alloc, lookups, book.mcf()),
+        Kind::Lgf => table_flaw::<ByItsKey<LgfRow>>(alloc, lookups, book.lgf()),
+        Kind::Ocf => table_flaw::<ByItsKey<OcfRow>>(alloc, lookups, book.ocf()),
+        Kind::Ocp => table_flaw::<ByItsKey<OcpRow>>(alloc, lookups, book.ocp()),
     }
 }
 
@@ -130,12 +122,42 @@ fn tables_flaw(alloc: Global, lookups: &Lookups<'_>) -> Result<Option<MibFault>,
     Ok(None)
 }
 
+/// The first flaw of a table of the book of an index.
+pub fn index_kind_flaw(
+    alloc: Global,
+    index: &Index<'_>,
+    kind: Kind,
+) -> Result<Option<MibFault>, AllocError>
+    ensures { IfOk result (λ flaw. flaw ≡ first_of (flaws_of index.now kind)) }
+{
+    let lookups = Lookups::new(alloc, index)?;
+    kind_flaw(alloc, &lookups, kind)
+}
+
+/// The first flaw of the book of an index.
+pub fn index_flaw(alloc: Global, index: &Index<'_>) -> Result<Option<MibFault>, AllocError>
+    ensures { IfOk result (λ flaw. flaw ≡ first_flaw index.now) }
+{
+    let lookups = Lookups::new(alloc, index)?;
+    tables_flaw(alloc, &lookups)
+}
+
 /// The first flaw of a book, with all that is made for it.
 pub fn first_flaw(alloc: Global, book: &Book) -> Result<Option<MibFault>, AllocError>
     ensures { IfOk result (λ flaw. flaw ≡ first_flaw book.now) }
 {
-    let lookups = Lookups::new(alloc, book)?;
-    tables_flaw(alloc, &lookups)
+    let index = Index::mapped(alloc, book)?;
+    index_flaw(alloc, &index)
+}
+
+/// Whether the book of an index is sound, as `sound` tells it.
+pub fn sound_by(alloc: Global, index: &Index<'_>) -> Result<(), SoundFault>
+    ensures { Gives result index.now }
+{
+    match index_flaw(alloc, index)? {
+        None => Ok(()),
+        Some(fault) => Err(SoundFault::Mib(fault)),
+    }
 }
 
 /// Whether a book is sound: `Ok` exactly where no flaw stands, and else the first flaw, by table, row and code, unless
@@ -143,8 +165,6 @@ pub fn first_flaw(alloc: Global, book: &Book) -> Result<Option<MibFault>, AllocE
 pub fn sound(alloc: Global, book: &Book) -> Result<(), SoundFault>
     ensures { Gives result book.now }
 {
-    match first_flaw(alloc, book)? {
-        None => Ok(()),
-        Some(fault) => Err(SoundFault::Mib(fault)),
-    }
+    let index = Index::mapped(alloc, book)?;
+    sound_by(alloc, &index)
 }

@@ -3,7 +3,7 @@ use Rattle.std.proofs.Common.{◌≡◌, ℕ, zero, suc, ◌+◌, ◌<◌, nat_e
 use Rattle.std.proofs.lemmas.Option.{none-some}
 use Rattle.std.specs.List.{flat_map, list_any, position}
 use Rattle.numbered_plans.specs.Apart.{AreApart}
-use Rattle.mib_keys.proofs.PlaceFacts.{position-cons}
+use Rattle.mib_index.proofs.PlaceFacts.{position-cons}
 use Rattle.mib_laws.proofs.SoundStructures.{append-none, rows-sound, EachRow, NoFlaw}
 use Rattle.mib_model.specs.declared.database.Database.{Database}
 use Rattle.mib_model.specs.declared.kind.Kind.TheVariants as kind

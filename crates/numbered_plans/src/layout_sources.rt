@@ -5,11 +5,11 @@ ghost use Rattle.edition_plans.specs.Layouts.{layout_slice};
 ghost use Rattle.mib_model.specs.Touched.{same_slice};
 ghost use Rattle.numbered_plans.specs.Layouts.{laid_spids, layout_numbered, same_layout};
 
-use crate::places::Places;
 use crate::sources::Sources;
-use crate::ways::ByLaidOut;
+use crate::ways::{ByLaidOut, ByPlaced};
 use first_rows::FirstRows;
 use layout_plan::Layout;
+use mib_index::Groups;
 use mib_model::{PidRow, PlfRow, Steps, TypeItem};
 use mib_tables::Book;
 use row_sameness::{all_same, same_row};
@@ -38,7 +38,7 @@ impl Model for LayoutParts {
 /// The packets of a book, the places of its parameters, and their type items. Contracts see the book's database.
 pub struct LayoutSources<'a> {
     packets: FirstRows<ByLaidOut>,
-    places: Places<'a>,
+    places: Groups<'a, ByPlaced>,
     items: TypeItems<'a>,
     book: Snapshot<Book>,
 }
@@ -84,7 +84,7 @@ impl<'a> LayoutSources<'a> {
     {
         Ok(LayoutSources {
             packets: FirstRows::new(alloc, book.pid())?,
-            places: Places::new(alloc, book.plf())?,
+            places: Groups::mapped(alloc, book.plf())?,
             items: TypeItems::new(alloc, book.pcf())?,
             book: Snapshot::of(book),
         })

@@ -3,7 +3,7 @@
 //! A `LayoutSet` and a `StructureSet` are seen by contracts as the database whose plans they have. Each is made beside a
 //! base: a plan that the base has of the same rows and type items is shared with it, and each other one is compiled, in one
 //! step. Both are made by one loop over the numbers of a kind, of which `Sources` says what its plans are compiled of.
-//! It rests on layout_plan and struct_plan for the plans, on type_items, first_rows and row_groups for rows by their keys,
+//! It rests on layout_plan and struct_plan for the plans, on type_items, mib_index, first_rows and row_groups for rows by their keys,
 //! on row_sameness for rows that are the same, on edition_plans for what the layout of a SPID is, and on mib_keys and
 //! mib_laws for laws of rows.
 #![tactic(auto)]
@@ -16,7 +16,6 @@ mod layout_sources;
 mod layouts;
 mod made;
 mod order;
-mod places;
 mod sources;
 mod structure_set;
 mod structure_sources;

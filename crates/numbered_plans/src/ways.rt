@@ -1,6 +1,6 @@
 // The keys by which rows are found.
 use first_rows::By;
-use mib_model::{PidRow, VpdRow};
+use mib_model::{PidRow, PlfRow, VpdRow};
 
 /// Packets of fixed layout by SPID.
 #[derive(Drop)]
@@ -21,6 +21,24 @@ impl By for ByLaidOut {
         } else {
             None
         }
+    }
+}
+
+/// Places of parameters by the SPIDs of their packets.
+#[derive(Drop)]
+pub struct ByPlaced;
+
+impl By for ByPlaced {
+    ghost use Rattle.std.specs.Prelude.{Some};
+
+    type Row = PlfRow;
+
+    type Key = u32;
+
+    ghost key_of = { λ row. Some row.spid };
+
+    fn key(row: &PlfRow) -> Option<u32> {
+        Some(row.spid)
     }
 }
 

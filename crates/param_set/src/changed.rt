@@ -4,7 +4,7 @@ ghost use Rattle.std.specs.List.{list_any};
 ghost use Rattle.mib_keys.specs.Kept.{AreSameIn};
 ghost use Rattle.param_set.specs.Changed.{AreChanged, AreCurvesKept, AreRowsKept, Notes, has_name, takes_any};
 
-use mib_keys::Named;
+use mib_index::Named;
 use mib_model::{CurRow, Name};
 use mib_tables::{Book, TableSet};
 use param_plan::ParamRows;

@@ -10,8 +10,7 @@ ghost use Rattle.param_set.specs.Compiled.{AreNamed};
 
 use crate::curves::Curves;
 use curve_plan::{Curve, CurveRows};
-use first_rows::By;
-use mib_keys::ByName;
+use mib_index::{By, ByName};
 use mib_model::{CafRow, LgfRow, McfRow, Name, TxfRow};
 use mib_tables::Book;
 use std::alloc::{AllocError, Global};

@@ -4,9 +4,8 @@ ghost use Rattle.std.specs.Option.{option_or};
 ghost use Rattle.curve_plan.specs.Rows.{rows_of};
 ghost use Rattle.mib_model.specs.Curves as Spec;
 
-use crate::lookups::{Firsts, Groups};
 use curve_plan::CurveRows;
-use mib_keys::ByName;
+use mib_index::{ByName, Firsts, Groups};
 use mib_model::{CafRow, CapRow, LgfRow, McfRow, Name, TxfRow, TxpRow};
 use mib_tables::Book;
 use std::alloc::{AllocError, Global};

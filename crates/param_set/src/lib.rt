@@ -3,8 +3,8 @@
 //! `params_of` compiles a plan for each parameter that has one, and takes over by handle each plan of a base whose rows
 //! are the same, in the same order. The rows of a parameter are found by hash maps that are made once, so that its time
 //! grows with the rows, but for what is sorted. `params_with` gathers, where few rows differ from those of a base, the rows of
-//! the parameters alone that these touch. It rests on mib_tables for the rows, on mib_keys for the tables in which two books differ
-//! and for the names by which rows are found, on first_rows and row_groups for finding them, and on param_plan for the plans.
+//! the parameters alone that these touch. It rests on mib_tables for the rows, on mib_keys for the tables in which two books differ,
+//! on mib_index for finding rows by their names, and on param_plan for the plans.
 #![tactic(auto)]
 
 mod beside;
@@ -12,7 +12,6 @@ mod changed;
 mod compiled;
 mod curves;
 mod laws;
-mod lookups;
 mod order;
 mod same;
 mod set;

@@ -14,10 +14,9 @@ ghost use Rattle.param_plan.specs.Slices.{slice_of, slice_for};
 ghost use Rattle.param_set.specs.Beside.{row_now};
 
 use crate::compiled::CompiledCurves;
-use crate::lookups::{Firsts, Groups};
 use crate::order::{limits, selections};
 use curve_plan::Curve;
-use mib_keys::ByName;
+use mib_index::{ByName, Firsts, Groups};
 use mib_model::{CurRow, Name, OcfRow, OcpRow, PcfRow};
 use mib_tables::Book;
 use param_plan::ParamRows;

@@ -1,69 +1,26 @@
-ghost use Rattle.std.specs.Prelude.{◌≡◌, ◌++◌, ◌∷◌, [], ℕ, List, Some, None, IfOk, OnOk, map, if◌then◌else◌};
-ghost use Rattle.std.specs.HashMap.{get};
-ghost use Rattle.std.specs.Option.{option_or};
-ghost use Rattle.std.specs.Str.{bytes_eq};
+ghost use Rattle.std.specs.Prelude.{◌≡◌, ◌++◌, ◌∷◌, [], IfOk, OnOk, map};
 ghost use Rattle.mib_model.specs.Parameters as Spec;
-ghost use Rattle.mib_model.specs.Parameters.{parameter};
 ghost use Rattle.mib_model.specs.Plans.{type_item};
 ghost use Rattle.type_items.specs.Items as Items;
 
-use crate::named::Named;
+use mib_index::{ByName, Firsts, Named};
 use mib_model::{Endian, Name, PcfRow, TypeItem};
 use std::alloc::{AllocError, Global};
-use std::collections::HashMap;
 use std::marker::Model;
 
-// A parameter, where it stands. Contracts see its row.
-#[derive(Drop)]
-struct Standing<'a> {
-    row: &'a PcfRow,
-}
-
-impl<'a> Model for Standing<'a> {
-    ghost use Rattle.mib_model.specs.declared.rows.PcfRow.{PcfRow};
-
-    ghost Value = { PcfRow };
-
-    ghost view = { λ parameter. parameter.row.now };
-}
-
-impl<'a> Standing<'a> {
-    // What a plan depends on of it.
-    fn item(&self) -> TypeItem
-        ensures { result ≡ type_item self.now }
-    {
-        item_of(self.row)
-    }
-}
-
 /// Parameters where they stand, found by their names, for their type items. Contracts see the rows of the parameters.
+#[derive(Drop)]
 pub struct TypeItems<'a> {
-    firsts: HashMap<Name, Standing<'a>>,
-    parameters: &'a [PcfRow],
-}
-
-/// By hand, so that whoever lets one go proves one call.
-impl Drop for TypeItems<'_> {
-    fn drop(self) {
-        let TypeItems {
-            firsts: _firsts,
-            parameters: _,
-        } = self;
-    }
+    parameters: Firsts<'a, ByName<PcfRow>>,
 }
 
 impl<'a> Model for TypeItems<'a> {
-    ghost use Rattle.std.specs.Prelude.{◌≡◌, ℕ, List};
-    ghost use Rattle.std.specs.HashMap.{get};
-    ghost use Rattle.std.specs.Str.{bytes_eq};
-    ghost use Rattle.mib_model.specs.Parameters.{parameter};
+    ghost use Rattle.std.specs.Prelude.{List};
     ghost use Rattle.mib_model.specs.declared.rows.PcfRow.{PcfRow};
 
     ghost Value = { List PcfRow };
 
-    ghost view = { λ all. all.parameters.now };
-
-    ghost invariant = { λ all. (name : List ℕ) → get bytes_eq all.firsts name ≡ parameter all.parameters.now name };
+    ghost view = { λ items. items.parameters };
 }
 
 // The octet order that a letter asks for.
@@ -87,40 +44,13 @@ pub fn item_of(row: &PcfRow) -> TypeItem
     }
 }
 
-// Notes a parameter whose name has none yet.
-fn note<'a>(firsts: &mut HashMap<Name, Standing<'a>>, row: &'a PcfRow) -> Result<(), AllocError>
-    ensures { OnOk result ((name : List ℕ) → get bytes_eq firsts.new name ≡ option_or (get bytes_eq firsts.old name)
-        (if bytes_eq row.now.name name then Some row.now else None)) }
-{
-    let name = row.name;
-    if !firsts.contains_key(&name) {
-        firsts.insert(name, Standing { row })?;
-    }
-    Ok(())
-}
-
-// The first parameter of each name.
-fn firsts<'a>(
-    alloc: Global,
-    parameters: &'a [PcfRow],
-) -> Result<HashMap<Name, Standing<'a>>, AllocError>
-    ensures { IfOk result (λ firsts. (name : List ℕ) → get bytes_eq firsts name ≡ parameter parameters.now name) }
-{
-    let mut firsts = HashMap::with_capacity(alloc, parameters.len())?;
-    for row in parameters {
-        note(&mut firsts, row)?;
-    }
-    Ok(firsts)
-}
-
 impl<'a> TypeItems<'a> {
     /// Those of some parameters. An error is want of memory.
     pub fn new(alloc: Global, parameters: &'a [PcfRow]) -> Result<TypeItems<'a>, AllocError>
         ensures { IfOk result (λ items. items ≡ parameters.now) }
     {
         Ok(TypeItems {
-            firsts: firsts(alloc, parameters)?,
-            parameters,
+            parameters: Firsts::mapped(alloc, parameters)?,
         })
     }
 
@@ -128,7 +58,7 @@ impl<'a> TypeItems<'a> {
     pub fn find(&self, name: &Name) -> Option<TypeItem>
         ensures { result ≡ Items.item_of self.now name.now }
     {
-        Some(self.firsts.get(name)?.item())
+        Some(item_of(self.parameters.find(name)?))
     }
 
     // Puts that of the parameter of a name behind the others, if there is one.
@@ -149,7 +79,7 @@ impl<'a> TypeItems<'a> {
     {
         let mut items = Vec::new(alloc);
         for row in rows {
-            self.add(&mut items, &row.parameter())?;
+            self.add(&mut items, &row.name())?;
         }
         Ok(items)
     }

@@ -12,5 +12,5 @@ pub returns : goal.returns
 returns c =
     let book = c.args.book.now in
     let kind = c.args.kind in
-    let part = c.in_ok-lookups.ensures ∙ c.in_ok-part.ensures ∙ ap (λ (set : TableSet). part_of set book) c.tables_read.ensures in
-    ok-agree c.kind_flaw.result _ _ (ap (λ (db : Database). first_of (flaws_of db kind)) part ∙ ap first_of (flaws-read-alone book kind)) c.kind_flaw.ensures
+    let part = c.in_ok-index.ensures ∙ c.in_ok-part.ensures ∙ ap (λ (set : TableSet). part_of set book) c.tables_read.ensures in
+    ok-agree c.index_kind_flaw.result _ _ (ap (λ (db : Database). first_of (flaws_of db kind)) part ∙ ap first_of (flaws-read-alone book kind)) c.index_kind_flaw.ensures

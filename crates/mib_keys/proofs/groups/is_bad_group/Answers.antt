@@ -13,5 +13,5 @@ returns c =
     let db = c.args.lookups.now in
     let r = c.args.row.now in
     let passes : c.passes_spots-passes.result ≡ passes_end (structure db (pos r.tpsd)) (place_of db (take (c.args.number - 1) db.vpd) r) r.grpsize =
-    c.passes_spots-passes.ensures ∙ (ap (λ spots. passes_spots spots r) c.structure.ensures ∙ group-ends db r (c.args.number - 1) c.requires) in
+    c.passes_spots-passes.ensures ∙ (ap (λ spots. passes_spots spots r) c.structure.ensures ∙ group-ends db r (c.args.number - 1) c.requires.first) in
     cc

@@ -1,5 +1,5 @@
 use Rattle.std.proofs.Common.{◌≡◌, ◌∙◌, ◌-◌, ap, is_some, rules}
-use Rattle.mib_keys.specs.declared.keys.PointKey.{PointKey}
+use Rattle.mib_keys.specs.declared.points.PointKey.{PointKey}
 use Rattle.mib_keys.specs.Indexes.{cut, first_place}
 use Rattle.mib_keys.specs.Points.{point_eq, point_in}
 use Rattle.mib_keys.proofs.points.repeats.Goals as goal
@@ -9,4 +9,4 @@ returns-in-Some c =
     let q : PointKey = record { numbr = c.args.numbr; x = c.in-Some.x } in
     let key : c.point_key-key.result ≡ q = search rules in
     let db = c.args.lookups.now in
-    rw c.in-Some.is (c.is_some.ensures ∙ ap is_some (c.before-in-Some.ensures ∙ ap (cut (c.args.number - 1)) (c.point_place.ensures ∙ ap (first_place point_eq (point_in db.caf) db.cap) key)))
+    rw c.in-Some.is (c.is_some.ensures ∙ ap is_some (c.before-in-Some.ensures ∙ rw c.saturating_sub.ensures (ap (cut (c.args.number - 1)) (c.point_place.ensures ∙ ap (first_place point_eq (point_in db.caf) db.cap) key))))

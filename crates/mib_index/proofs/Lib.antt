@@ -1,0 +1,2 @@
+pub mod PlaceFacts
+mod GroupFacts
