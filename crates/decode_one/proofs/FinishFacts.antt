@@ -1,15 +1,20 @@
 -- What is asked of the values of a packet that was decoded, and a step of the interpreter.
-use Rattle.std.proofs.Common.{◌≡◌, ◌∙◌, ℕ, Bool, ◌++◌, List, Option, take, true, All, refl, sym, ap, subst}
+use Rattle.std.proofs.Common.{◌≡◌, ◌∙◌, ℕ, Bool, ◌++◌, List, [], Option, take, true, All, IsSome, refl, sym, ap, subst}
 use Rattle.std.proofs.lemmas.List.Elements.{All-weaker}
 use Rattle.std.specs.List.{flat_map}
 use Rattle.edition_plans.specs.Params.{param_slices}
-use Rattle.fold_state.specs.Boards.{Slots, plan_names}
+use Rattle.fold_state.specs.Boards.{Slots, is_name_of, plan_names}
+use Rattle.line_sheets.specs.Drawings.{HasPlan, body_played, packet_played}
+use Rattle.line_sheets.specs.Pieces.{Played}
+use Rattle.param_plan.proofs.PlanFacts.{position-map}
 use Rattle.fold_state.specs.Premises.{Fits, HasSlot, IsParamsOf, IsRaw}
 use Rattle.fold_state.specs.Laws.{FinishIsAStep}
 use Rattle.fold_state.specs.Demands.{any_name}
 use Rattle.memory_laws.specs.Alike.{AreAlike}
 use Rattle.memory_laws.proofs.AlikeFacts.{alike-is-same}
 use Rattle.mib_model.specs.declared.database.Database.{Database}
+use Rattle.mib_model.specs.declared.packet.Found.{Found}
+use Rattle.mib_model.specs.declared.packet.Header.{Header}
 use Rattle.mib_model.specs.declared.packet.Value.{Value}
 use Rattle.mib_model.specs.Bits.{is_inside}
 use Rattle.mib_model.specs.Finish.{all_finished}
@@ -23,7 +28,7 @@ use Rattle.mib_model.specs.Walk.{Extracted}
 use Rattle.param_plan.specs.Slices.{ParamSlice}
 use Rattle.decode_one.specs.declared.half.Half.{Half}
 use Rattle.decode_one.specs.Halves.{IsHalf}
-use Rattle.decode_one.specs.Steps.{ComesTo, HasStepped, HasSteppedFor}
+use Rattle.decode_one.specs.Steps.{ComesTo, HasStepped, HasSteppedFor, IsStampedOf}
 use Rattle.decode_one.specs.Values.{IsValueOf}
 use Rattle.decode_one.proofs.ParamFacts.{params-of, slot-of}
 use Rattle.decode_one.proofs.ValueFacts.{sound-values}
@@ -54,8 +59,26 @@ module _ (db : Database) (sound : IsSound db) (packet : List ℕ) (half : Half) 
     numbers = taken-raw;
   }
 
+  -- each has a plan among plans of all parameters
+  pub taken-planned : (params : List ParamSlice) → params ≡ param_slices db → All (λ v. HasPlan params v.name) (take half.used slots)
+  taken-planned params all = All-weaker (IsValueOf db packet) (λ v. HasPlan params v.name) (λ v of.
+      let board : Slots = record { names = plan_names params; slots = [] } in
+      subst (λ (place : Option ℕ). IsSome place) (position-map (λ (slice : ParamSlice). slice.pcf.name) (is_name_of v.name) params)
+      (slot-of db board v.name (ap plan_names all) of.planned)) (take half.used slots) taken-values
+
   abbrev vs : List Value
   vs = take half.used slots
+
+  -- what is drawn of such values between such a head and such an end is the packet's record
+  pub record-drawn : (number : ℕ) (title : Option (List ℕ)) (s : StampedPacket) → title ≡ title_of db half.found → IsStampedOf s number packet db → (memory : Memory)
+      → body_played db packet vs (head_text number half.header half.found title) (ended_text half.ended) memory ≡ packet_played s memory
+  record-drawn number title s titled of memory =
+      let named : title ≡ title_of db (match_of db packet) = titled ∙ ap (title_of db) is.found in
+      let played : ℕ → Database → List ℕ → Header → Found → Option (List ℕ) → Extracted → Played =
+      λ n tables octets header found name e. body_played tables octets e.0 (head_text n header found name) (ended_text e.1) memory in
+      (λ i. played number db packet (is.header i) (is.found i) (named i) (is.values i)) ∙
+      sym (λ i. played (of.number i) (of.tables i) (of.packet i) (header_of (of.packet i)) (match_of (of.tables i) (of.packet i)) (title_of (of.tables i) (match_of (of.tables i) (of.packet i)))
+      (values_of (of.tables i) (of.packet i) (match_of (of.tables i) (of.packet i))))
 
   -- the lines of such values behind a head
   abbrev lines_behind : List ℕ → List ℕ → Database → Memory → List ℕ

@@ -23,3 +23,9 @@ pub record HasSteppedFor (asked : List ℕ → Bool) (c : Course) (s : StampedPa
 pub record HasStepped (c : Course) (s : StampedPacket) (after : Memory) (old new : List ℕ) : Type 0 where
   pub text : new ≡ old ++ record_body (record_for c s)
   pub memory : (course_after c s).memory ≡ after
+
+-- a packet with its number is this one, of an edition with these tables
+pub record IsStampedOf (s : StampedPacket) (count : ℕ) (octets : List ℕ) (db : Database) : Type 0 where
+  pub number : s.number ≡ count
+  pub packet : s.packet ≡ octets
+  pub tables : s.tables ≡ db

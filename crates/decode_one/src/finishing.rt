@@ -22,7 +22,7 @@ use record_text::Lines;
 // The name of a packet that was found, where it has one.
 #[tactic(auto, unfolding(mib_model::specs::Interpreter::title_of))]
 #[inline(always)]
-fn title<'a, P: Plans>(plans: &'a P, found: &Found) -> Option<&'a Text>
+pub(crate) fn title<'a, P: Plans>(plans: &'a P, found: &Found) -> Option<&'a Text>
     ensures { option_copied result ≡ title_of (P.tables plans.now) found.now }
 {
     match *found {
