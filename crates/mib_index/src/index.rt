@@ -54,8 +54,8 @@ impl<'a> Model for Index<'a> {
 }
 
 impl<'a> Index<'a> {
-    /// The rows of a book, of which many are looked up. An error is want of memory.
-    pub fn mapped(alloc: Global, book: &'a Book) -> Result<Index<'a>, AllocError>
+    /// The rows of a book. An error is want of memory.
+    pub fn new(alloc: Global, book: &'a Book) -> Result<Index<'a>, AllocError>
         ensures { IfOk result (λ index. index ≡ book.now) }
     {
         Ok(Index {
@@ -70,24 +70,6 @@ impl<'a> Index<'a> {
             points: Groups::mapped(alloc, book.cap())?,
             structure_rows: Groups::mapped(alloc, book.vpd())?,
         })
-    }
-
-    /// The rows of a book, of which few are looked up.
-    pub fn listed(book: &'a Book) -> Index<'a>
-        ensures { result ≡ book.now }
-    {
-        Index {
-            book,
-            parameters: Firsts::listed(book.pcf()),
-            curves: Firsts::listed(book.caf()),
-            texts: Firsts::listed(book.txf()),
-            polynomials: Firsts::listed(book.mcf()),
-            logarithms: Firsts::listed(book.lgf()),
-            checks: Firsts::listed(book.ocf()),
-            selections: Groups::listed(book.cur()),
-            points: Groups::listed(book.cap()),
-            structure_rows: Groups::listed(book.vpd()),
-        }
     }
 
     /// The book.

@@ -20,7 +20,7 @@ fn part_flaw(alloc: Global, book: &Book, kind: Kind) -> Result<Option<MibFault>,
     ensures { IfOk result (λ flaw. flaw ≡ first_of (flaws_of book.now kind)) }
 {
     let part = book.part(tables_read(kind))?;
-    let index = Index::mapped(alloc, &part)?;
+    let index = Index::new(alloc, &part)?;
     index_kind_flaw(alloc, &index, kind)
 }
 

@@ -146,7 +146,7 @@ pub fn index_flaw(alloc: Global, index: &Index<'_>) -> Result<Option<MibFault>, 
 pub fn first_flaw(alloc: Global, book: &Book) -> Result<Option<MibFault>, AllocError>
     ensures { IfOk result (λ flaw. flaw ≡ first_flaw book.now) }
 {
-    let index = Index::mapped(alloc, book)?;
+    let index = Index::new(alloc, book)?;
     index_flaw(alloc, &index)
 }
 
@@ -165,6 +165,6 @@ pub fn sound_by(alloc: Global, index: &Index<'_>) -> Result<(), SoundFault>
 pub fn sound(alloc: Global, book: &Book) -> Result<(), SoundFault>
     ensures { Gives result book.now }
 {
-    let index = Index::mapped(alloc, book)?;
+    let index = Index::new(alloc, book)?;
     sound_by(alloc, &index)
 }
