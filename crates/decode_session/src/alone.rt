@@ -59,7 +59,16 @@ fn add_next<P: Plans, S: Source>(
         Next::Packet { octets, header } => {
             let packet = &frame.slice()[..octets as usize];
             half.decode(plans, &header, packet, slots.slice_mut());
-            finish(plans, demands, number, packet, half, slots.slice(), board, lines);
+            finish(
+                plans,
+                demands,
+                number,
+                packet,
+                half,
+                slots.slice(),
+                board,
+                lines,
+            );
             None
         }
         Next::End => Some(Filled::End),

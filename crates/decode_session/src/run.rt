@@ -85,8 +85,14 @@ fn run_batches<P: Plans + Sync, S: Source, O: Sink, R: Threads + Sync>(
         let filled = fill(number, feed, &mut stock.rooms, &mut stock.cells);
         number += stock.cells.len() as u64;
         decode_batch(rt, plans, &mut stock.cells, workers);
-        let Ok(()) = finish_batch(plans, &stock.demands, &stock.cells, &mut stock.board, &mut stock.lines, out)
-        else {
+        let Ok(()) = finish_batch(
+            plans,
+            &stock.demands,
+            &stock.cells,
+            &mut stock.board,
+            &mut stock.lines,
+            out,
+        ) else {
             return Err(RunFault::Print(Stop::Out));
         };
         free_rooms(&mut stock.cells, &mut stock.rooms);
