@@ -5,12 +5,12 @@ use Rattle.tm_io.specs.Octets.{AppendsPrefix}
 use Rattle.decode_session.specs.declared.cell.Cell.{Cell}
 use Rattle.decode_session.specs.Causes.{HasFillCause}
 use Rattle.decode_session.specs.Cells.{IsReady, all_stamped}
-use Rattle.decode_session.specs.Finishing.{batch_text, LeavesAfter, Going}
+use Rattle.decode_session.specs.Finishing.{AreDemandsIn, batch_text, LeavesAfter, Going}
 use Rattle.decode_session.proofs.RunSteps.{ready-all, going-start, going-same, going-batch, ran-unhanded, ran-whole, ran-fault, ran-cut, ran-stopped_at_rest, ran-stopped}
 use Rattle.decode_session.proofs.run.run_batches.Goals as goal
 use Rattle.edition_plans.specs.Params.{param_slices}
 use Rattle.fold_state.specs.Boards.{memory_of}
-use Rattle.fold_state.specs.Demands.{AreDemandsOf, asked_in}
+use Rattle.fold_state.specs.Demands.{asked_in}
 use Rattle.memory_laws.proofs.AlikeFacts.{alike-same}
 use Rattle.packet_feed.specs.Feed.{source_of}
 
@@ -45,8 +45,7 @@ returns-in_default-clause-ran g c =
 
 pub finish_batch-requires-clause-demands : goal.finish_batch-requires-clause-demands
 finish_batch-requires-clause-demands g c =
-    let params = param_slices (g.P.Structures.tables c.args.plans.now) in
-    subst (AreDemandsOf (asked_in params) params) (sym c.deref.ensures.value) c.loop-number.invariant.demands
+    subst (AreDemandsIn (g.P.Structures.tables c.args.plans.now)) (sym c.deref.ensures.value) c.loop-number.invariant.demands
 
 pub finish_batch-requires-clause-ready : goal.finish_batch-requires-clause-ready
 finish_batch-requires-clause-ready g c =
