@@ -1,4 +1,4 @@
-mod FinishFacts
+pub mod FinishFacts
 mod NumberFacts
 pub mod ParamFacts
 mod SoundFacts

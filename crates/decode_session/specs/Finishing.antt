@@ -3,7 +3,8 @@ use Rattle.std.specs.Prelude.{◌≡◌, ℕ, ◌+◌, List, [], ◌++◌, lengt
 use Rattle.std.specs.List.{All, concat}
 use Rattle.decode_session.specs.Run.{Writes}
 use Rattle.edition_plans.specs.Params.{param_slices}
-use Rattle.fold_state.specs.Demands.{asked_in}
+use Rattle.fold_state.specs.declared.demands.Demand.{Demand}
+use Rattle.fold_state.specs.Demands.{AreDemandsOf, asked_in}
 use Rattle.memory_laws.specs.Alike.{AreAlike}
 use Rattle.mib_model.specs.declared.database.Database.{Database}
 use Rattle.mib_model.specs.Interpreter.{Course, StampedPacket, start, record_for, course_after, interpret, course_after_all, records_text}
@@ -31,6 +32,10 @@ Leaves edition db memory s after = standing edition db after ≡ course_after (s
 -- this is kept after packets that come there
 abbrev pub LeavesAfter : ℕ → Database → Memory → List StampedPacket → Memory → Type 0
 LeavesAfter edition db memory stamped after = standing edition db after ≡ course_after_all (standing edition db memory) stamped
+
+-- what is demanded of values is what the plans of a database ask
+abbrev pub AreDemandsIn : Database → List Demand → Type 0
+AreDemandsIn db demands = AreDemandsOf (asked_in (param_slices db)) (param_slices db) demands
 
 -- a memory tells the same as what is kept: it differs at most in raw numbers that no plan of a database asks
 abbrev pub Serves : Database → Memory → Memory → Type 0

@@ -2,11 +2,10 @@
 ghost use Rattle.std.specs.Prelude.{◌≡◌, ◌≢◌, ◌+◌, ◌<◌, ◌≤◌, [], Err, MatchOption, length, vec_len, vec_capacity};
 ghost use Rattle.decode_session.specs.Causes.{HasOutCause, HasFeedCause, HasFillCause};
 ghost use Rattle.decode_session.specs.Run.{EndsBy, Ran, most_packets};
-ghost use Rattle.decode_session.specs.Finishing.{Leads};
+ghost use Rattle.decode_session.specs.Finishing.{AreDemandsIn, Leads};
 ghost use Rattle.decode_session.specs.Turns.{AddsOne, AddsNothing, AddsBatch};
 ghost use Rattle.edition_plans.specs.Params.{param_slices};
 ghost use Rattle.fold_state.specs.Boards.{memory_of, plan_names};
-ghost use Rattle.fold_state.specs.Demands.{AreDemandsOf, asked_in};
 ghost use Rattle.fold_state.specs.declared.finish.TheConstants.{TEXT_BEFORE};
 ghost use Rattle.mib_model.specs.Kept.{empty_memory};
 ghost use Rattle.packet_feed.specs.Feed.{SourceStays, source_of};
@@ -37,7 +36,7 @@ fn add_next<P: Plans, S: Source>(
     board: &mut Board,
     lines: &mut Lines,
 ) -> Option<Filled>
-    requires demands { AreDemandsOf (asked_in (param_slices (P.tables plans.now))) (param_slices (P.tables plans.now)) demands.now }
+    requires demands { AreDemandsIn (P.tables plans.now) demands.now }
     requires board { board.old.names ≡ plan_names (param_slices (P.tables plans.now)) }
     requires room { length lines.old ≤ TEXT_BEFORE }
     ensures board { board.new.names ≡ board.old.names }
@@ -59,7 +58,16 @@ fn add_next<P: Plans, S: Source>(
         Next::Packet { octets, header } => {
             let packet = &frame.slice()[..octets as usize];
             half.decode(plans, &header, packet, slots.slice_mut());
-            finish(plans, demands, number, packet, half, slots.slice(), board, lines);
+            finish(
+                plans,
+                demands,
+                number,
+                packet,
+                half,
+                slots.slice(),
+                board,
+                lines,
+            );
             None
         }
         Next::End => Some(Filled::End),
@@ -79,7 +87,7 @@ fn add_batch<P: Plans, S: Source>(
     board: &mut Board,
     lines: &mut Lines,
 ) -> (u64, Filled)
-    requires demands { AreDemandsOf (asked_in (param_slices (P.tables plans.now))) (param_slices (P.tables plans.now)) demands.now }
+    requires demands { AreDemandsIn (P.tables plans.now) demands.now }
     requires number { number ≤ most_packets }
     requires board { board.old.names ≡ plan_names (param_slices (P.tables plans.now)) }
     ensures board { board.new.names ≡ board.old.names }
@@ -118,7 +126,7 @@ fn run_in<P: Plans, S: Source, O: Sink>(
     lines: &mut Lines,
     out: &mut O,
 ) -> Result<RunEnd, RunFault>
-    requires demands { AreDemandsOf (asked_in (param_slices (P.tables plans.now))) (param_slices (P.tables plans.now)) demands.now }
+    requires demands { AreDemandsIn (P.tables plans.now) demands.now }
     requires names { board.old.names ≡ plan_names (param_slices (P.tables plans.now)) }
     requires memory { memory_of board.old ≡ empty_memory }
     ensures ran { let says = EndsBy result (S.faults (source_of feed.old)) (S.faults (source_of feed.new)) in
@@ -161,7 +169,7 @@ pub(crate) fn run_alone<P: Plans, S: Source, O: Sink>(
     out: &mut O,
 ) -> Result<RunEnd, RunFault>
     requires some { 0 < vec_len stock.old.rooms }
-    requires demands { AreDemandsOf (asked_in (param_slices (P.tables plans.now))) (param_slices (P.tables plans.now)) stock.old.demands.items }
+    requires demands { AreDemandsIn (P.tables plans.now) stock.old.demands.items }
     requires names { stock.old.board.names ≡ plan_names (param_slices (P.tables plans.now)) }
     requires memory { memory_of stock.old.board ≡ empty_memory }
     ensures ran { let says = EndsBy result (S.faults (source_of feed.old)) (S.faults (source_of feed.new)) in

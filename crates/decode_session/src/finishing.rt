@@ -3,11 +3,10 @@ ghost use Rattle.std.specs.Prelude.{◌≡◌, ℕ, ◌+◌, ◌++◌, ◌≤◌
 ghost use Rattle.std.specs.List.{All};
 ghost use Rattle.std.specs.Io.KnownBytes.{Appends};
 ghost use Rattle.decode_session.specs.Cells.{IsReady, stamped_cell, all_stamped};
-ghost use Rattle.decode_session.specs.Finishing.{batch_text, Finishes, Leads, LeavesAfter, Serves};
+ghost use Rattle.decode_session.specs.Finishing.{AreDemandsIn, batch_text, Finishes, Leads, LeavesAfter, Serves};
 ghost use Rattle.decode_session.specs.Moving.{Moves};
 ghost use Rattle.edition_plans.specs.Params.{param_slices};
 ghost use Rattle.fold_state.specs.Boards.{memory_of, plan_names};
-ghost use Rattle.fold_state.specs.Demands.{AreDemandsOf, asked_in};
 ghost use Rattle.mib_model.specs.Kept.{Memory};
 ghost use Rattle.fold_state.specs.declared.finish.TheConstants.{TEXT_BEFORE};
 ghost use Rattle.tm_io.specs.Causes.{HasCause};
@@ -29,7 +28,7 @@ fn add_record<P: Plans>(
     board: &mut Board,
     lines: &mut Lines,
 )
-    requires demands { AreDemandsOf (asked_in (param_slices (P.tables plans.now))) (param_slices (P.tables plans.now)) demands.now }
+    requires demands { AreDemandsIn (P.tables plans.now) demands.now }
     requires ready { IsReady (P.tables plans.now) cell.now }
     requires board { board.old.names ≡ plan_names (param_slices (P.tables plans.now)) }
     requires room { length lines.old ≤ TEXT_BEFORE }
@@ -75,12 +74,13 @@ pub fn finish_batch<P: Plans, O: Sink>(
     lines: &mut Lines,
     out: &mut O,
 ) -> Result<(), Failed>
-    requires demands { AreDemandsOf (asked_in (param_slices (P.tables plans.now))) (param_slices (P.tables plans.now)) demands.now }
+    requires demands { AreDemandsIn (P.tables plans.now) demands.now }
     requires ready { All (IsReady (P.tables plans.now)) cells.now }
     requires board { board.old.names ≡ plan_names (param_slices (P.tables plans.now)) }
     ensures board { board.new.names ≡ board.old.names }
     ensures kept { (edition : ℕ) → let stamped = all_stamped edition (P.tables plans.now) cells.now in
-        OnOk result (Leads (P.tables plans.now) (memory_of board.old) (memory_of board.new) (λ m after. LeavesAfter edition (P.tables plans.now) m stamped after)) }
+        OnOk result (Leads (P.tables plans.now) (memory_of board.old) (memory_of board.new)
+        (λ m after. LeavesAfter edition (P.tables plans.now) m stamped after)) }
     ensures all { (edition : ℕ) (m : Memory) → Serves (P.tables plans.now) m (memory_of board.old) → let text = batch_text edition (P.tables plans.now) m
         (all_stamped edition (P.tables plans.now) cells.now) in
         OnOk result (Appends (O.written out.old) (O.written out.new) text) }

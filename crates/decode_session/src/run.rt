@@ -2,10 +2,10 @@
 ghost use Rattle.std.specs.Prelude.{◌≡◌, ◌≢◌, ◌+◌, ◌<◌, ◌≤◌, ◌⊎◌, [], Err, OnOk, OnErr, IfSome, vec_len, vec_capacity};
 ghost use Rattle.std.specs.Io.KnownBytes.{Appends};
 ghost use Rattle.decode_session.specs.Causes.{HasOutCause, HasFeedCause};
+ghost use Rattle.decode_session.specs.Finishing.{AreDemandsIn};
 ghost use Rattle.decode_session.specs.Run.{EndsBy, Ran, most_in_flight};
 ghost use Rattle.edition_plans.specs.Params.{param_slices};
 ghost use Rattle.fold_state.specs.Boards.{memory_of, plan_names};
-ghost use Rattle.fold_state.specs.Demands.{AreDemandsOf, asked_in};
 ghost use Rattle.mib_model.specs.Kept.{empty_memory};
 ghost use Rattle.mib_model.specs.Texts.{cut_text};
 ghost use Rattle.packet_feed.specs.Feed.{BeginsWithPacket, SourceStays, source_of};
@@ -62,7 +62,7 @@ fn run_batches<P: Plans + Sync, S: Source, O: Sink, R: Threads + Sync>(
     requires few { vec_len stock.old.rooms ≤ most_in_flight }
     requires empty { stock.old.cells.items ≡ [] }
     requires cells { vec_len stock.old.rooms ≤ vec_capacity stock.old.cells }
-    requires demands { AreDemandsOf (asked_in (param_slices (P.tables plans.now))) (param_slices (P.tables plans.now)) stock.old.demands.items }
+    requires demands { AreDemandsIn (P.tables plans.now) stock.old.demands.items }
     requires names { stock.old.board.names ≡ plan_names (param_slices (P.tables plans.now)) }
     requires memory { memory_of stock.old.board ≡ empty_memory }
     ensures ran { let says = EndsBy result (S.faults (source_of feed.old)) (S.faults (source_of feed.new)) in
@@ -85,8 +85,14 @@ fn run_batches<P: Plans + Sync, S: Source, O: Sink, R: Threads + Sync>(
         let filled = fill(number, feed, &mut stock.rooms, &mut stock.cells);
         number += stock.cells.len() as u64;
         decode_batch(rt, plans, &mut stock.cells, workers);
-        let Ok(()) = finish_batch(plans, &stock.demands, &stock.cells, &mut stock.board, &mut stock.lines, out)
-        else {
+        let Ok(()) = finish_batch(
+            plans,
+            &stock.demands,
+            &stock.cells,
+            &mut stock.board,
+            &mut stock.lines,
+            out,
+        ) else {
             return Err(RunFault::Print(Stop::Out));
         };
         free_rooms(&mut stock.cells, &mut stock.rooms);

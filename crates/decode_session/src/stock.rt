@@ -2,7 +2,7 @@
 ghost use Rattle.std.specs.Prelude.{◌≡◌, ◌+◌, ◌<◌, ◌≤◌, [], vec_len, vec_capacity, IfOk, OnOk, OnErr};
 ghost use Rattle.edition_plans.specs.Params.{param_slices};
 ghost use Rattle.fold_state.specs.Boards.{memory_of, plan_names};
-ghost use Rattle.fold_state.specs.Demands.{AreDemandsOf, asked_in};
+ghost use Rattle.decode_session.specs.Finishing.{AreDemandsIn};
 ghost use Rattle.mib_model.specs.Kept.{empty_memory};
 ghost use Rattle.decode_session.specs.Homes.{AreOutOf};
 ghost use Rattle.decode_session.specs.Run.{most_in_flight};
@@ -199,7 +199,7 @@ impl Stock {
         ensures rooms { IfOk result (λ stock. rooms ≤ vec_capacity stock.rooms) }
         ensures empty { IfOk result (λ stock. stock.cells.items ≡ []) }
         ensures cells { IfOk result (λ stock. rooms ≤ vec_capacity stock.cells) }
-        ensures demands { IfOk result (λ stock. let params = param_slices (P.tables plans.now) in AreDemandsOf (asked_in params) params stock.demands.items) }
+        ensures demands { IfOk result (λ stock. AreDemandsIn (P.tables plans.now) stock.demands.items) }
         ensures names { IfOk result (λ stock. stock.board.names ≡ plan_names (param_slices (P.tables plans.now))) }
         ensures memory { IfOk result (λ stock. memory_of stock.board ≡ empty_memory) }
     {

@@ -25,7 +25,8 @@ HasEntered demands vs before after =
     AreAlike asked (all_entered m vs) (memory_of after)
 
 -- raw numbers of values were entered as far as they are asked, and their places noted
-pub record AreEntered (db : Database) (params : List ParamSlice) (demands : List Demand) (vs : List Value) (before after : Slots) (seats : List ℕ) : Type 0 where
+pub record AreEntered (db : Database) (params : List ParamSlice) (demands : List Demand) (vs : List Value) (before after : Slots)
+    (seats : List ℕ) : Type 0 where
   pub fits : Fits db params after vs
   pub seated : AreSeated after vs (length vs) seats
   pub memory : HasEntered demands vs before after
@@ -46,12 +47,14 @@ abbrev pub IsToldPlain : Database → Value → Type 0
 IsToldPlain db v = (memory : Memory) → told v Plain (memory, None) ≡ finished db memory v
 
 -- a board was made for plans and fits values, what is asked is demanded, and a memory is alike to what the board keeps
-pub record StandsFor (asked : List ℕ → Bool) (db : Database) (params : List ParamSlice) (demands : List Demand) (board : Slots) (vs : List Value) (m : Memory) : Type 0 where
+pub record StandsFor (asked : List ℕ → Bool) (db : Database) (params : List ParamSlice) (demands : List Demand) (board : Slots)
+    (vs : List Value) (m : Memory) : Type 0 where
   pub fits : Fits db params board vs
   pub demanded : AreDemandsOf asked params demands
   pub alike : AreAlike asked m (memory_of board)
 
 -- values were finished from a memory: what is kept is alike to what they leave, and their lines stand behind a text
-pub record AreFinishedFor (asked : List ℕ → Bool) (db : Database) (packet : List ℕ) (vs : List Value) (before after : Memory) (old new : List ℕ) : Type 0 where
+pub record AreFinishedFor (asked : List ℕ → Bool) (db : Database) (packet : List ℕ) (vs : List Value) (before after : Memory)
+    (old new : List ℕ) : Type 0 where
   pub memory : AreAlike asked (all_finished db before vs).0 after
   pub text : new ≡ old ++ flat_map (told_text packet) (all_finished db before vs).1

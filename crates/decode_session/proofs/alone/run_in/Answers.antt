@@ -53,10 +53,14 @@ loop-number-preserved g c =
     record {
       names = c.add_batch-next.ensures.board ∙ c.loop-number.invariant.names;
       limit = c.add_batch-next.ensures.limit;
-      going = (added.0, added.1, subst (λ l. Going db c.add_batch-next.result.0 added.0 (g.S.Source.left (source_of c.args.feed.now)) l (g.O.Sink.written c.args.out.now) (g.O.Sink.written c.write_all.new.out)) (sym batch.4.0)
-          (going-turn db c.loop-number.number filled.Paused c.add_batch-next.result.0 c.loop-number.invariant.going.0 added.0 c.add_batch-next.new.lines _ _ (g.S.Source.left (source_of c.add_batch-next.new.feed)) _ _ _ batch
-          (going-same db c.loop-number.number c.loop-number.invariant.going.0 _ _ _ _ _ c.hand_on_before_wait.ensures.written c.loop-number.invariant.going.2)
-          (subst (Appends (g.O.Sink.written c.hand_on_before_wait.new.out) (g.O.Sink.written c.write_all.new.out)) c.bytes.ensures c.in-Ok-write_all.ensures.all)));
+      going = (
+        added.0,
+        added.1,
+        subst (λ l. Going db c.add_batch-next.result.0 added.0 (g.S.Source.left (source_of c.args.feed.now)) l (g.O.Sink.written c.args.out.now) (g.O.Sink.written c.write_all.new.out)) (sym batch.4.0)
+            (going-turn db c.loop-number.number filled.Paused c.add_batch-next.result.0 c.loop-number.invariant.going.0 added.0 c.add_batch-next.new.lines _ _ (g.S.Source.left (source_of c.add_batch-next.new.feed)) _ _ _ batch
+            (going-same db c.loop-number.number c.loop-number.invariant.going.0 _ _ _ _ _ c.hand_on_before_wait.ensures.written c.loop-number.invariant.going.2)
+            (subst (Appends (g.O.Sink.written c.hand_on_before_wait.new.out) (g.O.Sink.written c.write_all.new.out)) c.bytes.ensures c.in-Ok-write_all.ensures.all)),
+      );
       feed = subst (λ f. HasFillCause f (g.S.Source.faults (source_of c.loop-number.feed)) (g.S.Source.faults (source_of c.add_batch-next.new.feed))) c.in-Paused.is c.add_batch-next.ensures.cause ∙ c.loop-number.invariant.feed;
       stays = (c.add_batch-next.ensures.kept.0 ∙ c.loop-number.invariant.stays.0, c.add_batch-next.ensures.kept.1 ∙ c.loop-number.invariant.stays.1, c.add_batch-next.ensures.kept.2 ∙ c.loop-number.invariant.stays.2);
       out = c.in-Ok-write_all.ensures.cause.ok ∙ c.in-Ok.ensures.cause.ok ∙ c.loop-number.invariant.out;

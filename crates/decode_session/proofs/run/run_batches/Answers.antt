@@ -5,12 +5,12 @@ use Rattle.tm_io.specs.Octets.{AppendsPrefix}
 use Rattle.decode_session.specs.declared.cell.Cell.{Cell}
 use Rattle.decode_session.specs.Causes.{HasFillCause}
 use Rattle.decode_session.specs.Cells.{IsReady, all_stamped}
-use Rattle.decode_session.specs.Finishing.{batch_text, LeavesAfter, Going}
+use Rattle.decode_session.specs.Finishing.{AreDemandsIn, batch_text, LeavesAfter, Going}
 use Rattle.decode_session.proofs.RunSteps.{ready-all, going-start, going-same, going-batch, ran-unhanded, ran-whole, ran-fault, ran-cut, ran-stopped_at_rest, ran-stopped}
 use Rattle.decode_session.proofs.run.run_batches.Goals as goal
 use Rattle.edition_plans.specs.Params.{param_slices}
 use Rattle.fold_state.specs.Boards.{memory_of}
-use Rattle.fold_state.specs.Demands.{AreDemandsOf, asked_in}
+use Rattle.fold_state.specs.Demands.{asked_in}
 use Rattle.memory_laws.proofs.AlikeFacts.{alike-same}
 use Rattle.packet_feed.specs.Feed.{source_of}
 
@@ -45,8 +45,7 @@ returns-in_default-clause-ran g c =
 
 pub finish_batch-requires-clause-demands : goal.finish_batch-requires-clause-demands
 finish_batch-requires-clause-demands g c =
-    let params = param_slices (g.P.Structures.tables c.args.plans.now) in
-    subst (AreDemandsOf (asked_in params) params) (sym c.deref.ensures.value) c.loop-number.invariant.demands
+    subst (AreDemandsIn (g.P.Structures.tables c.args.plans.now)) (sym c.deref.ensures.value) c.loop-number.invariant.demands
 
 pub finish_batch-requires-clause-ready : goal.finish_batch-requires-clause-ready
 finish_batch-requires-clause-ready g c =
@@ -85,15 +84,19 @@ loop-number-preserved g c =
       demands = c.loop-number.invariant.demands;
       names = c.finish_batch.ensures.board ∙ c.loop-number.invariant.names;
       limit = omega arith;
-      going = (led.0, led.1, subst (λ (n : ℕ). Going db n led.0 (g.S.Source.left (source_of c.args.feed.now)) (g.S.Source.left (source_of c.fill-filled.new.feed)) (g.O.Sink.written c.args.out.now) (g.O.Sink.written c.finish_batch.new.out)) more
-          (subst (λ l. Going db (c.loop-number.number + length c.fill-filled.new.cells.items) led.0 (g.S.Source.left (source_of c.args.feed.now)) l (g.O.Sink.written c.args.out.now) (g.O.Sink.written c.finish_batch.new.out)) (sym c.in-Paused.ensures.fills.2.0)
-          (going-batch db c.loop-number.number m c.fill-filled.new.cells.items c.decode_batch.new.cells.items c.decode_batch.ensures.decoded
-          led.0 (g.S.Source.left (source_of c.args.feed.now)) (g.S.Source.left (source_of c.loop-number.feed)) c.in-Paused.ensures.fills.0
-          (g.O.Sink.written c.args.out.now) (g.O.Sink.written c.hand_on_before_wait.new.out) (g.O.Sink.written c.finish_batch.new.out) c.in-Paused.ensures.fills.1
-          (subst (λ (cs : List Cell). Appends (g.O.Sink.written c.hand_on_before_wait.new.out) (g.O.Sink.written c.finish_batch.new.out) (batch_text 1 db m (all_stamped 1 db cs))) c.deref-in-loop-number.ensures.value (c.in-Ok-finish_batch.ensures.all 1 m c.loop-number.invariant.going.1))
-          (subst (λ (cs : List Cell). LeavesAfter 1 db m (all_stamped 1 db cs) led.0) c.deref-in-loop-number.ensures.value led.2)
-          (going-same db c.loop-number.number m (g.S.Source.left (source_of c.args.feed.now)) (g.S.Source.left (source_of c.loop-number.feed))
-          (g.O.Sink.written c.args.out.now) (g.O.Sink.written c.loop-number.out) (g.O.Sink.written c.hand_on_before_wait.new.out) c.hand_on_before_wait.ensures.written c.loop-number.invariant.going.2))));
+      going = (
+        led.0,
+        led.1,
+        subst (λ (n : ℕ). Going db n led.0 (g.S.Source.left (source_of c.args.feed.now)) (g.S.Source.left (source_of c.fill-filled.new.feed)) (g.O.Sink.written c.args.out.now) (g.O.Sink.written c.finish_batch.new.out)) more
+            (subst (λ l. Going db (c.loop-number.number + length c.fill-filled.new.cells.items) led.0 (g.S.Source.left (source_of c.args.feed.now)) l (g.O.Sink.written c.args.out.now) (g.O.Sink.written c.finish_batch.new.out)) (sym c.in-Paused.ensures.fills.2.0)
+            (going-batch db c.loop-number.number m c.fill-filled.new.cells.items c.decode_batch.new.cells.items c.decode_batch.ensures.decoded
+            led.0 (g.S.Source.left (source_of c.args.feed.now)) (g.S.Source.left (source_of c.loop-number.feed)) c.in-Paused.ensures.fills.0
+            (g.O.Sink.written c.args.out.now) (g.O.Sink.written c.hand_on_before_wait.new.out) (g.O.Sink.written c.finish_batch.new.out) c.in-Paused.ensures.fills.1
+            (subst (λ (cs : List Cell). Appends (g.O.Sink.written c.hand_on_before_wait.new.out) (g.O.Sink.written c.finish_batch.new.out) (batch_text 1 db m (all_stamped 1 db cs))) c.deref-in-loop-number.ensures.value (c.in-Ok-finish_batch.ensures.all 1 m c.loop-number.invariant.going.1))
+            (subst (λ (cs : List Cell). LeavesAfter 1 db m (all_stamped 1 db cs) led.0) c.deref-in-loop-number.ensures.value led.2)
+            (going-same db c.loop-number.number m (g.S.Source.left (source_of c.args.feed.now)) (g.S.Source.left (source_of c.loop-number.feed))
+            (g.O.Sink.written c.args.out.now) (g.O.Sink.written c.loop-number.out) (g.O.Sink.written c.hand_on_before_wait.new.out) c.hand_on_before_wait.ensures.written c.loop-number.invariant.going.2))),
+      );
       feed = c.in-Paused.ensures.cause ∙ c.loop-number.invariant.feed;
       stays = (c.fill-filled.ensures.kept.0 ∙ c.loop-number.invariant.stays.0, c.fill-filled.ensures.kept.1 ∙ c.loop-number.invariant.stays.1, c.fill-filled.ensures.kept.2 ∙ c.loop-number.invariant.stays.2);
       out = c.in-Ok-finish_batch.ensures.cause.ok ∙ c.in-Ok.ensures.cause.ok ∙ c.loop-number.invariant.out;

@@ -1,10 +1,9 @@
 use Rattle.std.proofs.Common.{◌+◌, ◌-◌, ◌≡◌, ◌<◌, ◌≤◌, [], vec_len, vec_capacity}
-use Rattle.decode_session.specs.Finishing.{Going, Serves}
+use Rattle.decode_session.specs.Finishing.{AreDemandsIn, Going, Serves}
 use Rattle.decode_session.specs.Run.{most_in_flight, most_packets}
 use Rattle.decode_session.proofs.run.run_batches.Given as goal
 use Rattle.edition_plans.specs.Params.{param_slices}
 use Rattle.fold_state.specs.Boards.{memory_of, plan_names}
-use Rattle.fold_state.specs.Demands.{AreDemandsOf, asked_in}
 use Rattle.mib_model.specs.Kept.{Memory}
 use Rattle.packet_feed.specs.Feed.{SourceStays, source_of}
 
@@ -16,7 +15,7 @@ invariant-loop-number g l = record {
   rooms : vec_len l.stock.rooms ≤ vec_capacity l.stock.rooms;
   empty : l.stock.cells.items ≡ [];
   cells : vec_len l.stock.rooms ≤ vec_capacity l.stock.cells;
-  demands : AreDemandsOf (asked_in (param_slices (g.P.Structures.tables l.plans))) (param_slices (g.P.Structures.tables l.plans)) l.stock.demands.items;
+  demands : AreDemandsIn (g.P.Structures.tables l.plans) l.stock.demands.items;
   names : l.stock.board.names ≡ plan_names (param_slices (g.P.Structures.tables l.plans));
   limit : l.number ≤ most_packets + 1;
   going : (m : Memory) × Serves (g.P.Structures.tables l.plans) m (memory_of l.stock.board) × Going (g.P.Structures.tables l.plans) l.number m (g.S.Source.left (source_of l.initial.feed)) (g.S.Source.left (source_of l.feed)) (g.O.Sink.written l.initial.out) (g.O.Sink.written l.out);
