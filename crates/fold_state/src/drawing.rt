@@ -149,11 +149,10 @@ fn draw_at(
     let Some(at) = place else {
         return Mark::Open;
     };
-    let plans = params.plans();
-    if at >= plans.len() {
+    if at >= params.len() {
         return Mark::Open;
     }
-    draw_value(&plans[at], value, packet, out)
+    draw_value(params.plan(at), value, packet, out)
 }
 
 // Notes a place, where there is room for it.
@@ -196,7 +195,7 @@ impl Drawer {
     /// What draws by these plans. An error is want of memory.
     pub fn new(alloc: Global, params: &Params) -> Result<Drawer, AllocError> {
         Ok(Drawer {
-            guesses: Guesses::of_plans(alloc, params.plans())?,
+            guesses: Guesses::of_plans(alloc, params)?,
             drawn: Drawn::new(alloc)?,
             ahead: 0,
         })
@@ -206,7 +205,7 @@ impl Drawer {
     // guesses of their places begin.
     fn begin(&mut self, params: &Params, spid: u32, count: usize) -> usize {
         let first = self.guesses.row(spid, count);
-        if params.plans().len() >= FAR {
+        if params.len() >= FAR {
             let places = self.guesses.places(first, count);
             self.ahead = read_plans_ahead(params, places);
         }
