@@ -40,7 +40,7 @@ fn a_page_that_is_committed_comes_to_the_viewer(rt: HostRuntime) -> Result<(), F
         names.push(name)?;
     }
     assert!(rt; names.len() <= 64);
-    let params = Params::new(Vec::new(alloc));
+    let params = Params::new(alloc, Vec::new(alloc))?;
     let board = Board::new(alloc, &params)?;
     let (pager, mut viewer) = Pager::new(&rt, names)?;
     let number = number_shown::<Brand, HostRuntime>(&rt, pager, &mut viewer, &params, &board)?;

@@ -11,7 +11,7 @@ use crate::edits::{Entering, edit};
 use desk_lines::{Request, request_of};
 use edition::Edition;
 use edition_register::{Editions, Register};
-use fold_state::Board;
+use fold_state::BoardRoom;
 use mib_model::{Reply, Steps};
 use std::alloc::{AllocError, Global};
 use std::sync::ledger::Ledger;
@@ -63,8 +63,8 @@ impl Desk {
         &mut self,
         rt: &R,
         alloc: Global,
-        register: &Register<Edition, Board>,
-        seat: &mut Seat<Editions<Edition, Board>>,
+        register: &Register<Edition, BoardRoom>,
+        seat: &mut Seat<Editions<Edition, BoardRoom>>,
         line: &[u8],
         steps: &mut Steps<L>,
     ) -> Option<Reply>
@@ -86,8 +86,8 @@ impl Desk {
         &mut self,
         rt: &R,
         alloc: Global,
-        register: &Register<Edition, Board>,
-        seat: &mut Seat<Editions<Edition, Board>>,
+        register: &Register<Edition, BoardRoom>,
+        seat: &mut Seat<Editions<Edition, BoardRoom>>,
         request: Request<'_>,
         steps: &mut Steps<L>,
     ) -> Option<Reply>

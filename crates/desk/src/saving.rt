@@ -12,7 +12,7 @@ use crate::desk::Desk;
 use crate::draft::Draft;
 use edition::{Edition, SaveFault};
 use edition_register::{AddFault, Editions, Register};
-use fold_state::Board;
+use fold_state::BoardRoom;
 use mib_model::{Reply, Steps};
 use std::alloc::{AllocError, Global};
 use std::sync::ledger::Ledger;
@@ -68,8 +68,8 @@ impl Desk {
         &mut self,
         rt: &R,
         alloc: Global,
-        register: &Register<Edition, Board>,
-        seat: &mut Seat<Editions<Edition, Board>>,
+        register: &Register<Edition, BoardRoom>,
+        seat: &mut Seat<Editions<Edition, BoardRoom>>,
         steps: &mut Steps<L>,
     ) -> Reply
         requires seat { IsSeat 1 register.now seat.old }

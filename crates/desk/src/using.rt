@@ -13,23 +13,23 @@ use crate::desk::Desk;
 use edition::Edition;
 use edition_plans::Plans;
 use edition_register::{Editions, Register, Start, UseFault};
-use fold_state::Board;
+use fold_state::BoardRoom;
 use mib_model::Reply;
 use std::alloc::{AllocError, Global};
 use std::sync::{Arc, Wait};
 use turn_cell::Seat;
 
 /// What an activation of an edition hands in.
-pub fn start(alloc: Global, handle: &Arc<Edition>) -> Result<Start<Edition, Board>, AllocError>
+pub fn start(alloc: Global, handle: &Arc<Edition>) -> Result<Start<Edition, BoardRoom>, AllocError>
     ensures { IfOk result (λ start. IsStart (λ e. e) is_made_for (arc_value handle.now) start) }
 {
     let handle = Arc::try_clone(handle)?;
-    let board = Board::new(alloc, handle.params())?;
+    let board = BoardRoom::new(alloc, handle.params())?;
     Ok(Start { handle, board })
 }
 
 /// The reply to an activation.
-pub fn reply_of(edition: u32, answer: Result<u64, UseFault<Edition, Board>>) -> Reply
+pub fn reply_of(edition: u32, answer: Result<u64, UseFault<Edition, BoardRoom>>) -> Reply
     ensures { result ≡ used_reply edition answer }
 {
     match answer {
@@ -50,7 +50,7 @@ impl Desk {
         &self,
         alloc: Global,
         edition: u32,
-    ) -> Result<Option<Start<Edition, Board>>, AllocError>
+    ) -> Result<Option<Start<Edition, BoardRoom>>, AllocError>
         ensures { IfOk result (λ start. StartFits (λ e. e) is_made_for (editions_of self.now) edition start) }
     {
         if edition == 0 || edition as usize > self.editions.len() {
@@ -64,8 +64,8 @@ impl Desk {
         &mut self,
         rt: &R,
         alloc: Global,
-        register: &Register<Edition, Board>,
-        seat: &mut Seat<Editions<Edition, Board>>,
+        register: &Register<Edition, BoardRoom>,
+        seat: &mut Seat<Editions<Edition, BoardRoom>>,
         edition: u32,
     ) -> Reply
         requires seat { IsSeat 1 register.now seat.old }
@@ -88,8 +88,8 @@ impl Desk {
         &mut self,
         rt: &R,
         alloc: Global,
-        register: &Register<Edition, Board>,
-        seat: &mut Seat<Editions<Edition, Board>>,
+        register: &Register<Edition, BoardRoom>,
+        seat: &mut Seat<Editions<Edition, BoardRoom>>,
         edition: u32,
         from: u64,
     ) -> Reply

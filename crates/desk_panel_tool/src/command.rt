@@ -10,7 +10,7 @@ ghost use Rattle.tool_words.specs.Panels.{panel_in};
 use crate::panel::panel;
 use edition::Edition;
 use edition_register::Closed;
-use fold_state::Board;
+use fold_state::BoardRoom;
 use mib_model::Code;
 use panel_session::Station;
 use std::alloc::Global;
@@ -23,7 +23,7 @@ use tool_words::{WordsFault, panel_request_in};
 #[derive(Drop)]
 pub struct Status {
     pub code: Code,
-    pub closed: Option<Closed<Edition, Board>>,
+    pub closed: Option<Closed<Edition, BoardRoom>>,
 }
 
 impl Status {

@@ -137,7 +137,7 @@ impl KeyedPlans {
         ensures { IfOk result (λ keyed. keyed ≡ no_rows) }
     {
         Ok(KeyedPlans {
-            params: Params::new(Vec::new(alloc)),
+            params: Params::new(alloc, Vec::new(alloc))?,
             layouts: LayoutSet::empty(alloc)?,
             structures: StructureSet::empty(alloc)?,
         })

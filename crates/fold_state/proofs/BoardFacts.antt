@@ -1,7 +1,5 @@
 -- What is kept beside a name, by its place among the names.
-use Rattle.std.proofs.Common.{◌≡◌, ◌∙◌, ℕ, zero, suc, ◌+◌, ◌<◌, inl, inr, Bool, true, false, cond, List, [], ◌∷◌, Option, Some, None, Less, Equal, Ordering, length, get_or, map, find, zip, refl, sym, ap, subst, arith, ltb, Global}
-use Rattle.std.specs.Arc.{arc_value}
-use Rattle.std.specs.declared.sync.Arc.{Arc}
+use Rattle.std.proofs.Common.{◌≡◌, ◌∙◌, ℕ, zero, suc, ◌+◌, ◌<◌, inl, inr, Bool, true, false, cond, List, [], ◌∷◌, Option, Some, None, Less, Equal, Ordering, length, get_or, map, find, zip, refl, sym, ap, subst, arith, ltb}
 use Rattle.std.proofs.Math.ListN.{set}
 use Rattle.std.proofs.lemmas.Bool.{cases_Bool, cases_lt, false≢true}
 use Rattle.std.proofs.lemmas.Bool.Decides.{nat_tests}
@@ -18,7 +16,7 @@ use Rattle.mib_model.specs.Kept.{Kept, keeping, nothing_kept, entered, has_numbe
 use Rattle.param_plan.specs.Slices.{ParamSlice}
 use Rattle.param_plan.proofs.NameFacts.{below-far, not-named}
 use Rattle.fold_state.specs.declared.slot.Slot.{Slot}
-use Rattle.fold_state.specs.Boards.{Slots, board_of, kept_as, is_name_of, kept_beside, memory_of, place_of, plan_name, plan_names, slot_name, vacant_for}
+use Rattle.fold_state.specs.Boards.{Slots, board_of, kept_as, is_name_of, kept_beside, memory_of, place_of, plan_names, slot_name, vacant_for}
 use Rattle.fold_state.specs.Places.{Rise}
 
 module _ {X : Type 0} (p : X → Bool) where
@@ -126,17 +124,26 @@ rise-map (s ∷ slices) up = λ k d below.
     (subst (λ (x : List ℕ). slice_cmp nat_cmp x (name (get_or all (k + 1) s)) ≡ Less) (sym here) (up k s (omega (arith, below, long))))
 
 -- nothing is kept where each slot keeps nothing
-pub kept-none : (plans : List (Arc ParamSlice Global)) (name : List ℕ) → memory_of (board_of (map vacant_for plans)) name ≡ nothing_kept
+pub kept-none : (params : List ParamSlice) (name : List ℕ) → memory_of (board_of (map vacant_for params)) name ≡ nothing_kept
 kept-none [] name = refl
-kept-none (plan ∷ plans) name = elim (cases_Bool (is_name_of name (plan_name plan))) [
+kept-none (slice ∷ params) name = elim (cases_Bool (is_name_of name slice.pcf.name)) [
   | inl equal ↦ rw equal refl
-  | inr apart ↦ rw apart (kept-none plans name)
+  | inr apart ↦ rw apart (kept-none params name)
 ]
 
 -- slots for plans have their names
-pub names-vacant : (plans : List (Arc ParamSlice Global)) → map slot_name (map vacant_for plans) ≡ plan_names (map arc_value plans)
+pub names-vacant : (params : List ParamSlice) → map slot_name (map vacant_for params) ≡ plan_names params
 names-vacant [] = refl
-names-vacant (plan ∷ plans) = ap (λ (names : List (List ℕ)). plan_name plan ∷ names) (names-vacant plans)
+names-vacant (slice ∷ params) = ap (λ (names : List (List ℕ)). slice.pcf.name ∷ names) (names-vacant params)
+
+-- what is behind a handle at a place stands there
+pub plan-there : (params : List ParamSlice) (i : ℕ) (x s : ParamSlice) → s ≡ x → x ≡ get_or params i x → s ≡ get_or params i s
+plan-there params i x s same is = same ∙ is ∙ ap (λ (d : ParamSlice). get_or params i d) (sym same)
+
+-- nothing is kept without slots
+pub kept-empty : (names : List (List ℕ)) (name : List ℕ) → memory_of (record { names = names; slots = [] }) name ≡ nothing_kept
+kept-empty [] name = refl
+kept-empty (own ∷ names) name = refl
 
 -- there are as many slots as names
 pub slots-long : (slots : List Slot) → length slots ≡ length (map slot_name slots)

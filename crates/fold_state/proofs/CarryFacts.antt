@@ -157,6 +157,29 @@ carried-more board next old before after n own same at kept below name i here wi
         absurd (false≢true (sym apart ∙ (bytes_eq-Decides name own).1 equal))
   ]
 
+-- what is kept of the names from a place on is what was kept
+abbrev pub KeptFrom : ℕ → Slots → Slots → Type 0
+KeptFrom n board old = (name : List ℕ) (i : ℕ) → place_of board name ≡ Some i → n ≤ i → memory_of board name ≡ memory_of old name
+
+-- and of those behind the one at it
+pub kept-more : (board next old : Slots) (n : ℕ) (own : List ℕ) (kept : Kept) → next.names ≡ board.names → place_of board own ≡ Some n
+    → memory_of next ≡ keeping (memory_of board) own kept → KeptFrom n board old → KeptFrom (n + 1) next old
+kept-more board next old n own kept same at made from name i here behind = elim (cases_Bool (bytes_eq name own)) [
+  | inl equal ↦ absurd (
+      let one : place_of board own ≡ Some i = subst (λ (x : List ℕ). place_of board x ≡ Some i) (same-name name own equal) here' in
+      let both : ◌≡◌ {A = Option ℕ} (Some n) (Some i) = sym at ∙ one in
+      let is : n ≡ i = cc in
+      omega (arith, is, behind))
+  | inr apart ↦ ap (λ (m : Memory). m name) made ∙ rw apart (from name i here' (omega (arith, behind)))
+] where
+  here' : place_of board name ≡ Some i
+  here' = subst (λ (names : List (List ℕ)). position (is_name_of name) names ≡ Some i) same here
+
+-- what is carried of a name is told by what was kept of it
+pub carry-alike : (m n : Memory) (before after : Database) (name : List ℕ) → m name ≡ n name → carry m before after name ≡ carry n before after name
+unfolding carry
+carry-alike m n before after name same = ap (λ (k : Kept). cond (is_carried before after name) (record k { run = run_for (check_of after name) k.run }) nothing_kept) same
+
 plan-at : (params : List ParamSlice) (i : ℕ) → i < length params → (s : ParamSlice) × (s ≡ get_or params i s)
 plan-at [] i below = absurd (omega (arith, below))
 plan-at (x ∷ params) i below = (get_or (x ∷ params) i x, get_or_default (x ∷ params) i x (get_or (x ∷ params) i x) below)

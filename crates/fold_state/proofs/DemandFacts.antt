@@ -14,8 +14,6 @@ use Rattle.fold_state.proofs.BoardFacts.{same-name}
 use Rattle.param_plan.proofs.PlanFacts.{position-map}
 use Rattle.param_plan.specs.Plain.{plain_at}
 use Rattle.param_plan.specs.Slices.{ParamSlice}
-use Rattle.std.specs.Arc.{arc_value}
-use Rattle.std.specs.declared.sync.Arc.{Arc}
 
 -- the cases of two tests, of which one passes
 or-cases : {P : Type 0} (a b : Bool) → (a || b) ≡ true → (a ≡ true → P) → (b ≡ true → P) → P
@@ -122,9 +120,9 @@ module _ {R : Type 0} (asks : List ℕ → R → Bool) (params : List ParamSlice
   notes-all old new all notes = subst (λ (rs : List R). Notes (λ name. list_any (asks name) rs) params old new) (take_all i rows all) notes
 
 -- before any name is noted
-pub unasked-noted : (plans : List (Arc ParamSlice Global)) → AreNoted (λ name. false) (map arc_value plans) (map unasked_for plans)
-unasked-noted plans = record { places = λ name at here h. absurd (false≢true h); plain = go plans } where
-  go : (ps : List (Arc ParamSlice Global)) (at : ℕ) → (demand_at (map unasked_for ps) at).plain ≡ true → plain_at (map arc_value ps) at ≡ true
+pub unasked-noted : (params : List ParamSlice) → AreNoted (λ name. false) params (map unasked_for params)
+unasked-noted params = record { places = λ name at here h. absurd (false≢true h); plain = go params } where
+  go : (ps : List ParamSlice) (at : ℕ) → (demand_at (map unasked_for ps) at).plain ≡ true → plain_at ps at ≡ true
   go [] at h = absurd (false≢true h)
   go (p ∷ ps) zero h = h
   go (p ∷ ps) (suc at) h = go ps at h

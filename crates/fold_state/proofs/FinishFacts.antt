@@ -84,12 +84,6 @@ found-passes p (y ∷ xs) x found = go (p y) refl (found-passes p xs x) found wh
   go true here others same = (let is : y ≡ x = cc in subst (λ z. p z ≡ true) is here)
   go false past others same = others same
 
--- a plan behind its handle
-pub plan-behind : (plans : List (Arc ParamSlice Global)) (i : ℕ) (plan : Arc ParamSlice Global) (s : ParamSlice) (params : List ParamSlice) → i < length plans → plan ≡ get_or plans i plan → s ≡ arc_value plan
-    → map arc_value plans ≡ params → s ≡ get_or params i s
-plan-behind plans i plan s params below is behind all =
-    behind ∙ (ap arc_value is ∙ (sym (get_or-map arc_value plans i plan s below) ∙ ap (λ (slices : List ParamSlice). get_or slices i s) all))
-
 -- the plan at the place of a name is that of the name
 pub plan-found : (params : List ParamSlice) (board : Slots) (name : List ℕ) (i : ℕ) (s : ParamSlice) → board.names ≡ plan_names params → place_of board name ≡ Some i → s ≡ get_or params i s
     → find (λ slice. bytes_eq slice.pcf.name name) params ≡ Some s

@@ -1,11 +1,8 @@
 -- What a board keeps, as mib_model defines it. [This profile.]
 use Rattle.std.specs.Prelude.{ℕ, ℤ, ◌-ℤ◌, Bool, List, map, filter, Option, Some, None, if◌then◌else◌, pos, false}
-use Rattle.std.specs.Arc.{arc_value}
 use Rattle.std.specs.Cmp.Lexicographic.{pointwise}
 use Rattle.std.specs.List.{find, position, zip}
 use Rattle.std.specs.Str.{bytes_eq}
-use Rattle.std.specs.declared.sync.Arc.{Arc}
-use Rattle.std.proofs.Common.{Global}
 use Rattle.fold_state.specs.declared.slot.Slot.{Slot}
 use Rattle.mib_model.specs.declared.database.Database.{Database}
 use Rattle.mib_model.specs.Alarms.{Watch}
@@ -80,13 +77,9 @@ memory_of board name = kept_beside (find (λ pair. is_name_of name pair.0) (zip 
 abbrev pub place_of : Slots → List ℕ → Option ℕ
 place_of board name = position (is_name_of name) board.names
 
--- the name of a plan behind a handle
-abbrev pub plan_name : Arc ParamSlice Global → List ℕ
-plan_name plan = (arc_value plan).pcf.name
-
--- the slot of a plan behind a handle that keeps nothing
-abbrev pub vacant_for : Arc ParamSlice Global → Slot
-vacant_for plan = vacant (plan_name plan)
+-- the slot of a plan that keeps nothing
+abbrev pub vacant_for : ParamSlice → Slot
+vacant_for slice = vacant slice.pcf.name
 
 -- the names of plans
 abbrev pub plan_names : List ParamSlice → List (List ℕ)

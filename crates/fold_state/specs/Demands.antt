@@ -1,10 +1,7 @@
 -- What plans ask of raw numbers, and what is noted of it for the places of their names. [This profile.]
 use Rattle.std.specs.Prelude.{◌≡◌, ℕ, Bool, true, false, ◌||◌, List, Some, get_or}
-use Rattle.std.specs.Arc.{arc_value}
 use Rattle.std.specs.List.{list_any, position}
 use Rattle.std.specs.Str.{bytes_eq}
-use Rattle.std.specs.declared.sync.Arc.{Arc}
-use Rattle.std.proofs.Common.{Global}
 use Rattle.fold_state.specs.declared.demands.Demand.{Demand}
 use Rattle.fold_state.specs.Boards.{is_name_of, plan_names}
 use Rattle.memory_laws.specs.Alike.{is_on}
@@ -18,9 +15,9 @@ slice_asks name s =
     list_any (λ row. bytes_eq row.rlchk name) s.curs ||
     list_any (λ row. is_on name row.rlchk) s.ocps
 
--- what is noted of the plan behind a handle before it is known what is asked
-abbrev pub unasked_for : Arc ParamSlice Global → Demand
-unasked_for plan = record { plain = is_plain (arc_value plan); asked = false }
+-- what is noted of a plan before it is known what is asked
+abbrev pub unasked_for : ParamSlice → Demand
+unasked_for s = record { plain = is_plain s; asked = false }
 
 -- whether any of plans asks it
 abbrev pub asked_in : List ParamSlice → List ℕ → Bool

@@ -4,7 +4,6 @@ use crate::sketch::Sketch;
 use crate::slot::Slot;
 use mib_model::Value;
 use param_plan::{Param, Params};
-use std::sync::Arc;
 
 /// From so many plans on they don't all lie in the processor's cache, and are read ahead.
 pub const FAR: usize = 1_024;
@@ -14,12 +13,12 @@ pub const STRIDE: usize = 16;
 
 // The plan at a place, where there is one that isn't marked as plain.
 #[inline(always)]
-fn plan_at<'a>(plans: &'a [Arc<Param>], plain: &[bool], at: usize) -> Option<&'a Param> {
+fn plan_at<'a>(params: &'a Params, plain: &[bool], at: usize) -> Option<&'a Param> {
     if at < plain.len() && plain[at] {
         return None;
     }
-    if at < plans.len() {
-        Some(&plans[at])
+    if at < params.len() {
+        Some(params.plan(at))
     } else {
         None
     }
@@ -38,14 +37,14 @@ pub fn read_slots_ahead(slots: &[Slot], places: &[u32]) -> usize {
 }
 
 // The slots, and the plans themselves.
-fn touch_all(slots: &[Slot], plans: &[Arc<Param>], plain: &[bool], places: &[u32]) -> usize {
+fn touch_all(slots: &[Slot], params: &Params, plain: &[bool], places: &[u32]) -> usize {
     let mut seen = 0;
     for place in places {
         let at = *place as usize;
         if at < slots.len() {
             seen ^= slots[at].touch();
         }
-        if let Some(plan) = plan_at(plans, plain, at) {
+        if let Some(plan) = plan_at(params, plain, at) {
             seen ^= plan.touch();
         }
     }
@@ -53,10 +52,10 @@ fn touch_all(slots: &[Slot], plans: &[Arc<Param>], plain: &[bool], places: &[u32
 }
 
 // The plans' curves and limits.
-fn touch_parts(plans: &[Arc<Param>], plain: &[bool], places: &[u32]) -> usize {
+fn touch_parts(params: &Params, plain: &[bool], places: &[u32]) -> usize {
     let mut seen = 0;
     for place in places {
-        if let Some(plan) = plan_at(plans, plain, *place as usize) {
+        if let Some(plan) = plan_at(params, plain, *place as usize) {
             seen ^= plan.touch_parts();
         }
     }
@@ -65,9 +64,8 @@ fn touch_parts(plans: &[Arc<Param>], plain: &[bool], places: &[u32]) -> usize {
 
 /// Reads ahead what finishing will ask of the slots and plans at these places. The number that it gives says nothing.
 pub fn read_ahead(slots: &[Slot], params: &Params, places: &[u32]) -> usize {
-    let plans = params.plans();
     let plain = params.plain();
-    touch_all(slots, plans, plain, places) ^ touch_parts(plans, plain, places)
+    touch_all(slots, params, plain, places) ^ touch_parts(params, plain, places)
 }
 
 // The values of a packet, which another processor wrote.
@@ -80,11 +78,11 @@ fn touch_values(values: &[Value]) -> usize {
 }
 
 // The plans of values of which nothing is shown.
-fn touch_open(plans: &[Arc<Param>], sketch: &Sketch, places: &[u32]) -> usize {
+fn touch_open(params: &Params, sketch: &Sketch, places: &[u32]) -> usize {
     let mut seen = 0;
     for k in 0..places.len() {
         if sketch.is_open(k) {
-            if let Some(plan) = plan_at(plans, &[], places[k] as usize) {
+            if let Some(plan) = plan_at(params, &[], places[k] as usize) {
                 seen ^= plan.touch();
             }
         }
@@ -93,11 +91,11 @@ fn touch_open(plans: &[Arc<Param>], sketch: &Sketch, places: &[u32]) -> usize {
 }
 
 // Their curves and limits.
-fn touch_open_parts(plans: &[Arc<Param>], sketch: &Sketch, places: &[u32]) -> usize {
+fn touch_open_parts(params: &Params, sketch: &Sketch, places: &[u32]) -> usize {
     let mut seen = 0;
     for k in 0..places.len() {
         if sketch.is_open(k) {
-            if let Some(plan) = plan_at(plans, &[], places[k] as usize) {
+            if let Some(plan) = plan_at(params, &[], places[k] as usize) {
                 seen ^= plan.touch_parts();
             }
         }
@@ -113,41 +111,34 @@ pub fn read_sketched_ahead(
     sketch: &Sketch,
 ) -> usize {
     let places = sketch.places();
-    let plans = params.plans();
     touch_values(values)
         ^ sketch.touch()
         ^ read_slots_ahead(slots, places)
-        ^ touch_open(plans, sketch, places)
-        ^ touch_open_parts(plans, sketch, places)
+        ^ touch_open(params, sketch, places)
+        ^ touch_open_parts(params, sketch, places)
 }
 
 /// Reads ahead what drawing will ask of the plans at these places. The number that it gives says nothing.
 pub fn read_plans_ahead(params: &Params, places: &[u32]) -> usize {
-    let plans = params.plans();
-    touch_all(&[], plans, &[], places) ^ touch_parts(plans, params.plain(), places)
+    touch_all(&[], params, &[], places) ^ touch_parts(params, params.plain(), places)
 }
 
 // The plan at a place of which something is kept.
-fn kept_plan<'a>(slots: &[Slot], plans: &'a [Arc<Param>], at: usize) -> Option<&'a Param> {
+fn kept_plan<'a>(slots: &[Slot], params: &'a Params, at: usize) -> Option<&'a Param> {
     if slots.get(at)?.is_vacant() {
         return None;
     }
-    plans.get(at).map(|plan| &**plan)
-}
-
-// The rows of plans from a place on.
-fn touch_rows(slots: &[Slot], plans: &[Arc<Param>], first: usize) -> usize {
-    let mut seen = 0;
-    for at in first..first.saturating_add(STRIDE) {
-        if let Some(plan) = kept_plan(slots, plans, at) {
-            seen ^= plan.touch_rows();
-        }
-    }
-    seen
+    plan_at(params, &[], at)
 }
 
 /// Reads ahead the rows of the plans from a place on, as far as something is kept of their parameters. Those of the edition
 /// before are mostly the same ones. The number that it gives says nothing.
 pub fn read_rows_ahead(slots: &[Slot], params: &Params, first: usize) -> usize {
-    touch_rows(slots, params.plans(), first)
+    let mut seen = 0;
+    for at in first..first.saturating_add(STRIDE) {
+        if let Some(plan) = kept_plan(slots, params, at) {
+            seen ^= plan.touch_rows();
+        }
+    }
+    seen
 }

@@ -1,4 +1,4 @@
-ghost use Rattle.std.specs.Prelude.{◌≡◌, ◌<◌, ◌≤ℤ◌, [], List, ℕ, Some, get_or, length, map, nat_lt, true, IfOk, IsTrue};
+ghost use Rattle.std.specs.Prelude.{◌≡◌, ◌<◌, ◌≤◌, ◌≤ℤ◌, [], List, ℕ, Some, get_or, length, map, nat_lt, true, vec_capacity, IfOk, IsTrue};
 ghost use Rattle.check_plan.specs.Samples.{sample_of};
 ghost use Rattle.mib_model.specs.Alarms.{alarm};
 ghost use Rattle.mib_model.specs.Finish.{with_alarm};
@@ -6,7 +6,8 @@ ghost use Rattle.mib_model.specs.Kept as Spec;
 ghost use Rattle.mib_model.specs.Kept.{has_number};
 ghost use Rattle.mib_model.specs.WholeNumbers.{least_raw, greatest_raw};
 ghost use Rattle.mib_model.specs.declared.packet.Value.{Value};
-ghost use Rattle.fold_state.specs.Boards.{kept_as, memory_of, place_of, plan_names, vacant_for};
+ghost use Rattle.fold_state.specs.Boards.{kept_as, memory_of, place_of, plan_names, slot_name, vacant_for};
+ghost use Rattle.fold_state.specs.Places.{Rise};
 ghost use Rattle.fold_state.specs.Sketches.{after_nominal};
 
 use crate::ahead::{FAR, STRIDE, read_ahead, read_rows_ahead, read_sketched_ahead};
@@ -16,11 +17,10 @@ use crate::slot::Slot;
 use bit_field::MOST_VALUES;
 use check_plan::{Holds, Sample};
 use mib_model::{Change, Class, Eng, MadeFor, Name, Value};
-use param_plan::{Param, Params};
+use param_plan::Params;
 use std::alloc::{AllocError, Global};
 use std::marker::Model;
 use std::mem;
-use std::sync::Arc;
 
 /// What is kept of each parameter of an edition: a slot for each plan, in the order of the plans. Contracts see the names
 /// and the slots.
@@ -28,7 +28,7 @@ pub struct Board {
     pub(crate) slots: Vec<Slot>,
     pub(crate) guesses: Guesses,
     // Where the places of a packet's values are noted. It says nothing between two packets.
-    seats: Vec<usize>,
+    pub(crate) seats: Vec<usize>,
     // Made of what was read ahead; it says nothing.
     pub(crate) ahead: usize,
 }
@@ -57,15 +57,18 @@ impl Model for Board {
     ghost invariant = { λ board. Rise (map slot_name board.slots.items) };
 }
 
-// Slots for plans, which keep nothing.
-fn slots_of(alloc: Global, plans: &[Arc<Param>]) -> Result<Vec<Slot>, AllocError>
-    ensures { IfOk result (λ slots. slots.items ≡ map vacant_for plans.now) }
+/// Slots for plans, which keep nothing, in room that is reserved for them.
+pub(crate) fn slots_for(room: Vec<Slot>, params: &Params) -> Vec<Slot>
+    requires none { room.items ≡ [] }
+    requires room { length params.now ≤ vec_capacity room }
+    ensures slots { result.items ≡ map vacant_for params.now }
+    ensures rise { Rise (map slot_name result.items) }
 {
-    let mut slots = Vec::with_capacity(alloc, plans.len())?;
-    for plan in plans {
-        slots.push(Slot::new(plan.name()))?;
+    let mut slots = room;
+    for at in 0..params.len() {
+        slots.push_reserved(Slot::new(params.plan(at).name()));
     }
-    Ok(slots)
+    slots
 }
 
 impl Board {
@@ -74,7 +77,7 @@ impl Board {
         ensures names { IfOk result (λ board. board.names ≡ plan_names params.now) }
         ensures memory { IfOk result (λ board. memory_of board ≡ Spec.empty_memory) }
     {
-        let slots = slots_of(alloc, params.plans())?;
+        let slots = slots_for(Vec::with_capacity(alloc, params.len())?, params);
         let guesses = Guesses::new(alloc, &slots)?;
         Ok(Board {
             slots,
@@ -160,11 +163,11 @@ impl Board {
 
     /// Reads ahead what carrying will ask of the plans from this place on, once for so many places.
     #[inline(always)]
-    pub(crate) fn read_on(&mut self, old: &Board, to: &Params, at: usize)
+    pub(crate) fn read_on(&mut self, to: &Params, at: usize)
         ensures { self.new ≡ self.old }
     {
         if at % STRIDE == 0 {
-            self.ahead = read_rows_ahead(&old.slots, to, at);
+            self.ahead = read_rows_ahead(&self.slots, to, at);
         }
     }
 
@@ -194,19 +197,19 @@ impl Board {
         at
     }
 
-    /// Takes over the guesses of another board, which may be as right for this one where both have as many slots.
+    /// Takes over the guesses and seats of another board, and notes where its own names stand.
     pub(crate) fn take_guesses(&mut self, other: Board)
         ensures { self.new ≡ self.old }
     {
-        if self.slots.len() == other.slots.len() {
-            let Board {
-                slots: _slots,
-                guesses,
-                seats: _seats,
-                ahead: _,
-            } = other;
-            self.guesses = guesses;
-        }
+        let Board {
+            slots: _slots,
+            guesses,
+            seats,
+            ahead: _,
+        } = other;
+        self.guesses = guesses;
+        self.seats = seats;
+        self.guesses.note_names(&self.slots);
     }
 
     /// Takes the seats out, so that they can be noted beside the slots.

@@ -8,7 +8,6 @@ ghost use Rattle.memory_laws.specs.Alike.{is_on};
 use mib_model::{CurRow, Name, OcpRow};
 use param_plan::{Param, ParamRows, Params};
 use std::alloc::{AllocError, Global};
-use std::sync::Arc;
 
 /// What is demanded of the values of a parameter: whether of each the raw number alone is shown, and whether a condition asks for
 /// the latest raw number.
@@ -34,13 +33,13 @@ struct Noting {
 }
 
 // What plans are, none of which is asked.
-fn unasked(alloc: Global, plans: &[Arc<Param>]) -> Result<Vec<Demand>, AllocError>
-    ensures { IfOk result (λ demands. demands.items ≡ map unasked_for plans.now) }
+fn unasked(alloc: Global, params: &Params) -> Result<Vec<Demand>, AllocError>
+    ensures { IfOk result (λ demands. demands.items ≡ map unasked_for params.now) }
 {
-    let mut demands = Vec::with_capacity(alloc, plans.len())?;
-    for plan in plans {
+    let mut demands = Vec::with_capacity(alloc, params.len())?;
+    for at in 0..params.len() {
         demands.push(Demand {
-            plain: plan.is_plain(),
+            plain: params.plan(at).is_plain(),
             asked: false,
         })?;
     }
@@ -102,9 +101,8 @@ impl Noting {
     fn note_all(&mut self, params: &Params)
         ensures { Notes (asked_in params.now) params.now self.old.demands.items self.new.demands.items }
     {
-        let plans = params.plans();
-        for plan in plans {
-            self.note_plan(params, plan);
+        for at in 0..params.len() {
+            self.note_plan(params, params.plan(at));
         }
     }
 }
@@ -114,7 +112,7 @@ pub fn demands_of(alloc: Global, params: &Params) -> Result<Vec<Demand>, AllocEr
     ensures { IfOk result (λ demands. AreDemandsOf (asked_in params.now) params.now demands.items) }
 {
     let mut noting = Noting {
-        demands: unasked(alloc, params.plans())?,
+        demands: unasked(alloc, params)?,
         last: 0,
     };
     noting.note_all(params);

@@ -147,11 +147,10 @@ pub fn draw_at(
     let Some(at) = place else {
         return Mark::Open;
     };
-    let plans = params.plans();
-    if at >= plans.len() {
+    if at >= params.len() {
         return Mark::Open;
     }
-    draw_value(&plans[at], value, packet, out)
+    draw_value(params.plan(at), value, packet, out)
 }
 
 // Notes a place, where there is room for it.

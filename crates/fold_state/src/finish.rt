@@ -123,14 +123,13 @@ impl Board {
             → place_of self.old value.now.name ≡ Some seat → IsRaw value.now
             → Spec.told value.now (tail_as result.0) (memory_of self.new, result.1) ≡ Spec.finished db (memory_of self.old) value.now }
     {
-        let plans = params.plans();
-        if seat >= plans.len() {
+        if seat >= params.len() {
             return (Tail::Plain, None);
         }
         if !self.has_seat(seat) {
             return (Tail::Plain, None);
         }
-        self.finish_at(seat, &plans[seat], value)
+        self.finish_at(seat, params.plan(seat), value)
     }
 
     /// Finishes a value, whose place is this, and appends its line and that of what its check tells.

@@ -3,9 +3,8 @@ ghost use Rattle.std.specs.Prelude.{◌≤◌, ◌+◌};
 
 use crate::slot::Slot;
 use mib_model::{NAME_SIZE, Name};
-use param_plan::Param;
+use param_plan::Params;
 use std::alloc::{AllocError, Global};
-use std::sync::Arc;
 
 /// The guesses by the octets of a name.
 const NAMED: usize = 65_536;
@@ -74,17 +73,22 @@ impl Guesses {
     /// Guesses for the names of slots at these places. An error is want of memory.
     pub fn new(alloc: Global, slots: &[Slot]) -> Result<Guesses, AllocError> {
         let mut guesses = Guesses::sized(alloc, slots.len())?;
-        for at in 0..slots.len() {
-            guesses.note_name(&slots[at].name, at);
-        }
+        guesses.note_names(slots);
         Ok(guesses)
     }
 
+    /// Notes the places of the names of slots.
+    pub fn note_names(&mut self, slots: &[Slot]) {
+        for at in 0..slots.len() {
+            self.note_name(&slots[at].name, at);
+        }
+    }
+
     /// Guesses for the names of plans at these places. An error is want of memory.
-    pub fn of_plans(alloc: Global, plans: &[Arc<Param>]) -> Result<Guesses, AllocError> {
-        let mut guesses = Guesses::sized(alloc, plans.len())?;
-        for at in 0..plans.len() {
-            guesses.note_name(&plans[at].name(), at);
+    pub fn of_plans(alloc: Global, params: &Params) -> Result<Guesses, AllocError> {
+        let mut guesses = Guesses::sized(alloc, params.len())?;
+        for at in 0..params.len() {
+            guesses.note_name(&params.plan(at).name(), at);
         }
         Ok(guesses)
     }

@@ -31,7 +31,7 @@ impl Places {
     /// What finds the places of these plans. An error is want of memory.
     pub fn new(alloc: Global, params: &Params) -> Result<Places, AllocError> {
         Ok(Places {
-            guesses: Guesses::of_plans(alloc, params.plans())?,
+            guesses: Guesses::of_plans(alloc, params)?,
             ahead: 0,
         })
     }
@@ -40,7 +40,7 @@ impl Places {
     /// guesses of their places begin.
     pub fn begin(&mut self, params: &Params, found: &Found, count: usize) -> usize {
         let first = self.guesses.row(kind_of(found), count);
-        if params.plans().len() >= FAR {
+        if params.len() >= FAR {
             let places = self.guesses.places(first, count);
             self.ahead = read_plans_ahead(params, places);
         }

@@ -195,7 +195,7 @@ impl Sheet {
         ensures full { IsFalse result → self.new ≡ self.old }
     {
         let values = seen.values;
-        if !self.has_room(values.len()) || params.plans().len() > SEATS_MOST {
+        if !self.has_room(values.len()) || params.len() > SEATS_MOST {
             return false;
         }
         self.add_head(seen);

@@ -9,7 +9,7 @@ ghost use Rattle.tool_words.specs.Boards.{board_in};
 use crate::board::board;
 use edition::Edition;
 use edition_register::Closed;
-use fold_state::Board;
+use fold_state::BoardRoom;
 use page_texts::BoardCode;
 use std::alloc::Global;
 use std::sync::Wait;
@@ -21,7 +21,7 @@ use tool_words::{WordsFault, board_request_in};
 #[derive(Drop)]
 pub struct BoardStatus {
     pub code: BoardCode,
-    pub closed: Option<Closed<Edition, Board>>,
+    pub closed: Option<Closed<Edition, BoardRoom>>,
 }
 
 impl BoardStatus {

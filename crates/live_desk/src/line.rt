@@ -20,7 +20,7 @@ use crate::operator::{Operator, Place};
 use desk_lines::{DeskReader, LINE_ROOM, NextLine, Request, request_of};
 use edition::Edition;
 use edition_register::Editions;
-use fold_state::Board;
+use fold_state::BoardRoom;
 use mib_model::{Line, Reply, Steps};
 use std::sync::Wait;
 use std::sync::ledger::Ledger;
@@ -68,7 +68,7 @@ fn write_given<P: Sink>(line: &Option<Line>, replies: &mut P) -> Result<(), Fail
 // Handles a line, and writes its reply.
 fn handle<L: Ledger, R: Wait, O: Operator, P: Sink>(
     place: &Place<'_, R>,
-    seat: &mut Seat<Editions<Edition, Board>>,
+    seat: &mut Seat<Editions<Edition, BoardRoom>>,
     operator: &mut O,
     line: &[u8],
     replies: &mut P,
@@ -108,7 +108,7 @@ fn end_at_limit<O: Operator, P: Sink>(desk: u8, replies: &mut P) -> DeskEnd
 /// Handles the next line of a script, and writes its reply; at the script's limit the line of it.
 pub(crate) fn next_line<L: Ledger, R: Wait, O: Operator, D: Source, P: Sink>(
     place: &Place<'_, R>,
-    seat: &mut Seat<Editions<Edition, Board>>,
+    seat: &mut Seat<Editions<Edition, BoardRoom>>,
     operator: &mut O,
     reader: &mut DeskReader<D>,
     buffer: &mut [u8],

@@ -10,7 +10,7 @@ ghost use Rattle.turn_cell.specs.Seats.{own_moves, seen_by};
 
 use edition::Edition;
 use edition_register::{Editions, Register};
-use fold_state::Board;
+use fold_state::BoardRoom;
 use mib_model::{Line, Reply, Steps};
 use std::alloc::Global;
 use std::sync::Wait;
@@ -21,7 +21,7 @@ use turn_cell::Seat;
 pub struct Place<'a, R> {
     pub rt: &'a R,
     pub alloc: Global,
-    pub register: &'a Register<Edition, Board>,
+    pub register: &'a Register<Edition, BoardRoom>,
     pub desk: u8,
 }
 
@@ -53,7 +53,7 @@ pub trait Operator {
     fn handle_line<L: Ledger, R: Wait>(
         &mut self,
         place: &Place<'_, R>,
-        seat: &mut Seat<Editions<Edition, Board>>,
+        seat: &mut Seat<Editions<Edition, BoardRoom>>,
         line: &[u8],
         steps: &mut Steps<L>,
     ) -> Option<Line>

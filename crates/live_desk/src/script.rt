@@ -16,7 +16,7 @@ use crate::operator::{Operator, Place};
 use desk_lines::DeskReader;
 use edition::Edition;
 use edition_register::Editions;
-use fold_state::Board;
+use fold_state::BoardRoom;
 use mib_model::Steps;
 use std::sync::Wait;
 use std::sync::ledger::Ledger;
@@ -34,7 +34,7 @@ fn is_awaited(go: bool, until_go: bool) -> bool
 /// Handles the lines of a script to its end, or up to and with a `go` where that is to be waited for: then there is no end.
 pub(crate) fn handle_lines<L: Ledger, R: Wait, O: Operator, D: Source, P: Sink>(
     place: &Place<'_, R>,
-    seat: &mut Seat<Editions<Edition, Board>>,
+    seat: &mut Seat<Editions<Edition, BoardRoom>>,
     operator: &mut O,
     reader: &mut DeskReader<D>,
     buffer: &mut [u8],

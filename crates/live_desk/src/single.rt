@@ -7,7 +7,7 @@ use crate::operator::{Operator, Place};
 use desk::Desk;
 use edition::Edition;
 use edition_register::Editions;
-use fold_state::Board;
+use fold_state::BoardRoom;
 use mib_model::{Line, Reply, Steps};
 use record_text::reply_line;
 use std::sync::Wait;
@@ -35,7 +35,7 @@ impl Operator for Desk {
     fn handle_line<L: Ledger, R: Wait>(
         &mut self,
         place: &Place<'_, R>,
-        seat: &mut Seat<Editions<Edition, Board>>,
+        seat: &mut Seat<Editions<Edition, BoardRoom>>,
         line: &[u8],
         steps: &mut Steps<L>,
     ) -> Option<Line> {

@@ -15,7 +15,7 @@ use crate::script::handle_lines;
 use desk_lines::{DeskReader, LINE_ROOM};
 use edition::Edition;
 use edition_register::Editions;
-use fold_state::Board;
+use fold_state::BoardRoom;
 use mib_model::Steps;
 use std::marker::Brand;
 use std::sync::Wait;
@@ -26,7 +26,7 @@ use turn_cell::Seat;
 // Handles the lines of a script, and counts the plans that are compiled on a ledger of its own.
 fn work_counted<L: Ledger, R: Wait, O: Operator, D: Source, P: Sink>(
     place: &Place<'_, R>,
-    seat: &mut Seat<Editions<Edition, Board>>,
+    seat: &mut Seat<Editions<Edition, BoardRoom>>,
     operator: &mut O,
     reader: &mut DeskReader<D>,
     replies: &mut P,
@@ -64,7 +64,7 @@ fn work_counted<L: Ledger, R: Wait, O: Operator, D: Source, P: Sink>(
 /// Handles the lines of a script to its end, or up to and with a `go` where that is to be waited for: then there is no end.
 pub fn work<R: Wait, O: Operator, D: Source, P: Sink>(
     place: &Place<'_, R>,
-    seat: &mut Seat<Editions<Edition, Board>>,
+    seat: &mut Seat<Editions<Edition, BoardRoom>>,
     operator: &mut O,
     reader: &mut DeskReader<D>,
     replies: &mut P,

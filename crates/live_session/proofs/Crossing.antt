@@ -2,11 +2,11 @@
 use denote.Param.Send.{IsSend, sendable}
 use Rattle.std.proofs.Crossing.{crosses}
 use Rattle.desk.specs.contracts.desk.Desk as Desk
-use Rattle.fold_state.specs.contracts.board.Board as Board
+use Rattle.fold_state.specs.contracts.room.BoardRoom as BoardRoom
 use Rattle.live_session.proofs.SharedEdition.{book-send, edition-send, edition-sync}
 
-pub board_send : IsSend Board.the_row
-board_send = search (crosses, sendable) depth 60 fits 20000
+pub room_send : IsSend BoardRoom.the_row
+room_send = search (crosses, sendable) depth 60 fits 20000
 
 pub desk_send : IsSend Desk.the_row
 desk_send = search (book-send, edition-sync, edition-send, crosses, sendable) depth 60 fits 20000

@@ -14,7 +14,7 @@ use crate::sides::IntakeSide;
 use desk_lines::DeskReader;
 use edition::Edition;
 use edition_register::Closed;
-use fold_state::Board;
+use fold_state::BoardRoom;
 use mib_model::Code;
 use packet_run::{NoWatch, Watch};
 use std::alloc::{AllocError, Global};
@@ -26,7 +26,7 @@ use tm_io::{Gate, Sink, Source};
 #[derive(Drop)]
 pub struct Lived {
     pub code: Code,
-    pub closed: Closed<Edition, Board>,
+    pub closed: Closed<Edition, BoardRoom>,
 }
 
 /// A live run that was watched: how it ended, and its watch.

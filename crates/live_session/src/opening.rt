@@ -9,7 +9,7 @@ use desk::Desk;
 use edition::Edition;
 use edition_plans::Plans;
 use edition_register::{Editions, Register, Start};
-use fold_state::Board;
+use fold_state::{Board, BoardRoom};
 use packet_run::Stock;
 use std::alloc::{AllocError, Global};
 use std::sync::Arc;
@@ -18,9 +18,9 @@ use turn_cell::Seat;
 /// A live run that was opened: its register, what its intake owns, and its desk with its seat. Nothing was read or entered yet.
 #[derive(Drop)]
 pub struct LiveRun<W> {
-    pub(crate) register: Register<Edition, Board>,
+    pub(crate) register: Register<Edition, BoardRoom>,
     pub(crate) intake: IntakeSide<W>,
-    pub(crate) seat: Seat<Editions<Edition, Board>>,
+    pub(crate) seat: Seat<Editions<Edition, BoardRoom>>,
     pub(crate) desk: Desk,
 }
 

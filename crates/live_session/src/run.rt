@@ -21,7 +21,7 @@ use desk::Desk;
 use desk_lines::DeskReader;
 use edition::Edition;
 use edition_register::{Editions, Register};
-use fold_state::Board;
+use fold_state::BoardRoom;
 use live_desk::DeskEnd;
 use packet_run::Watch;
 use std::alloc::Global;
@@ -43,9 +43,9 @@ fn run_both<
 >(
     rt: &R,
     alloc: Global,
-    register: &Register<Edition, Board>,
+    register: &Register<Edition, BoardRoom>,
     intake: &mut IntakeSide<W>,
-    seat: &mut Seat<Editions<Edition, Board>>,
+    seat: &mut Seat<Editions<Edition, BoardRoom>>,
     desk: &mut Desk,
     reader: &mut DeskReader<D>,
     feed: &mut F,
@@ -99,9 +99,9 @@ pub(crate) fn run<
 >(
     rt: &R,
     alloc: Global,
-    register: &Register<Edition, Board>,
+    register: &Register<Edition, BoardRoom>,
     intake: &mut IntakeSide<W>,
-    seat: &mut Seat<Editions<Edition, Board>>,
+    seat: &mut Seat<Editions<Edition, BoardRoom>>,
     desk: &mut Desk,
     reader: &mut DeskReader<D>,
     feed: &mut F,

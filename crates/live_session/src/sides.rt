@@ -17,7 +17,7 @@ use desk::Desk;
 use desk_lines::DeskReader;
 use edition::Edition;
 use edition_register::{Editions, Register, Start};
-use fold_state::Board;
+use fold_state::{Board, BoardRoom};
 use live_desk::{DeskEnd, Place, work};
 use packet_run::{Stock, Watch, run_packets};
 use std::alloc::Global;
@@ -30,7 +30,7 @@ use turn_cell::Seat;
 /// told of the packets.
 #[derive(Drop)]
 pub struct IntakeSide<W> {
-    pub seat: Seat<Editions<Edition, Board>>,
+    pub seat: Seat<Editions<Edition, BoardRoom>>,
     pub first: Option<Start<Edition, Board>>,
     pub stock: Stock<Edition>,
     pub workers: u8,
@@ -41,7 +41,7 @@ pub struct IntakeSide<W> {
 /// Takes in the packets of a feed.
 pub fn run_intake<F: Source, O: Sink, G: Gate + Sync, W: Watch, R: Threads + Wait + Sync>(
     rt: &R,
-    register: &Register<Edition, Board>,
+    register: &Register<Edition, BoardRoom>,
     side: &mut IntakeSide<W>,
     feed: &mut F,
     out: &mut O,
@@ -87,8 +87,8 @@ pub fn run_intake<F: Source, O: Sink, G: Gate + Sync, W: Watch, R: Threads + Wai
 pub(crate) fn run_desk<R: Wait, D: Source, P: Sink>(
     rt: &R,
     alloc: Global,
-    register: &Register<Edition, Board>,
-    seat: &mut Seat<Editions<Edition, Board>>,
+    register: &Register<Edition, BoardRoom>,
+    seat: &mut Seat<Editions<Edition, BoardRoom>>,
     desk: &mut Desk,
     reader: &mut DeskReader<D>,
     replies: &mut P,

@@ -18,7 +18,7 @@ use crate::drill::drill;
 use crate::live::live;
 use edition::Edition;
 use edition_register::Closed;
-use fold_state::Board;
+use fold_state::BoardRoom;
 use mib_model::{Code, Input};
 use std::alloc::Global;
 use std::sync::Wait;
@@ -30,7 +30,7 @@ use tool_words::{Request, WordsFault, request_in};
 #[derive(Drop)]
 pub struct Status {
     pub code: Code,
-    pub closed: Option<Closed<Edition, Board>>,
+    pub closed: Option<Closed<Edition, BoardRoom>>,
 }
 
 impl Status {

@@ -26,7 +26,7 @@ use crate::watch::Watch;
 use decode_session::Cell;
 use edition_plans::Plans;
 use edition_register::Start;
-use fold_state::Board;
+use fold_state::BoardRoom;
 use mib_model::Rows;
 use record_text::Lines;
 use std::sync::Wait;
@@ -37,7 +37,7 @@ fn print_alone<P: Plans + Rows + Drop, O: Sink, W: Watch, R: Wait>(
     rt: &R,
     cell: &mut Cell,
     edition: u32,
-    start: Option<Start<P, Board>>,
+    start: Option<Start<P, BoardRoom>>,
     in_use: &mut InUse<P>,
     lines: &mut Lines,
     out: &mut O,

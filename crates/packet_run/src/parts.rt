@@ -3,7 +3,7 @@ use crate::working::Decoding;
 use commit_order::Window;
 use decode_session::Room;
 use edition_register::Register;
-use fold_state::Board;
+use fold_state::BoardRoom;
 use mib_model::Rows;
 use record_text::Lines;
 use struct_plan::Structures;
@@ -23,7 +23,7 @@ pub(crate) struct Intake<'r, 'c, 'g, 'e, P: Structures + Rows + Drop, R, G> {
     pub rt: &'r R,
     pub crew: &'c Crew<P>,
     pub gate: &'g G,
-    pub register: &'e Register<P, Board>,
+    pub register: &'e Register<P, BoardRoom>,
 }
 
 /// The caller's side of a run: its passes of both queues, the results that wait for their turn, the rooms that are free, the page

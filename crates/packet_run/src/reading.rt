@@ -13,7 +13,7 @@ ghost use Rattle.turn_cell.specs.Seats.{own_moves, seen_by};
 use decode_session::{Cell, Room, Unread, read_packet};
 use edition_plans::Plans;
 use edition_register::{Editions, Register, Stamp, Start, intake_counts};
-use fold_state::Board;
+use fold_state::BoardRoom;
 use mib_model::Rows;
 use packet_feed::Feed;
 use std::sync::Wait;
@@ -25,14 +25,14 @@ use turn_cell::Seat;
 pub(crate) struct Stamped<P: Drop> {
     pub cell: Cell,
     pub edition: u32,
-    pub start: Option<Start<P, Board>>,
+    pub start: Option<Start<P, BoardRoom>>,
 }
 
 /// Reads the next packet into a room, and stamps it.
 pub(crate) fn read_stamped<P: Plans + Rows + Drop, R: Wait, S: Source>(
     rt: &R,
-    register: &Register<P, Board>,
-    seat: &mut Seat<Editions<P, Board>>,
+    register: &Register<P, BoardRoom>,
+    seat: &mut Seat<Editions<P, BoardRoom>>,
     feed: &mut Feed<S>,
     room: Room,
 ) -> Result<Stamped<P>, Unread>

@@ -32,7 +32,7 @@ use crate::watch::Watch;
 use decode_session::{Cell, Filled, MOST_PACKETS, Unread};
 use edition_plans::Plans;
 use edition_register::{Editions, Start};
-use fold_state::Board;
+use fold_state::BoardRoom;
 use mib_model::Rows;
 use packet_feed::Feed;
 use std::sync::{Arc, Wait};
@@ -130,7 +130,7 @@ fn hand_over<P: Plans + Drop, R: Wait>(
 
 // A handle for a packet that goes to a worker: none where an activation begins with it, or where no handle is had.
 fn handle_for<P: Plans + Drop>(
-    start: &Option<Start<P, Board>>,
+    start: &Option<Start<P, BoardRoom>>,
     in_use: &InUse<P>,
     goes_to_worker: bool,
 ) -> Option<Arc<P>>
@@ -212,7 +212,7 @@ fn goes_to_worker<S: Source>(number: u64, last_large: u64, is_idle: bool, feed: 
 /// Reads the packets of a feed up to its end or the limit. Each is stamped as soon as it is read, and goes its way to its record.
 pub(crate) fn run_feed<P: Plans + Rows + Drop, S: Source, O: Sink, W: Watch, R: Wait, G>(
     intake: &Intake<P, R, G>,
-    seat: &mut Seat<Editions<P, Board>>,
+    seat: &mut Seat<Editions<P, BoardRoom>>,
     pipeline: &mut Pipeline<P>,
     in_use: &mut InUse<P>,
     feed: &mut Feed<S>,

@@ -28,7 +28,7 @@ use crate::watch::Watch;
 use decode_session::{RunEnd, RunFault, Stop};
 use edition_plans::Plans;
 use edition_register::{Editions, Register};
-use fold_state::Board;
+use fold_state::{Board, BoardRoom};
 use mib_model::Rows;
 use packet_feed::Feed;
 use std::sync::{Arc, Wait};
@@ -40,7 +40,7 @@ use work_queue::Pass;
 // The intake's side of a run: it reads, commits and prints all packets, and ends the workers.
 fn drive_feed<P: Plans + Rows + Drop, S: Source, O: Sink, W: Watch, R: Wait, G>(
     intake: &Intake<P, R, G>,
-    seat: &mut Seat<Editions<P, Board>>,
+    seat: &mut Seat<Editions<P, BoardRoom>>,
     pipeline: &mut Pipeline<P>,
     in_use: &mut InUse<P>,
     feed: &mut Feed<S>,
@@ -72,7 +72,7 @@ fn drive_feed<P: Plans + Rows + Drop, S: Source, O: Sink, W: Watch, R: Wait, G>(
 // The intake's side of a run over the packets of a source.
 fn drive<P: Plans + Rows + Drop, S: Source, O: Sink, W: Watch, R: Wait, G>(
     intake: &Intake<P, R, G>,
-    seat: &mut Seat<Editions<P, Board>>,
+    seat: &mut Seat<Editions<P, BoardRoom>>,
     pipeline: &mut Pipeline<P>,
     in_use: &mut InUse<P>,
     source: &mut S,
@@ -108,7 +108,7 @@ fn run_beside<
 >(
     intake: &Intake<P, R, G>,
     passes: &mut Vec<Pass<Task<P>>>,
-    seat: &mut Seat<Editions<P, Board>>,
+    seat: &mut Seat<Editions<P, BoardRoom>>,
     pipeline: &mut Pipeline<P>,
     in_use: &mut InUse<P>,
     feed: &mut F,
@@ -160,8 +160,8 @@ pub fn run_packets<
 >(
     rt: &R,
     stock: &mut Stock<P>,
-    register: &Register<P, Board>,
-    seat: &mut Seat<Editions<P, Board>>,
+    register: &Register<P, BoardRoom>,
+    seat: &mut Seat<Editions<P, BoardRoom>>,
     first: Arc<P>,
     board: Board,
     feed: &mut F,

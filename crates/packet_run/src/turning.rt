@@ -11,15 +11,15 @@ ghost use Rattle.record_text.specs.declared.lines.TheConstants.{LINES_ROOM, LINE
 use crate::in_use::InUse;
 use edition_plans::Plans;
 use edition_register::Start;
-use fold_state::Board;
+use fold_state::BoardRoom;
 use mib_model::Rows;
 use record_text::{Lines, edition_line};
 use std::mem;
 
-// What was kept is carried over to the board of a start, which comes into use, and the line of its edition is appended.
+// The edition of a start comes into use: what was kept is carried over, and the line of its edition is appended.
 fn begin<P: Plans + Drop>(
     edition: u32,
-    start: Start<P, Board>,
+    start: Start<P, BoardRoom>,
     in_use: &mut InUse<P>,
     lines: &mut Lines,
 )
@@ -31,20 +31,12 @@ fn begin<P: Plans + Drop>(
     ensures text { lines.new ≡ lines.old ++ edition_text edition }
     ensures room { length lines.new ≤ length lines.old + NOTE_ROOM }
 {
-    let Start { handle, board } = start;
-    let fresh = InUse {
-        edition,
-        handle,
-        board,
-    };
-    let InUse {
-        edition: _,
-        handle: from,
-        board: kept,
-    } = mem::replace(in_use, fresh);
+    let Start { handle, board: room } = start;
+    let from = mem::replace(&mut in_use.handle, handle);
     in_use
         .board
-        .carry(kept, from.params(), in_use.handle.params());
+        .carry(room, from.params(), in_use.handle.params());
+    in_use.edition = edition;
     edition_line(edition, lines);
 }
 
@@ -52,7 +44,7 @@ fn begin<P: Plans + Drop>(
 /// appended. It takes no memory.
 pub(crate) fn turn<P: Plans + Rows + Drop>(
     edition: u32,
-    start: Option<Start<P, Board>>,
+    start: Option<Start<P, BoardRoom>>,
     in_use: &mut InUse<P>,
     lines: &mut Lines,
 )

@@ -5,7 +5,7 @@ use crate::books::{book_of, name, parameter};
 use mib_keys::sound;
 use mib_model::Steps;
 use mib_tables::Book;
-use param_plan::{Param, Params};
+use param_plan::Params;
 use param_set::params_of;
 use std::alloc::{AllocError, Global};
 use std::marker::Brand;
@@ -28,10 +28,10 @@ fn planned<L: Ledger>(
 }
 
 // How many share each plan.
-fn expect_shares<R: Abort>(rt: &R, plans: &[Arc<Param>]) {
-    assert_eq!(rt; plans.len(), 2);
-    assert_eq!(rt; Arc::strong_count(&plans[0]), 2);
-    assert_eq!(rt; Arc::strong_count(&plans[1]), 1);
+fn expect_shares<R: Abort>(rt: &R, params: &Params) {
+    assert_eq!(rt; params.len(), 2);
+    assert_eq!(rt; Arc::strong_count(params.plan(0)), 2);
+    assert_eq!(rt; Arc::strong_count(params.plan(1)), 1);
 }
 
 fn book<R: Abort>(rt: &R, alloc: Global) -> Result<Book, AllocError> {
@@ -49,8 +49,8 @@ fn edited<L: Ledger, R: Abort>(
 ) -> Result<(), AllocError> {
     book.put(parameter(name(rt, b"C"), None, 4, 16))?;
     let second = planned(alloc, first, book, steps)?;
-    expect_shares(rt, first.plans());
-    assert_eq!(rt; second.plans().len(), 2);
+    expect_shares(rt, first);
+    assert_eq!(rt; second.len(), 2);
     Ok(())
 }
 
@@ -60,9 +60,9 @@ fn shares<L: Ledger, R: Abort>(
     book: &mut Book,
     steps: &mut Steps<L>,
 ) -> Result<(), AllocError> {
-    let nothing = Params::new(Vec::new(alloc));
+    let nothing = Params::new(alloc, Vec::new(alloc))?;
     let first = planned(alloc, &nothing, book, steps)?;
-    assert!(rt; matches!(first.plans().first(), Some(plan) if plan.name() == name(rt, b"A")));
+    assert_eq!(rt; first.place(name(rt, b"A")), Some(0));
     edited(rt, alloc, &first, book, steps)
 }
 

@@ -15,7 +15,7 @@ use crate::panel_desk::PanelDesk;
 use desk_lines::DeskReader;
 use edition::Edition;
 use edition_register::Editions;
-use fold_state::Board;
+use fold_state::BoardRoom;
 use live_desk::{DeskEnd, Operator, Place, work};
 use mib_model::{Line, Reply, Steps};
 use panel_lines::{PanelReply, panel_reply_line};
@@ -45,7 +45,7 @@ impl Operator for PanelDesk {
     fn handle_line<L: Ledger, R: Wait>(
         &mut self,
         place: &Place<'_, R>,
-        seat: &mut Seat<Editions<Edition, Board>>,
+        seat: &mut Seat<Editions<Edition, BoardRoom>>,
         line: &[u8],
         steps: &mut Steps<L>,
     ) -> Option<Line> {
@@ -66,7 +66,7 @@ impl PanelDesk {
     pub fn work<R: Wait, D: Source, P: Sink>(
         &mut self,
         place: &Place<'_, R>,
-        seat: &mut Seat<Editions<Edition, Board>>,
+        seat: &mut Seat<Editions<Edition, BoardRoom>>,
         reader: &mut DeskReader<D>,
         replies: &mut P,
         until_go: bool,

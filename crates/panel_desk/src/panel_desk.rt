@@ -16,7 +16,7 @@ use desk::{Draft, Entering, amended, edit};
 use desk_lines::Request;
 use edition::Edition;
 use edition_register::{AddOnFault, Drawn, Editions, Register};
-use fold_state::Board;
+use fold_state::BoardRoom;
 use mib_model::{Reply, Steps};
 use panel_lines::{PanelReply, PanelRequest, panel_request_of};
 use std::alloc::{AllocError, Global};
@@ -62,8 +62,8 @@ impl PanelDesk {
         &mut self,
         rt: &R,
         alloc: Global,
-        register: &Register<Edition, Board>,
-        seat: &mut Seat<Editions<Edition, Board>>,
+        register: &Register<Edition, BoardRoom>,
+        seat: &mut Seat<Editions<Edition, BoardRoom>>,
         line: &[u8],
         steps: &mut Steps<L>,
     ) -> Option<PanelReply>
@@ -89,8 +89,8 @@ impl PanelDesk {
         &mut self,
         rt: &R,
         alloc: Global,
-        register: &Register<Edition, Board>,
-        seat: &mut Seat<Editions<Edition, Board>>,
+        register: &Register<Edition, BoardRoom>,
+        seat: &mut Seat<Editions<Edition, BoardRoom>>,
         request: Request<'_>,
         steps: &mut Steps<L>,
     ) -> Option<PanelReply>
@@ -120,8 +120,8 @@ impl PanelDesk {
         &mut self,
         rt: &R,
         alloc: Global,
-        register: &Register<Edition, Board>,
-        seat: &mut Seat<Editions<Edition, Board>>,
+        register: &Register<Edition, BoardRoom>,
+        seat: &mut Seat<Editions<Edition, BoardRoom>>,
         steps: &mut Steps<L>,
     ) -> PanelReply
         requires seat { IsDeskSeat (number_of seat.old) register.now seat.old }
@@ -155,8 +155,8 @@ impl PanelDesk {
     fn take<R: Wait>(
         &mut self,
         rt: &R,
-        register: &Register<Edition, Board>,
-        seat: &mut Seat<Editions<Edition, Board>>,
+        register: &Register<Edition, BoardRoom>,
+        seat: &mut Seat<Editions<Edition, BoardRoom>>,
     ) -> PanelReply
         requires seat { IsDeskSeat (number_of seat.old) register.now seat.old }
         requires room { length (own_moves seat.old) < 2 ^ 32 }

@@ -12,7 +12,7 @@ ghost use Rattle.turn_cell.specs.Seats.{number_of, own_moves, seen_by};
 use desk::{reply_of, start};
 use edition::Edition;
 use edition_register::{Editions, LookFault, Register, Start};
-use fold_state::Board;
+use fold_state::BoardRoom;
 use mib_model::Reply;
 use std::alloc::Global;
 use std::sync::Wait;
@@ -22,10 +22,10 @@ use turn_cell::Seat;
 fn look<R: Wait>(
     rt: &R,
     alloc: Global,
-    register: &Register<Edition, Board>,
-    seat: &mut Seat<Editions<Edition, Board>>,
+    register: &Register<Edition, BoardRoom>,
+    seat: &mut Seat<Editions<Edition, BoardRoom>>,
     edition: u32,
-) -> Result<Start<Edition, Board>, Reply>
+) -> Result<Start<Edition, BoardRoom>, Reply>
     requires seat { IsDeskSeat (number_of seat.old) register.now seat.old }
     requires room { length (own_moves seat.old) < 2 ^ 32 }
     ensures seat { IsDeskSeat (number_of seat.old) register.now seat.new }
@@ -47,8 +47,8 @@ fn look<R: Wait>(
 pub(crate) fn use_now<R: Wait>(
     rt: &R,
     alloc: Global,
-    register: &Register<Edition, Board>,
-    seat: &mut Seat<Editions<Edition, Board>>,
+    register: &Register<Edition, BoardRoom>,
+    seat: &mut Seat<Editions<Edition, BoardRoom>>,
     edition: u32,
 ) -> Reply
     requires seat { IsDeskSeat (number_of seat.old) register.now seat.old }
@@ -70,8 +70,8 @@ pub(crate) fn use_now<R: Wait>(
 pub(crate) fn use_from<R: Wait>(
     rt: &R,
     alloc: Global,
-    register: &Register<Edition, Board>,
-    seat: &mut Seat<Editions<Edition, Board>>,
+    register: &Register<Edition, BoardRoom>,
+    seat: &mut Seat<Editions<Edition, BoardRoom>>,
     edition: u32,
     from: u64,
 ) -> Reply

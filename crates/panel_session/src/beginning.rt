@@ -10,7 +10,7 @@ use crate::side::DeskSide;
 use crate::station::Post;
 use edition::Edition;
 use edition_register::Editions;
-use fold_state::Board;
+use fold_state::BoardRoom;
 use live_desk::Place;
 use std::sync::Wait;
 use turn_cell::Seat;
@@ -19,7 +19,7 @@ use turn_cell::Seat;
 // stamped. What the intake has seen before stands in the history before the desk's lines; it has then seen those too.
 fn begin<R: Wait, S: Post>(
     place: &Place<'_, R>,
-    intake: &mut Seat<Editions<Edition, Board>>,
+    intake: &mut Seat<Editions<Edition, BoardRoom>>,
     side: &mut DeskSide,
     station: &mut S,
 )
@@ -39,7 +39,7 @@ fn begin<R: Wait, S: Post>(
 /// Handles the first lines of each desk from that of the place on, in their order.
 pub(crate) fn begin_all<R: Wait, S: Post>(
     place: &Place<'_, R>,
-    intake: &mut Seat<Editions<Edition, Board>>,
+    intake: &mut Seat<Editions<Edition, BoardRoom>>,
     sides: &mut [DeskSide],
     stations: &mut [S],
 )

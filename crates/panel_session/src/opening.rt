@@ -6,7 +6,7 @@ use crate::side::{DeskSide, new_sides};
 use edition::Edition;
 use edition_plans::Plans;
 use edition_register::{Editions, Register};
-use fold_state::Board;
+use fold_state::BoardRoom;
 use live_session::{IntakeSide, at_first};
 use packet_run::{NoWatch, Stock};
 use std::alloc::{AllocError, Global};
@@ -17,10 +17,10 @@ use turn_cell::Seat;
 /// seats at its end. Nothing was read or entered yet.
 #[derive(Drop)]
 pub(crate) struct PanelRun {
-    pub register: Register<Edition, Board>,
+    pub register: Register<Edition, BoardRoom>,
     pub intake: IntakeSide<NoWatch>,
     pub sides: Vec<DeskSide>,
-    pub room: Vec<Seat<Editions<Edition, Board>>>,
+    pub room: Vec<Seat<Editions<Edition, BoardRoom>>>,
 }
 
 impl PanelRun {

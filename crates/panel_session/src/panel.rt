@@ -24,7 +24,7 @@ use crate::work::run_beside;
 use decode_session::{RunEnd, RunFault, Stop};
 use edition::Edition;
 use edition_register::{Closed, Editions, Register};
-use fold_state::Board;
+use fold_state::BoardRoom;
 use live_desk::Place;
 use live_session::IntakeSide;
 use mib_model::Code;
@@ -39,7 +39,7 @@ use turn_cell::Seat;
 #[derive(Drop)]
 pub struct PanelLived {
     pub code: Code,
-    pub closed: Closed<Edition, Board>,
+    pub closed: Closed<Edition, BoardRoom>,
 }
 
 // The lines of each desk up to its first `go`, one desk after the other, and then the packets of the feed beside the other lines.
@@ -53,7 +53,7 @@ fn run_desks<
 >(
     rt: &R,
     alloc: &Global,
-    register: &Register<Edition, Board>,
+    register: &Register<Edition, BoardRoom>,
     gate: &G,
     intake: &mut IntakeSide<W>,
     feed: &mut F,
@@ -90,10 +90,10 @@ fn run_desks<
 
 // Ends a run: its code, and its register closed.
 fn finish(
-    register: Register<Edition, Board>,
+    register: Register<Edition, BoardRoom>,
     intake: IntakeSide<NoWatch>,
     sides: Vec<DeskSide>,
-    room: Vec<Seat<Editions<Edition, Board>>>,
+    room: Vec<Seat<Editions<Edition, BoardRoom>>>,
     ended: Result<RunEnd, RunFault>,
 ) -> PanelLived
     requires intake { IsSeat 0 register intake.seat }

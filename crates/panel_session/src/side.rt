@@ -7,7 +7,7 @@ ghost use Rattle.panel_session.specs.Opened.{IsNewSide};
 use desk_lines::Bookmark;
 use edition::Edition;
 use edition_register::Editions;
-use fold_state::Board;
+use fold_state::BoardRoom;
 use live_desk::DeskEnd;
 use panel_desk::PanelDesk;
 use std::alloc::{AllocError, Global};
@@ -17,7 +17,7 @@ use turn_cell::Seat;
 /// What a desk of a panel owns: its seat, its draft, how far its script was read, and how that ended, where it did.
 #[derive(Drop)]
 pub struct DeskSide {
-    pub(crate) seat: Seat<Editions<Edition, Board>>,
+    pub(crate) seat: Seat<Editions<Edition, BoardRoom>>,
     pub(crate) desk: PanelDesk,
     pub(crate) read: Bookmark,
     pub(crate) end: Option<DeskEnd>,
@@ -27,7 +27,7 @@ pub struct DeskSide {
 pub(crate) fn new_sides(
     alloc: Global,
     first: &Arc<Edition>,
-    seats: Vec<Seat<Editions<Edition, Board>>>,
+    seats: Vec<Seat<Editions<Edition, BoardRoom>>>,
 ) -> Result<Vec<DeskSide>, AllocError>
     ensures seats { IfOk result (λ sides. map (λ side. side.seat) sides.items ≡ seats.items) }
     ensures new { IfOk result (λ sides. AllByRecursion (IsNewSide (arc_value first.now)) sides.items) }
@@ -47,8 +47,8 @@ pub(crate) fn new_sides(
 /// The seats of desks, in their order, into a list that has room for them.
 pub(crate) fn take_seats(
     sides: Vec<DeskSide>,
-    room: Vec<Seat<Editions<Edition, Board>>>,
-) -> Vec<Seat<Editions<Edition, Board>>>
+    room: Vec<Seat<Editions<Edition, BoardRoom>>>,
+) -> Vec<Seat<Editions<Edition, BoardRoom>>>
     requires room { (room.items ≡ []) × (length sides.items ≤ vec_capacity room) }
     ensures { result.items ≡ map (λ side. side.seat) sides.items }
 {

@@ -15,7 +15,7 @@ use crate::station::Post;
 use decode_session::{RunEnd, RunFault, Stop};
 use edition::Edition;
 use edition_register::Register;
-use fold_state::Board;
+use fold_state::BoardRoom;
 use live_desk::Place;
 use live_session::{IntakeSide, run_intake};
 use packet_run::Watch;
@@ -29,7 +29,7 @@ use tm_io::{Gate, Sink, Source};
 fn go_on<R: Wait, S: Post>(
     rt: &R,
     alloc: &Global,
-    register: &Register<Edition, Board>,
+    register: &Register<Edition, BoardRoom>,
     desk: &u8,
     side: &mut DeskSide,
     station: &mut S,
@@ -56,7 +56,7 @@ fn go_on<R: Wait, S: Post>(
 fn all_go_on<R: Threads + Wait + Sync, S: Post + Send>(
     rt: &R,
     alloc: &Global,
-    register: &Register<Edition, Board>,
+    register: &Register<Edition, BoardRoom>,
     desk: &u8,
     sides: &mut [DeskSide],
     stations: &mut [S],
@@ -111,7 +111,7 @@ pub(crate) fn run_beside<
 >(
     rt: &R,
     alloc: &Global,
-    register: &Register<Edition, Board>,
+    register: &Register<Edition, BoardRoom>,
     gate: &G,
     intake: &mut IntakeSide<W>,
     feed: &mut F,

@@ -1,5 +1,6 @@
 pub mod ChoiceFacts
 pub mod NameFacts
+pub mod BlockFacts
 pub mod PlainFacts
 pub mod PlanFacts
 pub mod LawFacts

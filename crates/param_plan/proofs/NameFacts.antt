@@ -1,14 +1,15 @@
 -- What is found by its name among items whose names ascend.
-use Rattle.std.proofs.Common.{◌≡◌, ◌∙◌, ℕ, zero, suc, ◌+◌, ◌-◌, ◌<◌, inl, inr, Bool, true, false, List, [], ◌∷◌, Some, None, Less, Equal, Greater, Ordering, length, get_or, refl, sym, ap, subst, arith, ltb}
+use Rattle.std.proofs.Common.{◌≡◌, ◌∙◌, ℕ, zero, suc, ◌+◌, ◌-◌, ◌<◌, ◌≤◌, inl, inr, Bool, true, false, List, [], ◌∷◌, Option, Some, None, Less, Equal, Greater, Ordering, length, get_or, refl, sym, ap, subst, arith, ltb}
 use Rattle.std.proofs.lemmas.Bool.{cases_lt, cases_order}
 use Rattle.std.proofs.lemmas.List.{get_or_default}
 use Rattle.std.proofs.lemmas.List.Sorted.{IsPermutation-refl, searchable_from_sorted}
 use Rattle.std.specs.Cmp.{tied_back}
 use Rattle.std.specs.Cmp.Lexicographic.{nat_list_cmp_total, slice_cmp, texts_ties}
 use Rattle.std.proofs.lemmas.Bool.Decides.{nat_tests}
-use Rattle.std.proofs.lemmas.List.Sums.{position_or_len_is}
+use Rattle.std.proofs.lemmas.List.Quantifiers.{position-Some}
+use Rattle.std.proofs.lemmas.List.Sums.{fails_before_first, position_or_len_is}
 use Rattle.std.proofs.lemmas.Slice.Eq.{bytes_eq-Decides}
-use Rattle.std.specs.List.{AllAdjacentBelow, find, position}
+use Rattle.std.specs.List.{AllAdjacentBelow, find, position, position_or_len}
 use Rattle.std.specs.List.Sorted.{IsNonDecreasingBy, IsPartitionPoint, IsSortedBy}
 use Rattle.std.specs.Ordering.{is_eq, is_lt, nat_cmp, ordering_index, ordering_reverse}
 use Rattle.std.specs.Str.{bytes_eq}
@@ -37,6 +38,27 @@ module _ {X : Type 0} (p : X → Bool) where
       let is = position_or_len_is p (x ∷ xs) (length (x ∷ xs)) x (omega arith) (λ k below. none k x below) (λ past. absurd (omega (arith, past))) in
       let without : ltb (length (x ∷ xs)) (length (x ∷ xs)) ≡ false = grind (arith, nat_tests) in
       rw (is, without) refl
+
+  -- what is found is the item at the first place that passes
+  first-found : (xs : List X) (k : ℕ) (d : X) → k < length xs → p (get_or xs k d) ≡ true → ((j : ℕ) → j < k → p (get_or xs j d) ≡ false) → find p xs ≡ Some (get_or xs k d)
+  first-found [] k d below here before = absurd (omega (arith, below))
+  first-found (x ∷ xs) zero d below here before = rw here refl
+  first-found (x ∷ xs) (suc k) d below here before = rw (before 0 (omega arith)) (first-found xs k d (omega (arith, below)) here (λ j b. before (suc j) (omega (arith, b))))
+
+  pub found-placed : (xs : List X) (k : ℕ) (x : X) → position p xs ≡ Some k → x ≡ get_or xs k x → find p xs ≡ Some x
+  found-placed xs k x at is = let place = position-Some p xs k x at in first-found xs k x place.0 place.1 place.2 ∙ ap Some (sym is)
+
+  none-found : (xs : List X) → ((k : ℕ) (d : X) → k < length xs → p (get_or xs k d) ≡ false) → find p xs ≡ None
+  none-found [] none = refl
+  none-found (x ∷ xs) none = rw (none 0 x (omega arith)) (none-found xs (λ k d below. none (suc k) d (omega (arith, below))))
+
+  -- nothing is found where no place passes
+  pub missing-placed : (xs : List X) → position p xs ≡ None → find p xs ≡ None
+  missing-placed xs none = none-found xs (λ k d below. elim (cases_lt (position_or_len p xs) (length xs)) [
+    | inl within ↦ absurd (let is : ltb (position_or_len p xs) (length xs) ≡ true = grind (arith, nat_tests) in
+        let some : ◌≡◌ {A = Option ℕ} (Some (position_or_len p xs)) None = rw is at none in cc)
+    | inr past ↦ fails_before_first p xs k d (omega (arith, past, below))
+  ])
 
 module _ {X : Type 0} (key : X → List ℕ) (name : List ℕ) where
   abbrev pub is_named : X → Bool
@@ -128,3 +150,30 @@ module _ {X : Type 0} (key : X → List ℕ) (name : List ℕ) where
   pub place-missing : (xs : List X) → Rise xs → (i : ℕ)
       → (IsNonDecreasingBy (λ y. ordering_index (order (key y) name)) xs → IsPartitionPoint (λ y. order (key y) name ≡ Less) (λ y. order (key y) name ≡ Greater) xs i) → position is_named xs ≡ None
   place-missing xs up i ends = place-none is_named xs (named-nowhere xs up i ends)
+
+  -- items up to one that is less than a name are less
+  pub less-before : (xs : List X) → Rise xs → (j i : ℕ) (d : X) → i ≤ j → j < length xs → order (key (get_or xs j d)) name ≡ Less → order (key (get_or xs i d)) name ≡ Less
+  less-before xs up j i d before below less = elim (cases_lt i j) [
+    | inl l ↦ nat_list_cmp_total.trans (key (get_or xs i d)) (key (get_or xs j d)) name (below-far xs up i j d l below) less
+    | inr l ↦ let same : j ≡ i = omega (arith, before, l) in subst (λ (k : ℕ). order (key (get_or xs k d)) name ≡ Less) same less
+  ]
+
+  turned : (x y : List ℕ) → order x y ≡ Less → order y x ≡ Greater
+  turned x y less = nat_list_cmp_total.antisymm y x ∙ ap ordering_reverse less
+
+  -- items from one on that is greater than a name are greater
+  pub greater-behind : (xs : List X) → Rise xs → (j i : ℕ) (d : X) → j ≤ i → i < length xs → order (key (get_or xs j d)) name ≡ Greater → order (key (get_or xs i d)) name ≡ Greater
+  greater-behind xs up j i d behind below greater = elim (cases_lt j i) [
+    | inl l ↦
+        let back : order name (key (get_or xs j d)) ≡ Less = nat_list_cmp_total.antisymm name (key (get_or xs j d)) ∙ ap ordering_reverse greater in
+        turned name (key (get_or xs i d)) (nat_list_cmp_total.trans name (key (get_or xs j d)) (key (get_or xs i d)) back (below-far xs up j i d l below))
+    | inr l ↦ let same : j ≡ i = omega (arith, behind, l) in subst (λ (k : ℕ). order (key (get_or xs k d)) name ≡ Greater) same greater
+  ]
+
+  -- where all below a place are less than a name and all from it on greater, the name has no place
+  pub place-between : (xs : List X) (i : ℕ) → ((k : ℕ) (d : X) → k < i → order (key (get_or xs k d)) name ≡ Less) → ((k : ℕ) (d : X) → i ≤ k → k < length xs → order (key (get_or xs k d)) name ≡ Greater)
+      → position is_named xs ≡ None
+  place-between xs i less greater = place-none is_named xs (λ k d below. elim (cases_lt k i) [
+    | inl l ↦ not-named (get_or xs k d) Less (less k d l) refl
+    | inr l ↦ not-named (get_or xs k d) Greater (greater k d l below) refl
+  ])

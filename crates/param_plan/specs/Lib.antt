@@ -2,5 +2,6 @@ pub mod Slices
 pub mod Choices
 pub mod Parts
 pub mod Plain
+pub mod Blocks
 pub mod Names
 pub mod Laws

@@ -5,12 +5,14 @@
 //! halving. It rests on mib_model for the definitions and types, on curve_plan for curves and on check_plan for checks.
 #![tactic(auto)]
 
+mod blocks;
 mod choice;
 mod laws;
 mod param;
 mod params;
 mod rows;
 
+pub use blocks::{BLOCK, Block};
 pub use check_plan::{Checks, Holds};
 pub use curve_plan::{Cal, Curve, CurveRows};
 pub use laws::{slices_are_of_plans, slices_have_curves, sound_curves_stand_apart};

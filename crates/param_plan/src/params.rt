@@ -1,100 +1,136 @@
-ghost use Rattle.std.specs.Prelude.{◌≡◌, map, Some, IfOk, IsTrue};
+ghost use Rattle.std.specs.Prelude.{◌≡◌, ◌≤◌, ◌<◌, List, ℕ, map, length, slice_index_or, option_map, Some, IfOk, IsTrue};
 ghost use Rattle.std.specs.Arc.{arc_value};
-ghost use Rattle.std.specs.List.{find, position};
+ghost use Rattle.std.specs.List.{find, flat_map, position};
 ghost use Rattle.std.specs.Option.{option_copied};
 ghost use Rattle.std.specs.Str.{bytes_eq};
+ghost use Rattle.param_plan.specs.Blocks.{IsCut};
 ghost use Rattle.param_plan.specs.Names.{Ascend};
-ghost use Rattle.param_plan.specs.Plain.{AreMarksOf, plain_at, plain_behind};
+ghost use Rattle.param_plan.specs.Plain.{AreMarksOf, is_plain};
 
+use crate::blocks::{BLOCK, Block, blocks_of};
 use crate::param::Param;
 use mib_model::Name;
 use std::alloc::{AllocError, Global};
+use std::cmp::Ordering;
 use std::marker::Model;
 use std::sync::Arc;
 
-/// Plans of parameters in ascending order of their names, shared by handle. Contracts see their slices.
-#[derive(Drop)]
+/// Plans of parameters in ascending order of their names, in blocks that are shared by handle. Contracts see their slices.
 pub struct Params {
-    plans: Vec<Arc<Param>>,
-    // Which plans are plain, where there was memory to note it: the plans lie far apart, and a plain one needn't be read.
-    plain: Option<Vec<bool>>,
+    blocks: Vec<Arc<Block>>,
+    // Which plans are plain, in one list: that is asked of each value.
+    plain: Vec<bool>,
+}
+
+/// By hand, so that whoever lets one go proves one call.
+impl Drop for Params {
+    fn drop(self) {
+        let Params {
+            blocks: _blocks,
+            plain: _plain,
+        } = self;
+    }
 }
 
 impl Model for Params {
-    ghost use Rattle.std.specs.Prelude.{◌≡◌, List, map, IfSome};
+    ghost use Rattle.std.specs.Prelude.{◌≡◌, List, map};
     ghost use Rattle.std.specs.Arc.{arc_value};
-    ghost use Rattle.param_plan.specs.Slices.{ParamSlice};
+    ghost use Rattle.std.specs.List.{flat_map};
+    ghost use Rattle.param_plan.specs.Blocks.{IsCut};
     ghost use Rattle.param_plan.specs.Names.{Ascend};
-    ghost use Rattle.param_plan.specs.Plain.{plain_behind};
+    ghost use Rattle.param_plan.specs.Plain.{is_plain};
+    ghost use Rattle.param_plan.specs.Slices.{ParamSlice};
 
     ghost Value = { List ParamSlice };
 
-    ghost view = { λ params. map arc_value params.plans.items };
+    ghost view = { λ params. flat_map arc_value params.blocks.items };
 
-    ghost invariant = { λ params. Ascend (map arc_value params.plans.items)
-        × IfSome params.plain (λ plain. plain.items ≡ map plain_behind params.plans.items) };
+    ghost invariant = { λ params. Ascend (flat_map arc_value params.blocks.items) × IsCut arc_value params.blocks.items
+        × (params.plain.items ≡ map is_plain (flat_map arc_value params.blocks.items)) };
 }
 
-// Which plans are plain, where there is memory to note it.
-fn plain_among(alloc: Global, plans: &[Arc<Param>]) -> Result<Vec<bool>, AllocError>
-    ensures { IfOk result (λ plain. plain.items ≡ map plain_behind plans.now) }
+// Which plans of blocks are plain.
+fn plain_in(alloc: Global, blocks: &[Arc<Block>]) -> Result<Vec<bool>, AllocError>
+    ensures { IfOk result (λ plain. plain.items ≡ map is_plain (flat_map arc_value blocks.now)) }
 {
-    let mut plain = Vec::with_capacity(alloc, plans.len())?;
-    for plan in plans {
-        plain.push(plan.is_plain())?;
+    let mut plain = Vec::with_capacity(alloc, blocks.len().saturating_mul(BLOCK))?;
+    for block in blocks {
+        plain.extend_from_slice(block.plain())?;
     }
     Ok(plain)
 }
 
+// Handles of the same blocks.
+fn handles(alloc: Global, blocks: &[Arc<Block>]) -> Result<Vec<Arc<Block>>, AllocError>
+    ensures { IfOk result (λ handles. map arc_value handles.items ≡ map arc_value blocks.now) }
+{
+    let mut handles = Vec::with_capacity(alloc, blocks.len())?;
+    for block in blocks {
+        handles.push(block.clone()?)?;
+    }
+    Ok(handles)
+}
+
 impl Params {
-    /// Plans of which each name is greater than the one before.
-    pub fn new(plans: Vec<Arc<Param>>) -> Params
+    /// Plans of which each name is greater than the one before. An error is want of memory.
+    pub fn new(alloc: Global, plans: Vec<Arc<Param>>) -> Result<Params, AllocError>
         requires { Ascend (map arc_value plans.items) }
-        ensures { result ≡ map arc_value plans.items }
+        ensures { IfOk result (λ params. params ≡ map arc_value plans.items) }
     {
-        match plain_among(*plans.allocator(), &plans) {
-            Ok(plain) => Params {
-                plans,
-                plain: Some(plain),
-            },
-            Err(_) => Params { plans, plain: None },
-        }
+        Params::of_blocks(alloc, blocks_of(alloc, plans)?)
     }
 
-    /// The plans, of which each name is greater than the one before.
-    pub fn plans(&self) -> &[Arc<Param>]
-        ensures plans { map arc_value result.now ≡ self.now }
+    /// Plans in blocks, of which each but the last is whole, and each name greater than the one before. An error is want of memory.
+    pub fn of_blocks(alloc: Global, blocks: Vec<Arc<Block>>) -> Result<Params, AllocError>
+        requires ascend { Ascend (flat_map arc_value blocks.items) }
+        requires cut { IsCut arc_value blocks.items }
+        ensures { IfOk result (λ params. params ≡ flat_map arc_value blocks.items) }
+    {
+        let plain = plain_in(alloc, &blocks)?;
+        Ok(Params { blocks, plain })
+    }
+
+    /// The same plans in the same blocks. An error is want of memory.
+    pub fn copy(&self, alloc: Global) -> Result<Params, AllocError>
+        ensures { IfOk result (λ params. params ≡ self.now) }
+    {
+        let blocks = handles(alloc, &self.blocks)?;
+        let plain = Vec::from_slice(alloc, &self.plain)?;
+        Ok(Params { blocks, plain })
+    }
+
+    /// Its blocks.
+    pub fn blocks(&self) -> &[Arc<Block>]
+        ensures plans { flat_map arc_value result.now ≡ self.now }
+        ensures cut { IsCut arc_value result.now }
         ensures ascend { Ascend self.now }
     {
-        &self.plans
+        &self.blocks
     }
 
-    // Whether the plan at a place is plain, by the plan itself.
-    fn is_plain_plan(&self, at: usize) -> bool
-        ensures { result ≡ plain_at self.now at }
-    {
-        at < self.plans.len() && self.plans[at].is_plain()
-    }
-
-    /// Whether there is a plan at a place, and it is plain: its parameter has no condition, no curve and no check.
+    /// How many plans there are.
     #[inline(always)]
-    pub fn is_plain(&self, at: usize) -> bool
-        ensures { result ≡ plain_at self.now at }
+    pub fn len(&self) -> usize
+        ensures count { result ≡ length self.now }
+        ensures ascend { Ascend self.now }
     {
-        match &self.plain {
-            Some(plain) => at < plain.len() && plain[at],
-            None => self.is_plain_plan(at),
-        }
+        self.plain.len()
     }
 
-    /// Whether the plan at each place is plain, and nothing where there was no memory to note it.
+    /// The plan at a place.
+    #[inline(always)]
+    pub fn plan(&self, at: usize) -> &Arc<Param>
+        requires { at < length self.now }
+        ensures { arc_value result.now ≡ slice_index_or self.now at (arc_value result.now) }
+    {
+        &self.blocks[at / BLOCK].plans()[at % BLOCK]
+    }
+
+    /// Whether the plan at each place is plain.
     pub fn plain(&self) -> &[bool]
         ensures { AreMarksOf self.now result.now }
     {
-        match &self.plain {
-            Some(plain) => plain,
-            None => &[],
-        }
+        &self.plain
     }
 
     /// Whether the plan at a place is that of a name.
@@ -102,19 +138,25 @@ impl Params {
     pub fn is_at(&self, at: usize, name: &Name) -> bool
         ensures { IsTrue result → position (λ slice. bytes_eq slice.pcf.name name.now) self.now ≡ Some at }
     {
-        at < self.plans.len() && self.plans[at].is_named(name)
+        at < self.plain.len() && self.plan(at).is_named(name)
     }
 
-    // The place of the plan of a name, by halving.
+    /// The place of the plan of a name, by halving.
     #[inline(never)]
-    fn halved(&self, name: Name) -> Option<usize>
+    pub fn place(&self, name: Name) -> Option<usize>
         ensures { result ≡ position (λ slice. bytes_eq slice.pcf.name name) self.now }
     {
-        let found = self.plans.binary_search_by_key(&name, |plan| plan.name());
-        match found {
-            Ok(at) => Some(at),
-            Err(_) => None,
+        let mut low = 0;
+        let mut high = self.plain.len();
+        while low < high {
+            let middle = low + (high - low) / 2;
+            match self.plan(middle).name().cmp(&name) {
+                Ordering::Less => low = middle + 1,
+                Ordering::Greater => high = middle,
+                Ordering::Equal => return Some(middle),
+            }
         }
+        None
     }
 
     /// The place of the plan of a name, which is looked for first at this one.
@@ -125,17 +167,14 @@ impl Params {
         if self.is_at(guess, name) {
             return Some(guess);
         }
-        self.halved(*name)
+        self.place(*name)
     }
 
     /// The plan of this name, found by halving.
-    pub fn find(&self, name: Name) -> Option<&Param>
-        ensures { option_copied result ≡ find (λ slice. bytes_eq slice.pcf.name name) self.now }
+    pub fn find(&self, name: Name) -> Option<&Arc<Param>>
+        ensures { option_map arc_value (option_copied result) ≡ find (λ slice. bytes_eq slice.pcf.name name) self.now }
     {
-        let found = self.plans.binary_search_by_key(&name, |plan| plan.name());
-        match found {
-            Ok(at) => Some(&self.plans[at]),
-            Err(_) => None,
-        }
+        let at = self.place(name)?;
+        Some(self.plan(at))
     }
 }

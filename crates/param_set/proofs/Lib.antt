@@ -9,3 +9,4 @@ pub mod AlikeFacts
 pub mod NoteFacts
 pub mod BesideFacts
 mod SharedFacts
+pub mod TouchFacts

@@ -1,6 +1,6 @@
 -- Plans of parameters beside those of a base that has parameters of the same names. [This profile.]
 use Rattle.std.specs.Prelude.{◌≡◌, ℕ, Bool, true, false, ◌&&◌, not, List, Option, Some, None, map, unwrap_or, if◌then◌else◌}
-use Rattle.std.specs.List.{find}
+use Rattle.std.specs.List.{All, find}
 use Rattle.std.specs.Str.{bytes_eq}
 use Rattle.mib_model.specs.Carry.{check_of}
 use Rattle.mib_model.specs.Checks.{checks_of}
@@ -59,6 +59,18 @@ has_changed_curve changed slice = takes_any changed.curves.items slice.pcf.curtx
 pub record IsKeptBy (changed : Changed) (slice : ParamSlice) (db : Database) : Type 0 where
   pub rows : has_changed changed slice ≡ false → HasRows slice db
   pub curves : has_changed changed slice ≡ false → has_changed_curve changed slice ≡ false → slice.curves ≡ curves_for db slice.pcf
+
+-- what did not change of each slice is that of its parameter in a database
+abbrev pub AreKeptBy : Changed → List ParamSlice → Database → Type 0
+AreKeptBy changed slices db = All (λ slice. IsKeptBy changed slice db) slices
+
+-- no curve of the slices changed
+abbrev pub AreFreeOf : Changed → List ParamSlice → Type 0
+AreFreeOf changed slices = All (λ slice. has_changed_curve changed slice ≡ false) slices
+
+-- nothing of the slices changed
+abbrev pub AreUntouched : Changed → List ParamSlice → Type 0
+AreUntouched changed slices = All (λ slice. has_changed changed slice ≡ false) slices × AreFreeOf changed slices
 
 -- whether the slice that the parameter of a slice has in a database is another
 abbrev pub is_other : Database → ParamSlice → Bool

@@ -3,3 +3,4 @@ pub mod Compiled
 pub mod Laws
 pub mod Changed
 pub mod Beside
+pub mod Touches

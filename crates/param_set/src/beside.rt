@@ -1,22 +1,26 @@
 // The plans of parameters beside those of a base that has parameters of the same names.
-ghost use Rattle.std.specs.Prelude.{◌≡◌, ◌+◌, ◌≤◌, ◌<◌, ℕ, IsTrue, map, filter, length, slice_index_or, IfOk, OnOk, false};
+ghost use Rattle.std.specs.Prelude.{◌≡◌, ◌+◌, ◌++◌, ◌≤◌, IsTrue, map, filter, length, IfOk, OnOk, false};
 ghost use Rattle.std.specs.Arc.{arc_value};
+ghost use Rattle.std.specs.List.{flat_map};
 ghost use Rattle.edition_plans.specs.Params.{param_slices};
 ghost use Rattle.mib_keys.specs.Kept.{AreSameIn};
 ghost use Rattle.mib_model.specs.Plans.{has_plan};
 ghost use Rattle.mib_model.specs.Soundness.{IsSound};
 ghost use Rattle.mib_model.specs.declared.limits.TheConstants.{HELD_MOST};
-ghost use Rattle.param_plan.specs.Slices.{ParamSlice, slice_of};
-ghost use Rattle.param_set.specs.Beside.{AreAlike, AreAllKept, IsKeptBy, IsOtherNow, are_curves_kept, has_changed, has_changed_curve, is_other, now_of, one_if};
+ghost use Rattle.fold_state.specs.Boards.{plan_names};
+ghost use Rattle.param_plan.specs.Blocks.{IsCut};
+ghost use Rattle.param_plan.specs.Slices.{slice_of};
+ghost use Rattle.param_set.specs.Beside.{AreAlike, AreAllKept, AreKeptBy, AreUntouched, IsKeptBy, IsOtherNow, are_curves_kept, has_changed, has_changed_curve, is_other, now_of, one_if};
 ghost use Rattle.param_set.specs.Sharing.{is_new, new_names};
 
 use crate::changed::Changed;
 use crate::same::same_rows;
-use crate::set::{Made, Plan, Plans, note, params_of};
+use crate::set::{Made, Plan, note, params_of};
 use crate::sources::ParamSources;
-use mib_model::{PcfRow, Steps};
+use crate::touch::{is_touched, touched_blocks};
+use mib_model::{Name, PcfRow, Steps};
 use mib_tables::{Book, TableSet};
-use param_plan::{Param, ParamRows, Params};
+use param_plan::{BLOCK, Block, Param, ParamRows, Params};
 use std::alloc::{AllocError, Global};
 use std::sync::Arc;
 use std::sync::ledger::Ledger;
@@ -159,29 +163,91 @@ fn plan_beside<L: Ledger>(
     changed_plan(alloc, plan, changed, sources, steps)
 }
 
-// The plans of the parameters of a base, of the rows that they have now, with room for so many.
+// The plans of a block, of the rows that their parameters have now. The names of those that were compiled are noted.
 fn plans_beside<L: Ledger>(
     alloc: Global,
+    block: &Block,
+    changed: &Changed,
+    sources: &ParamSources<'_>,
+    compiled: &mut Vec<Name>,
+    steps: &mut Steps<L>,
+) -> Result<Vec<Arc<Param>>, AllocError>
+    requires { AreKeptBy changed.now block.now sources.now }
+    ensures plans { IfOk result (λ plans. map arc_value plans.items ≡ map (now_of sources.now) block.now) }
+    ensures compiled { OnOk result (compiled.new.items ≡ compiled.old.items ++ plan_names (filter (is_other sources.now) block.now)) }
+    ensures steps { OnOk result (steps.new ≡ steps.old + length (filter (is_other sources.now) block.now)) }
+{
+    let mut plans = Vec::with_capacity(alloc, BLOCK)?;
+    for plan in block.plans() {
+        let made = plan_beside(alloc, plan, changed, sources, steps)?;
+        note(compiled, &made)?;
+        plans.push(made.param)?;
+    }
+    Ok(plans)
+}
+
+// A block of a base, of the rows that its parameters have now: the base's own where nothing of it changed.
+fn block_beside<L: Ledger>(
+    alloc: Global,
+    block: &Arc<Block>,
+    is_touched: bool,
+    changed: &Changed,
+    sources: &ParamSources<'_>,
+    compiled: &mut Vec<Name>,
+    steps: &mut Steps<L>,
+) -> Result<Arc<Block>, AllocError>
+    requires kept { AreKeptBy changed.now (arc_value block.now) sources.now }
+    requires untouched { is_touched ≡ false → AreUntouched changed.now (arc_value block.now) }
+    ensures block { IfOk result (λ made. arc_value made ≡ map (now_of sources.now) (arc_value block.now)) }
+    ensures compiled { OnOk result (compiled.new.items ≡ compiled.old.items ++ plan_names (filter (is_other sources.now) (arc_value block.now))) }
+    ensures steps { OnOk result (steps.new ≡ steps.old + length (filter (is_other sources.now) (arc_value block.now))) }
+{
+    if !is_touched {
+        return Ok(block.clone()?);
+    }
+    let plans = plans_beside(alloc, block, changed, sources, compiled, steps)?;
+    Ok(Arc::new(alloc, Block::new(alloc, plans)?)?)
+}
+
+// Blocks of plans, and the names of those that were compiled, not shared.
+#[derive(Drop)]
+struct Blocks {
+    blocks: Vec<Arc<Block>>,
+    compiled: Vec<Name>,
+}
+
+// The blocks of a base, of the rows that their parameters have now.
+fn blocks_beside<L: Ledger>(
+    alloc: Global,
     base: &Params,
-    room: usize,
     changed: &Changed,
     sources: &ParamSources<'_>,
     steps: &mut Steps<L>,
-) -> Result<Plans, AllocError>
-    requires room { length base.now ≤ room }
-    requires kept { (i : ℕ) (slice : ParamSlice) → i < length base.now → slice ≡ slice_index_or base.now i slice → IsKeptBy changed.now slice sources.now }
-    ensures plans { IfOk result (λ plans. map arc_value plans.params.items ≡ map (now_of sources.now) base.now) }
-    ensures compiled { IfOk result (λ plans. plans.compiled.items ≡ new_names base.now (map (now_of sources.now) base.now)) }
+) -> Result<Blocks, AllocError>
+    requires { AreKeptBy changed.now base.now sources.now }
+    ensures blocks { IfOk result (λ made. flat_map arc_value made.blocks.items ≡ map (now_of sources.now) base.now) }
+    ensures cut { IfOk result (λ made. IsCut arc_value made.blocks.items) }
+    ensures compiled { IfOk result (λ made. made.compiled.items ≡ new_names base.now (map (now_of sources.now) base.now)) }
     ensures steps { OnOk result (steps.new ≡ steps.old + length (filter (is_new base.now) (map (now_of sources.now) base.now))) }
 {
-    let mut params = Vec::with_capacity(alloc, room)?;
+    let touched = touched_blocks(alloc, base, changed)?;
+    let all = base.blocks();
+    let mut blocks = Vec::with_capacity(alloc, all.len())?;
     let mut compiled = Vec::new(alloc);
-    for plan in base.plans() {
-        let made = plan_beside(alloc, plan, changed, sources, steps)?;
-        note(&mut compiled, &made)?;
-        params.push(made.param)?;
+    for at in 0..all.len() {
+        let block = &all[at];
+        let is_touched = is_touched(at, block, &touched, changed);
+        blocks.push(block_beside(
+            alloc,
+            block,
+            is_touched,
+            changed,
+            sources,
+            &mut compiled,
+            steps,
+        )?)?;
     }
-    Ok(Plans { params, compiled })
+    Ok(Blocks { blocks, compiled })
 }
 
 // The plans of a book that has parameters alike those of a base: rows are looked up for few, and else for all.
@@ -207,9 +273,11 @@ fn taken_over<L: Ledger>(
         return params_of(alloc, base, book, steps);
     }
     let sources = ParamSources::of_few(alloc, book, changed.curves())?;
-    let plans = plans_beside(alloc, base, old.pcf().len(), &changed, &sources, steps)?;
-    let compiled = plans.compiled;
-    let params = Params::new(plans.params);
+    // So it is known how many parameters there are at most.
+    let _ = old.pcf();
+    let made = blocks_beside(alloc, base, &changed, &sources, steps)?;
+    let compiled = made.compiled;
+    let params = Params::of_blocks(alloc, made.blocks)?;
     Ok(Made { params, compiled })
 }
 
@@ -225,18 +293,6 @@ fn are_all_kept(same: TableSet) -> bool
     ensures { IsTrue result → AreAllKept same }
 {
     same.pcf && same.cur && are_curves_kept(same) && same.ocf && same.ocp
-}
-
-// Handles of the plans of a base.
-fn handles(alloc: Global, base: &Params) -> Result<Vec<Arc<Param>>, AllocError>
-    ensures { IfOk result (λ handles. map arc_value handles.items ≡ base.now) }
-{
-    let plans = base.plans();
-    let mut handles = Vec::with_capacity(alloc, plans.len())?;
-    for plan in plans {
-        handles.push(plan.clone()?)?;
-    }
-    Ok(handles)
 }
 
 // The plans of a book that has all that plans of parameters depend on of a base.
@@ -256,8 +312,7 @@ fn shared(
     ensures few { IfOk result (λ made. length made.compiled.items ≤ HELD_MOST) }
     ensures none { length (filter (is_new base.now) (param_slices book.now)) ≡ 0 }
 {
-    let handles = handles(alloc, base)?;
-    let params = Params::new(handles);
+    let params = base.copy(alloc)?;
     let compiled = Vec::new(alloc);
     Ok(Made { params, compiled })
 }

@@ -149,8 +149,17 @@ impl Changed {
         self.parameters.len() <= FEW && self.curves.len() <= FEW
     }
 
+    /// The names of parameters.
+    pub fn parameters(&self) -> &[Name]
+        ensures { result.now ≡ self.now.parameters.items }
+    {
+        &self.parameters
+    }
+
     /// The names of curves.
-    pub fn curves(&self) -> &[Name] {
+    pub fn curves(&self) -> &[Name]
+        ensures { result.now ≡ self.now.curves.items }
+    {
         &self.curves
     }
 

@@ -16,6 +16,7 @@ mod order;
 mod same;
 mod set;
 mod sources;
+mod touch;
 
 pub use beside::params_with;
 pub use laws::{

@@ -1,9 +1,6 @@
 // The plans of all parameters of a database.
-ghost use Rattle.std.specs.Prelude.{◌≡◌, ◌+◌, ◌≤◌, ◌∷◌, ◌++◌, [], map, filter, length, option_map, is_none, IfSome, IfOk, OnOk};
+ghost use Rattle.std.specs.Prelude.{◌≡◌, ◌+◌, ◌≤◌, ◌∷◌, ◌++◌, [], map, filter, length, is_none, IfSome, IfOk, OnOk};
 ghost use Rattle.std.specs.Arc.{arc_value};
-ghost use Rattle.std.specs.List.{find};
-ghost use Rattle.std.specs.Option.{option_copied};
-ghost use Rattle.std.specs.Str.{bytes_eq};
 ghost use Rattle.edition_plans.specs.Params.{param_slices};
 ghost use Rattle.mib_model.specs.Soundness.{IsSound};
 ghost use Rattle.mib_model.specs.declared.limits.TheConstants.{HELD_MOST};
@@ -20,23 +17,12 @@ use std::alloc::{AllocError, Global};
 use std::sync::Arc;
 use std::sync::ledger::Ledger;
 
-// The handle of the plan of this name, found by halving.
-fn plan_named(base: &Params, name: Name) -> Option<&Arc<Param>>
-    ensures { option_map arc_value (option_copied result) ≡ find (λ slice. bytes_eq slice.pcf.name name) base.now }
-{
-    let plans = base.plans();
-    match plans.binary_search_by_key(&name, |plan| plan.name()) {
-        Ok(at) => Some(&plans[at]),
-        Err(_) => None,
-    }
-}
-
 // The plan of a base that has these rows, in their order.
 fn same_plan<'a>(base: &'a Params, rows: &ParamRows) -> Option<&'a Arc<Param>>
     ensures same { IfSome result (λ plan. arc_value plan.now ≡ slice_of rows.now) }
     ensures new { is_none result ≡ is_new base.now (slice_of rows.now) }
 {
-    let Some(plan) = plan_named(base, rows.pcf.name) else {
+    let Some(plan) = base.find(rows.pcf.name) else {
         return None;
     };
     if same_rows(plan.rows(), rows) {
@@ -143,6 +129,6 @@ pub fn params_of<L: Ledger>(
     let rows = parameters(alloc, book.pcf())?;
     let plans = plans_of(alloc, base, &sources, &rows, steps)?;
     let compiled = plans.compiled;
-    let params = Params::new(plans.params);
+    let params = Params::new(alloc, plans.params)?;
     Ok(Made { params, compiled })
 }

@@ -7,7 +7,7 @@ ghost use Rattle.desk.specs.State.{editions_of};
 use desk::Desk;
 use edition::Edition;
 use edition_register::{Editions, Register};
-use fold_state::Board;
+use fold_state::BoardRoom;
 use mib_model::{Kind, MibCode, MibFault, Reply, Steps};
 use mib_rows::read_row;
 use mib_tables::Book;
@@ -57,8 +57,8 @@ fn replies<L: Ledger, R: Wait + Abort>(
     rt: &R,
     alloc: Global,
     desk: &mut Desk,
-    register: &Register<Edition, Board>,
-    seat: &mut Seat<Editions<Edition, Board>>,
+    register: &Register<Edition, BoardRoom>,
+    seat: &mut Seat<Editions<Edition, BoardRoom>>,
     lines: &[(&[u8], Option<Reply>)],
     steps: &mut Steps<L>,
 )
@@ -98,7 +98,7 @@ fn drafts_are_saved<L: Ledger, R: Wait + Abort>(
         return Err(fail(()));
     };
     let first = Arc::new(alloc, first)?;
-    let (register, _, mut seat) = Register::<Edition, Board>::new(alloc, Arc::try_clone(&first)?)?;
+    let (register, _, mut seat) = Register::<Edition, BoardRoom>::new(alloc, Arc::try_clone(&first)?)?;
     let mut desk = Desk::new(alloc, first)?;
     replies(
         rt,
@@ -189,7 +189,7 @@ fn editions_are_used<L: Ledger, R: Wait + Abort>(
         return Err(fail(()));
     };
     let first = Arc::new(alloc, first)?;
-    let (register, mut intake, mut seat) = Register::<Edition, Board>::new(
+    let (register, mut intake, mut seat) = Register::<Edition, BoardRoom>::new(
         alloc,
         Arc::try_clone(&first)?,
     )?;

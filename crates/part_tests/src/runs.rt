@@ -69,7 +69,7 @@ fn ident_with<L: Ledger>(alloc: Global, blank: Blank) -> Result<Ident, AllocErro
 fn bare_plans(alloc: Global) -> Result<Bare, AllocError> {
     Ok(Bare {
         ident: ident_with::<Brand>(alloc, Blank::new(1))?,
-        params: Params::new(Vec::new(alloc)),
+        params: Params::new(alloc, Vec::new(alloc))?,
     })
 }
 

@@ -5,7 +5,8 @@ use Rattle.fold_state.proofs.CarryFacts.{carry-nothing}
 use Rattle.fold_state.proofs.carry.kept_for.Goals as goal
 
 pub returns-in-None : goal.returns-in-None
-returns-in-None c = λ before after own plans made was.
+returns-in-None c = λ before after plans made was.
+    let old = c.args.old.now in
     let name = c.args.plan.now.pcf.name in
-    let none = ap (λ (n : List ℕ). place_of c.args.old.now n) (sym own) ∙ (sym c.place_from.ensures ∙ c.in-None.is) in
-    ap kept_as c.new.ensures ∙ sym (carry-nothing (memory_of c.args.old.now) before after name (kept-missing c.args.old.now name none))
+    let none = ap (λ (n : List ℕ). place_of old n) (sym c.name-name.ensures) ∙ sym c.place.ensures ∙ c.in-None.is in
+    ap kept_as c.new.ensures ∙ sym (carry-nothing (memory_of old) before after name (kept-missing old name none))

@@ -1,4 +1,4 @@
-use Rattle.std.proofs.Common.{◌≡◌, ◌+◌, map, filter, length, take}
+use Rattle.std.proofs.Common.{◌≡◌, ◌+◌, ◌++◌, map, filter, length, take}
 use Rattle.std.specs.Arc.{arc_value}
 use Rattle.fold_state.specs.Boards.{plan_names}
 use Rattle.param_set.specs.Beside.{is_other, now_of}
@@ -6,7 +6,7 @@ use Rattle.param_set.proofs.beside.plans_beside.Given as goal
 
 abbrev pub invariant-loop-plan : goal.invariant-loop-plan
 invariant-loop-plan g l = record {
-  plans : map arc_value l.params.items ≡ map (now_of l.sources) (map arc_value (take l.plan-index l.plan-items));
-  compiled : l.compiled.items ≡ plan_names (filter (is_other l.sources) (map arc_value (take l.plan-index l.plan-items)));
+  plans : map arc_value l.plans.items ≡ map (now_of l.sources) (map arc_value (take l.plan-index l.plan-items));
+  compiled : l.compiled.items ≡ l.initial.compiled.items ++ plan_names (filter (is_other l.sources) (map arc_value (take l.plan-index l.plan-items)));
   steps : l.steps ≡ l.initial.steps + length (filter (is_other l.sources) (map arc_value (take l.plan-index l.plan-items)));
 }

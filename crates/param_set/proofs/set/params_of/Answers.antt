@@ -12,9 +12,9 @@ use Rattle.param_set.proofs.CountFacts.{planned-most}
 use Rattle.param_set.proofs.UniqueFacts.{slices-ascend}
 use Rattle.param_set.proofs.set.params_of.Goals as goal
 
-pub new-params-requires : goal.new-params-requires
+pub new-requires : goal.new-requires
 unfolding param_slices
-new-params-requires g c =
+new-requires g c =
     let rows = ap (map (λ (row : Bor PcfRow). row.now)) c.deref.ensures.value ∙ (c.in_ok-rows.ensures ∙ ap (λ (pcf : List PcfRow). sorted_by (λ x y. may_precede x.name y.name) (filter has_plan pcf)) c.pcf.ensures.rows) in
     let slices : map arc_value c.in_ok-plans.plans.params.items ≡ param_slices c.args.book.now = c.in_ok-plans.ensures.plans ∙ (λ i. map (slice_for (c.in_ok-sources.ensures i)) (rows i)) in
     subst Ascend (sym slices) (slices-ascend c.args.book.now c.requires)

@@ -1,18 +1,14 @@
-use Rattle.std.proofs.Common.{◌≡◌, ◌∙◌, List, length, map, sym, ap, arith}
+use Rattle.std.proofs.Common.{◌∙◌, sym, arith}
 use Rattle.std.proofs.lemmas.Bool.Decides.{nat_tests}
-use Rattle.std.proofs.lemmas.List.{length-map}
 use Rattle.std.specs.Arc.{arc_value}
-use Rattle.param_plan.specs.Slices.{ParamSlice}
-use Rattle.fold_state.proofs.BoardFacts.{place-within}
-use Rattle.fold_state.proofs.FinishFacts.{plan-found, plan-behind, plan-within, slice-found}
+use Rattle.fold_state.proofs.BoardFacts.{place-within, plan-there}
+use Rattle.fold_state.proofs.FinishFacts.{plan-found, plan-within, slice-found}
 use Rattle.fold_state.proofs.board.Board.finish_by.Goals as goal
 
-pub returns-then-seat-plans-clause-finished : goal.returns-then-seat-plans-clause-finished
-returns-then-seat-plans-clause-finished c = λ db plans made at raw.
+pub returns-then-seat-len-clause-finished : goal.returns-then-seat-len-clause-finished
+returns-then-seat-len-clause-finished c = λ db plans made at raw.
     let within = plan-within c.args.params.now c.args.self.now c.args.value.now.name c.args.seat made at in
-    let long : length c.plans-plans.result.now ≡ length (map arc_value c.plans-plans.result.now) = sym (simp length-map) in
-    let same = ap (λ (slices : List ParamSlice). length slices) c.plans-plans.ensures.plans in
-    absurd (omega (arith, within, long, same, c.if-seat-plans.true))
+    absurd (omega (arith, within, c.len.ensures.count, c.if-seat-len.true))
 
 pub returns-then-not-has_seat-clause-finished : goal.returns-then-not-has_seat-clause-finished
 returns-then-not-has_seat-clause-finished c = λ db plans made at raw.
@@ -23,6 +19,6 @@ returns-then-not-has_seat-clause-finished c = λ db plans made at raw.
 pub returns-clause-finished : goal.returns-clause-finished
 returns-clause-finished c = λ db plans made at raw.
     let name = c.args.value.now.name in
-    let is = plan-behind c.plans-plans.result.now c.args.seat c.index-plans-seat.result c.deref.result.now c.args.params.now c.if-seat-plans.false c.index-plans-seat.is c.deref.ensures c.plans-plans.ensures.plans in
+    let is = plan-there c.args.params.now c.args.seat (arc_value c.plan.result.now) c.deref.result.now c.deref.ensures c.plan.ensures in
     let found = plan-found c.args.params.now c.args.self.now name c.args.seat c.deref.result.now made at is in
     c.finish_at.ensures.finished db (slice-found db c.args.params.now name c.deref.result.now plans found) at raw

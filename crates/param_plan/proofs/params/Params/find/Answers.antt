@@ -1,41 +1,14 @@
-use Rattle.std.proofs.Common.{◌≡◌, ◌∙◌, ◌<◌, ℕ, Equal, Less, List, ap, sym, subst, rules, option_map, Some, find, length, get_or, Global}
-use Rattle.std.proofs.lemmas.List.Sorted.{answers_always}
+use Rattle.std.proofs.Common.{◌∙◌, ap, option_map, sym}
 use Rattle.std.specs.Arc.{arc_value}
-use Rattle.std.specs.Cmp.Lexicographic.{slice_cmp}
-use Rattle.std.specs.Ordering.{nat_cmp}
+use Rattle.std.specs.Option.{option_copied}
 use Rattle.std.specs.Str.{bytes_eq}
-use Rattle.std.specs.declared.sync.Arc.{Arc}
-use Rattle.param_plan.specs.Slices.{ParamSlice}
-use Rattle.param_plan.proofs.NameFacts.{named-found, named-missing}
-use Rattle.param_plan.proofs.PlanFacts.{adjacent-map, find-map}
+use Rattle.param_plan.proofs.NameFacts.{found-placed, missing-placed}
 use Rattle.param_plan.proofs.params.Params.find.Goals as goal
 
--- the name of a plan behind a handle
-abbrev key : Arc ParamSlice Global → List ℕ
-key plan = (arc_value plan).pcf.name
+pub returns-in_err-at : goal.returns-in_err-at
+returns-in_err-at c =
+    ap (λ found. option_map arc_value (option_copied found)) c.from_residual.ensures
+    ∙ sym (missing-placed (λ slice. bytes_eq slice.pcf.name c.args.name) c.args.self.now (sym c.in_err-at.ensures))
 
-pub returns-in-Ok : goal.returns-in-Ok
-returns-in-Ok c =
-    let name = c.args.name in
-    let plans = c.self.inside.plans.items in
-    let at = c.in-Ok.at in
-    let x = c.index.result.now in
-    let rise = adjacent-map arc_value (λ x y. slice_cmp nat_cmp x.pcf.name y.pcf.name ≡ Less) plans c.self.invariant.0 in
-    let below : at < length plans = subst (λ (xs : List (Arc ParamSlice Global)). at < length xs) c.deref.ensures.value c.in-Ok.ensures.bound in
-    let by_key = c.in-Ok.ensures.position key (answers_always _ _ _ (λ f a r g called. search rules)) in
-    let is : get_or plans at x ≡ x = sym c.index.ensures in
-    let same : slice_cmp nat_cmp (key x) name ≡ Equal =
-    subst (λ y. slice_cmp nat_cmp (key y) name ≡ Equal) is (subst (λ (xs : List (Arc ParamSlice Global)). slice_cmp nat_cmp (key (get_or xs at x)) name ≡ Equal) c.deref.ensures.value (by_key x)) in
-    let found = named-found key name plans rise at x below is same in
-    ap Some c.deref-in-Ok.ensures ∙ (ap (option_map arc_value) (sym found) ∙ (sym (find-map arc_value (λ slice. bytes_eq slice.pcf.name name) plans) ∙
-    ap (find (λ (slice : ParamSlice). bytes_eq slice.pcf.name name)) c.self.view_is))
-
-pub returns-in-Err : goal.returns-in-Err
-returns-in-Err c =
-    let name = c.args.name in
-    let plans = c.self.inside.plans.items in
-    let rise = adjacent-map arc_value (λ x y. slice_cmp nat_cmp x.pcf.name y.pcf.name ≡ Less) plans c.self.invariant.0 in
-    let by_key = c.in-Err.ensures.position key (answers_always _ _ _ (λ f a r g called. search rules)) in
-    let missing = named-missing key name plans rise c.in-Err.field-0 (rw c.deref.ensures.value at by_key) in
-    ap (option_map arc_value) (sym missing) ∙ (sym (find-map arc_value (λ slice. bytes_eq slice.pcf.name name) plans) ∙
-    ap (find (λ (slice : ParamSlice). bytes_eq slice.pcf.name name)) c.self.view_is)
+pub returns : goal.returns
+returns c = sym (found-placed (λ slice. bytes_eq slice.pcf.name c.args.name) c.args.self.now c.in_ok-at.at (arc_value c.plan.result.now) (sym c.in_ok-at.ensures) c.plan.ensures)

@@ -1,0 +1,11 @@
+use Rattle.std.proofs.Common.{◌≡◌}
+use Rattle.fold_state.specs.Premises.{IsParamsOf}
+use Rattle.mib_model.specs.declared.database.Database.{Database}
+use Rattle.fold_state.proofs.CarryFacts.{CarriedBelow}
+use Rattle.fold_state.proofs.board.Board.take.Given as goal
+
+abbrev pub invariant-loop-at : goal.invariant-loop-at
+invariant-loop-at l = record {
+  names : l.self.names ≡ l.initial.self.names;
+  memory : (before after : Database) → IsParamsOf before l.from → IsParamsOf after l.to → CarriedBelow l.at l.self l.old before after;
+}
