@@ -1,0 +1,2 @@
+pub mod StretchFacts
+pub mod SheetFacts
