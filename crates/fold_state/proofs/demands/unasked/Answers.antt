@@ -17,7 +17,7 @@ loop-at-preserved c =
     ap (λ plain. record { plain = plain; asked = false }) c.is_plain.ensures ∙ ap unasked_for is in
     c.in_ok-push.ensures.items ∙ (λ i. c.loop-at.invariant i ++ own i ∷ []) ∙ sym (map_more unasked_for params at s below)
 
-pub returns-then : goal.returns-then
-returns-then c =
+pub returns : goal.returns
+returns c =
     let params = c.args.params.now in
     c.loop-at.invariant ∙ ap (map unasked_for) (take_all c.loop-at.at params (omega (arith, c.loop-at-test.false, c.len-at-end.ensures.count)))
