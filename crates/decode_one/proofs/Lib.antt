@@ -3,3 +3,4 @@ mod NumberFacts
 pub mod ParamFacts
 mod SoundFacts
 mod ValueFacts
+mod RunFacts

@@ -1,8 +1,9 @@
 -- A step of the interpreter, before and after. [This profile.]
 use Rattle.std.specs.Prelude.{◌≡◌, ℕ, Bool, List, ◌++◌}
+use Rattle.std.specs.List.{All}
 use Rattle.memory_laws.specs.Alike.{AreAlike}
 use Rattle.mib_model.specs.declared.database.Database.{Database}
-use Rattle.mib_model.specs.Interpreter.{Course, StampedPacket, memory_for, record_for, course_after}
+use Rattle.mib_model.specs.Interpreter.{Course, StampedPacket, memory_for, record_for, course_after, interpret, course_after_all, records_text}
 use Rattle.mib_model.specs.Kept.{Memory}
 use Rattle.mib_model.specs.Texts.{record_body}
 
@@ -29,3 +30,19 @@ pub record IsStampedOf (s : StampedPacket) (count : ℕ) (octets : List ℕ) (db
   pub number : s.number ≡ count
   pub packet : s.packet ≡ octets
   pub tables : s.tables ≡ db
+
+-- a packet is of an edition with these tables
+pub record IsOf (number : ℕ) (db : Database) (s : StampedPacket) : Type 0 where
+  pub edition : s.edition ≡ number
+  pub tables : s.tables ≡ db
+
+-- the interpreter stands in an edition with these tables and this memory, and packets of that edition come
+pub record ComeTo (c : Course) (ss : List StampedPacket) (db : Database) (before : Memory) : Type 0 where
+  pub tables : c.tables ≡ db
+  pub memory : c.memory ≡ before
+  pub packets : All (IsOf c.edition c.tables) ss
+
+-- the packets' records stand behind a text, and their run leaves this memory
+pub record HasRun (c : Course) (ss : List StampedPacket) (after : Memory) (old new : List ℕ) : Type 0 where
+  pub text : new ≡ old ++ records_text (interpret c ss)
+  pub memory : (course_after_all c ss).memory ≡ after

@@ -1,13 +1,12 @@
 // Records that are drawn as a sheet, and played.
 ghost use Rattle.std.specs.Prelude.{◌≡◌, ◌≤◌, ◌+◌, List, IsFalse, IsTrue, length};
 ghost use Rattle.decode_one.specs.Halves.{IsHalf};
-ghost use Rattle.decode_one.specs.Steps.{IsStampedOf};
+ghost use Rattle.decode_one.specs.Steps.{ComeTo, HasRun, IsStampedOf};
 ghost use Rattle.edition_plans.specs.Params.{param_slices};
 ghost use Rattle.fold_state.specs.Boards.{memory_of, plan_names};
 ghost use Rattle.fold_state.specs.declared.finish.TheConstants.{TEXT_BEFORE};
-ghost use Rattle.line_sheets.specs.Drawings.{Adds, IsSheetOf, packet_played, packets_played};
-ghost use Rattle.line_sheets.specs.Readings.{HasPlayed};
-ghost use Rattle.mib_model.specs.Interpreter.{StampedPacket};
+ghost use Rattle.line_sheets.specs.Drawings.{Adds, IsSheetOf, packet_played};
+ghost use Rattle.mib_model.specs.Interpreter.{Course, StampedPacket};
 ghost use Rattle.record_text.specs.declared.lines.TheConstants.{LINES_ROOM, LINE_MOST};
 
 use crate::finishing::title;
@@ -52,8 +51,8 @@ pub fn play_sheet<P: Plans>(plans: &P, sheet: &Sheet, board: &mut Board, out: &m
     requires board { board.old.names ≡ plan_names (param_slices (P.tables plans.now)) }
     requires room { length out.old ≤ TEXT_BEFORE }
     ensures names { board.new.names ≡ board.old.names }
-    ensures played { (ss : List StampedPacket) → IsSheetOf (P.tables plans.now) board.old.names ss sheet.now
-        → HasPlayed (packets_played ss (memory_of board.old)) (memory_of board.new) out.old out.new }
+    ensures run { (c : Course) (ss : List StampedPacket) → ComeTo c ss (P.tables plans.now) (memory_of board.old)
+        → IsSheetOf (P.tables plans.now) board.old.names ss sheet.now → HasRun c ss (memory_of board.new) out.old out.new }
     ensures room { length out.new + LINE_MOST ≤ LINES_ROOM }
 {
     play(board, plans.params(), sheet, out);
