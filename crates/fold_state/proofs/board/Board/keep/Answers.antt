@@ -33,13 +33,13 @@ loop-at-preserved c =
     let names = c.keep_at.ensures.names ∙ ap (λ (b : Slots). b.names) read in
     let kept : (before after : Database) → IsParamsOf before from → IsParamsOf after to → memory_of next ≡ keeping (memory_of board) name (carried (memory_of old) before after name) =
     λ before after one two.
-        let here = ap (λ (b : Slots). place_of b name) read ∙ at in
-        let was = slice-found before from name t one (plan-found from board name n t was_made at is_t) in
-        let is = slice-found after to name s two (plan-found to board name n s made at is_s) in
-        let alike = carry-alike (memory_of board) (memory_of old) before after name (c.loop-at.invariant.kept before after one two name n at (omega arith)) in
-        c.keep_at.ensures.memory before after name here was is
-        ∙ ap (λ (b : Slots). keeping (memory_of b) name (carried (memory_of b) before after name)) read
-        ∙ ap (keeping (memory_of board) name) alike in
+    let here = ap (λ (b : Slots). place_of b name) read ∙ at in
+    let was = slice-found before from name t one (plan-found from board name n t was_made at is_t) in
+    let is = slice-found after to name s two (plan-found to board name n s made at is_s) in
+    let alike = carry-alike (memory_of board) (memory_of old) before after name (c.loop-at.invariant.kept before after one two name n at (omega arith)) in
+    c.keep_at.ensures.memory before after name here was is
+    ∙ ap (λ (b : Slots). keeping (memory_of b) name (carried (memory_of b) before after name)) read
+    ∙ ap (keeping (memory_of board) name) alike in
     record {
       names = c.keep_at.ensures.names ∙ (ap (λ (b : Slots). b.names) read ∙ c.loop-at.invariant.names);
       carried = λ before after one two. carried-more board next old before after n name names at (kept before after one two) (c.loop-at.invariant.carried before after one two);

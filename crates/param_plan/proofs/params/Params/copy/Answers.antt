@@ -11,8 +11,7 @@ invariant_of-result c =
     let own = c.self.inside.blocks.items in
     let new = c.in_ok-blocks.blocks.items in
     let alike : map arc_value own ≡ map arc_value new = sym (c.in_ok-blocks.ensures ∙ ap (map arc_value) c.deref.ensures.value) in
-    let same : flat_map arc_value own ≡ flat_map arc_value new = flat-alike arc_value arc_value own new alike in
-    (
+    let same : flat_map arc_value own ≡ flat_map arc_value new = flat-alike arc_value arc_value own new alike in (
       subst Ascend same c.self.invariant.0,
       cut-alike arc_value arc_value own new alike c.self.invariant.1,
       c.in_ok-plain.ensures.items ∙ c.deref-2.ensures.value ∙ c.self.invariant.2 ∙ ap (map is_plain) same,
