@@ -1,9 +1,5 @@
-use Rattle.std.proofs.Common.{◌≡◌, ◌∙◌, ap, refl}
 use Rattle.std.specs.HashMap.{get}
-use Rattle.mib_model.specs.declared.key.Key.{Key}
-use Rattle.mib_model.specs.Keys.{key_in}
 use Rattle.mib_keys.specs.Alike.{key_eq}
-use Rattle.mib_keys.specs.Indexes.{cut}
 use Rattle.mib_keys.proofs.FlawFacts.{ok-agree, ok-none}
 use Rattle.mib_keys.proofs.TwiceFacts.{own-place}
 use Rattle.mib_keys.proofs.twice.ByItsKeyRepeats.earlier.Goals as goal

@@ -1,10 +1,8 @@
 use Rattle.std.proofs.Common.{◌≡◌, ◌∙◌, ap, nat_eq, refl, sym}
 use Rattle.std.specs.HashMap.{get}
 use Rattle.std.specs.List.{position}
-use Rattle.mib_model.specs.declared.key.Key.{Key}
 use Rattle.mib_model.specs.declared.rows.PidRow.{PidRow}
 use Rattle.mib_model.specs.declared.rows.Row.TheVariants as row
-use Rattle.mib_model.specs.Keys.{key_in}
 use Rattle.mib_index.specs.Packets.{packet_eq, packet_of}
 use Rattle.mib_keys.specs.Alike.{key_eq}
 use Rattle.mib_keys.specs.Indexes.{cut}
