@@ -38,7 +38,7 @@ pub fn has_key<B: By>(row: &B::Row, key: &B::Key) -> bool
 }
 
 /// The place of a key, which is this one where it has none yet, in one probe. An error is want of memory.
-pub fn noted<K: Eq + Hash + Copy + Drop>(
+pub fn noted<K: Eq + Hash + Drop>(
     places: &mut HashMap<K, usize>,
     key: K,
     place: usize,

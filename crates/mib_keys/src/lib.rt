@@ -12,6 +12,7 @@ mod fault;
 mod flaw;
 mod groups;
 mod kept;
+mod keyed;
 mod known;
 mod lookups;
 mod points;

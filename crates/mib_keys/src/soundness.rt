@@ -13,24 +13,25 @@ ghost use Rattle.mib_keys.specs.Firsts.{flaw_in, first_in};
 ghost use Rattle.mib_model.specs.declared.limits.TheConstants.{HELD_MOST};
 
 use crate::fault::SoundFault;
+use crate::keyed::ByOwn;
 use crate::lookups::Lookups;
 use crate::tables::Rules;
 use crate::twice::{ByItsKey, ByNumberOrKind, Repeats};
 use mib_index::Index;
 use mib_model::{
-    CafRow, CapRow, CurRow, KINDS, Key, Kind, LgfRow, McfRow, MibCode, MibFault, OcfRow, OcpRow,
-    PcfRow, PicRow, PlfRow, TableRow, TpcfRow, TxfRow, TxpRow, VpdRow,
+    CafRow, CapRow, CurRow, KINDS, Kind, LgfRow, McfRow, MibCode, MibFault, OcfRow, OcpRow, PcfRow,
+    PicRow, PlfRow, TableRow, TpcfRow, TxfRow, TxpRow, VpdRow,
 };
 use mib_tables::Book;
 use std::alloc::{AllocError, Global};
 use std::collections::HashMap;
 
 // The first flaw of a row. Notes its key.
-fn row_flaw<T: Repeats>(
+fn row_flaw<'a, T: Repeats>(
     lookups: &Lookups<'_>,
-    seen: &mut HashMap<Key, usize>,
+    seen: &mut HashMap<ByOwn<'a, T::Row>, usize>,
     place: usize,
-    row: &T::Row,
+    row: &'a T::Row,
 ) -> Result<Option<MibFault>, AllocError>
     requires seen { AreKeyPlaces T.Row.as_row (get key_eq seen.old) (take place (T.Row.listed lookups.now)) }
     requires few { place < HELD_MOST }

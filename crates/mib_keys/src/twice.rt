@@ -8,11 +8,12 @@ ghost use Rattle.mib_keys.specs.Alike.{AreKeyPlaces, has_its_key, is_like_packet
 ghost use Rattle.mib_keys.specs.Firsts.{least};
 ghost use Rattle.mib_keys.specs.Indexes.{cut};
 
+use crate::keyed::ByOwn;
 use crate::lookups::Lookups;
 use crate::points::before;
 use crate::tables::Rules;
 use mib_index::{noted, packet_key};
-use mib_model::{Key, PidRow, TableRow};
+use mib_model::{PidRow, TableRow};
 use std::alloc::AllocError;
 use std::collections::HashMap;
 use std::marker::PhantomData;
@@ -24,10 +25,10 @@ pub trait Repeats {
     ghost alike: { Self.Row → Self.Row → Bool };
 
     /// The place, from 0, of the first row before the row of this place that is like it. Notes the row's key.
-    fn earlier(
-        row: &Self::Row,
+    fn earlier<'a>(
+        row: &'a Self::Row,
         lookups: &Lookups<'_>,
-        seen: &mut HashMap<Key, usize>,
+        seen: &mut HashMap<ByOwn<'a, Self::Row>, usize>,
         place: usize,
     ) -> Result<Option<usize>, AllocError>
         requires { AreKeyPlaces Self.Row.as_row (get key_eq seen.old) (take place (Self.Row.listed lookups.now)) }
@@ -37,16 +38,17 @@ pub trait Repeats {
             ≡ option_or (get key_eq seen.old q) (if key_eq (key_in (Self.Row.as_row row.now)) q then Some place else None)) };
 }
 
-// The place of a key before this one, which the key gets where it has none.
-fn earlier_of(
-    seen: &mut HashMap<Key, usize>,
-    key: Key,
+// The place of a row of the same key before this one, which the key gets where it has none.
+fn earlier_of<'a, R: TableRow>(
+    seen: &mut HashMap<ByOwn<'a, R>, usize>,
+    row: &'a R,
     place: usize,
 ) -> Result<Option<usize>, AllocError>
-    ensures earlier { IfOk result (λ earlier. earlier ≡ cut place (get key_eq seen.old key)) }
-    ensures seen { OnOk result ((q : Key) → get key_eq seen.new q ≡ option_or (get key_eq seen.old q) (if key_eq key q then Some place else None)) }
+    ensures earlier { IfOk result (λ earlier. earlier ≡ cut place (get key_eq seen.old (key_in (R.as_row row.now)))) }
+    ensures seen { OnOk result ((q : Key) → get key_eq seen.new q
+        ≡ option_or (get key_eq seen.old q) (if key_eq (key_in (R.as_row row.now)) q then Some place else None)) }
 {
-    let first = noted(seen, key, place)?;
+    let first = noted(seen, ByOwn { row }, place)?;
     Ok(before(Some(first), place))
 }
 
@@ -63,13 +65,13 @@ impl<R: Rules> Repeats for ByItsKey<R> {
 
     ghost alike = { has_its_key R.as_row };
 
-    fn earlier(
-        row: &R,
+    fn earlier<'a>(
+        row: &'a R,
         lookups: &Lookups<'_>,
-        seen: &mut HashMap<Key, usize>,
+        seen: &mut HashMap<ByOwn<'a, R>, usize>,
         place: usize,
     ) -> Result<Option<usize>, AllocError> {
-        earlier_of(seen, row.to_row().key(), place)
+        earlier_of(seen, row, place)
     }
 }
 
@@ -93,13 +95,13 @@ impl Repeats for ByNumberOrKind {
 
     ghost alike = { is_like_packet };
 
-    fn earlier(
-        row: &PidRow,
+    fn earlier<'a>(
+        row: &'a PidRow,
         lookups: &Lookups<'_>,
-        seen: &mut HashMap<Key, usize>,
+        seen: &mut HashMap<ByOwn<'a, PidRow>, usize>,
         place: usize,
     ) -> Result<Option<usize>, AllocError> {
-        let number = earlier_of(seen, row.to_row().key(), place)?;
+        let number = earlier_of(seen, row, place)?;
         let kind = before(lookups.packet_place(packet_key(row)), place);
         Ok(least(number, kind))
     }
