@@ -31,7 +31,10 @@ fn begin<P: Plans + Drop>(
     ensures text { lines.new ≡ lines.old ++ edition_text edition }
     ensures room { length lines.new ≤ length lines.old + NOTE_ROOM }
 {
-    let Start { handle, board: room } = start;
+    let Start {
+        handle,
+        board: room,
+    } = start;
     let from = mem::replace(&mut in_use.handle, handle);
     in_use
         .board

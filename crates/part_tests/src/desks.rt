@@ -98,7 +98,10 @@ fn drafts_are_saved<L: Ledger, R: Wait + Abort>(
         return Err(fail(()));
     };
     let first = Arc::new(alloc, first)?;
-    let (register, _, mut seat) = Register::<Edition, BoardRoom>::new(alloc, Arc::try_clone(&first)?)?;
+    let (register, _, mut seat) = Register::<Edition, BoardRoom>::new(
+        alloc,
+        Arc::try_clone(&first)?,
+    )?;
     let mut desk = Desk::new(alloc, first)?;
     replies(
         rt,
