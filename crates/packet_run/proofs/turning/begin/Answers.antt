@@ -16,6 +16,14 @@ carry-requires g c =
       old = c.args.in_use.now.made ∙ ap plan_names (ap param_slices (sym from) ∙ sym c.params.ensures.slices);
     }
 
+pub invariant_of-in_use : goal.invariant_of-in_use
+invariant_of-in_use g c =
+    let tables = g.P.Structures.tables in
+    record {
+      made = c.carry.ensures.names ∙ made-names (tables (arc_value c.args.start.handle)) c.args.start.board c.requires.start
+          ∙ ap plan_names (ap param_slices (ap tables (ap arc_value (sym c.replace-from.ensures.after))));
+    }
+
 pub returns-clause-memory : goal.returns-clause-memory
 returns-clause-memory g c =
     let tables = g.P.Structures.tables in
