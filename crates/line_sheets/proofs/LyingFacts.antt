@@ -12,7 +12,8 @@ use Rattle.line_sheets.specs.declared.sheet.Event.{Event}
 use Rattle.line_sheets.specs.declared.reading.Work.{Work}
 use Rattle.line_sheets.specs.Pieces.{Piece, Played, Text, behind, played, played_one}
 use Rattle.line_sheets.specs.Readings.{HasPlayed, IsPassed, IsTaken, LeftView, left_from, held_size}
-use Rattle.line_sheets.specs.Sheets.{Act, AreHeld, Run, SheetView, act_as, act_of, counts_of, counts_taken, last_at, no_count, piece_of, pieces_of, raws_of, raws_taken, run_pieces, runs_in, sheet_in, with_act, with_text}
+use Rattle.line_sheets.specs.Lying.{AreHeld, act_as, act_of, counts_of, counts_taken, last_at, no_count, raws_of, raws_taken, runs_in, sheet_in}
+use Rattle.line_sheets.specs.Sheets.{Act, Run, SheetView, piece_of, pieces_of, run_pieces, with_act, with_text}
 use Rattle.line_sheets.proofs.PlayFacts.{behind-behind, played-one}
 
 drop-front : {A : Type 0} (n : ℕ) (xs ys : List A) → n ≤ length xs → drop n (xs ++ ys) ≡ drop n xs ++ ys

@@ -8,7 +8,8 @@ use Rattle.line_sheets.specs.declared.reading.Work.TheVariants as work
 use Rattle.line_sheets.specs.Pieces.{Played, behind, played, played_one}
 use Rattle.line_sheets.specs.Playing.{GoesOn, left_played}
 use Rattle.line_sheets.specs.Readings.{HasPlayed, IsPassed, IsTaken, LeftView, held_size}
-use Rattle.line_sheets.specs.Sheets.{AreSeated, Run, SheetView, act_as, piece_of, pieces_of, seat_of}
+use Rattle.line_sheets.specs.Lying.{act_as}
+use Rattle.line_sheets.specs.Sheets.{AreSeated, Run, SheetView, piece_of, pieces_of, seat_of}
 use Rattle.line_sheets.proofs.LyingFacts.{end-played, run-played}
 
 seat-same : (seat : ℕ) (w : Work) → seat_of (act_as seat w) ≡ seat

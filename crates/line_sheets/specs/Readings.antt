@@ -5,7 +5,8 @@ use Rattle.line_sheets.specs.declared.reading.Work.{Work}
 use Rattle.line_sheets.specs.declared.reading.Work.TheVariants as work
 use Rattle.line_sheets.specs.declared.sheet.Event.{Event}
 use Rattle.line_sheets.specs.Pieces.{Played}
-use Rattle.line_sheets.specs.Sheets.{Run, SheetView, act_as, sheet_from}
+use Rattle.line_sheets.specs.Lying.{act_as, sheet_from}
+use Rattle.line_sheets.specs.Sheets.{Run, SheetView}
 use Rattle.mib_model.specs.declared.number.Eng.{Eng}
 use Rattle.mib_model.specs.Kept.{Memory}
 use Rattle.mib_model.specs.WholeNumbers.{least_raw, greatest_raw}

@@ -5,7 +5,8 @@ ghost use Rattle.fold_state.specs.declared.finish.TheConstants.{TEXT_BEFORE};
 ghost use Rattle.fold_state.specs.Premises.{IsParamsOf};
 ghost use Rattle.line_sheets.specs.Pieces.{played, played_one};
 ghost use Rattle.line_sheets.specs.Readings.{HasPlayed, HasRaw};
-ghost use Rattle.line_sheets.specs.Sheets.{AreSeated, act_as, piece_of, pieces_of};
+ghost use Rattle.line_sheets.specs.Lying.{act_as};
+ghost use Rattle.line_sheets.specs.Sheets.{AreSeated, piece_of, pieces_of};
 ghost use Rattle.mib_model.specs.declared.database.Database.{Database};
 ghost use Rattle.record_text.specs.declared.lines.TheConstants.{END_ROOM, LINES_ROOM, LINE_MOST, NOTE_ROOM};
 

@@ -2,7 +2,7 @@
 ghost use Rattle.mib_model.specs.WholeNumbers.{greatest_raw, least_raw};
 ghost use Rattle.std.specs.Prelude.{◌≡◌, ◌≤◌, ◌≤ℤ◌, ◌++◌, ℕ, drop, get_or, length, take, IfSome, IsNone, [], pos};
 ghost use Rattle.line_sheets.specs.Readings.{HasRaw, IsPassed};
-ghost use Rattle.line_sheets.specs.Sheets.{AreHeld, act_as, act_of, counts_taken, held_raw, no_count, raws_taken, sheet_in};
+ghost use Rattle.line_sheets.specs.Lying.{AreHeld, act_as, act_of, counts_taken, held_raw, no_count, raws_taken, sheet_in};
 
 use crate::sheet::{Deed, Event};
 use mib_model::Eng;
@@ -49,7 +49,7 @@ impl Drop for Reading<'_> {
 impl<'a> Model for Reading<'a> {
     ghost use Rattle.std.specs.Prelude.{◌≤◌, length};
     ghost use Rattle.line_sheets.specs.Readings.{LeftView, left_from};
-    ghost use Rattle.line_sheets.specs.Sheets.{AreHeld};
+    ghost use Rattle.line_sheets.specs.Lying.{AreHeld};
 
     ghost Value = { LeftView };
 

@@ -1,6 +1,7 @@
 // A sheet: the text of a stretch of records, and what is done between two parts of it.
 ghost use Rattle.std.specs.Prelude.{◌≡◌, ◌<◌, ◌≤◌, ◌+◌, ◌≤ℤ◌, ◌++◌, [], IfOk, IfSome, IsTrue, length, vec_capacity, vec_len};
-ghost use Rattle.line_sheets.specs.Sheets.{Calmed, Entered, Opened, act_of, counts_of, held_raw, no_sheet, raws_of, with_act};
+ghost use Rattle.line_sheets.specs.Lying.{act_of, counts_of, held_raw, raws_of};
+ghost use Rattle.line_sheets.specs.Sheets.{Calmed, Entered, Opened, no_sheet, with_act};
 ghost use Rattle.line_sheets.specs.declared.sheet.TheConstants.{EVENT_ROOM, SHEET_ROOM, TEXT_MOST, VALUES_MOST};
 ghost use Rattle.line_sheets.specs.Readings.{held_size};
 ghost use Rattle.mib_model.specs.WholeNumbers.{greatest_raw, least_raw};
@@ -81,7 +82,8 @@ impl Drop for Sheet {
 
 impl Model for Sheet {
     ghost use Rattle.std.specs.Prelude.{◌≡◌, ◌≤◌, length, vec_capacity, vec_len};
-    ghost use Rattle.line_sheets.specs.Sheets.{AreHeld, SheetView, sheet_in};
+    ghost use Rattle.line_sheets.specs.Lying.{AreHeld, sheet_in};
+    ghost use Rattle.line_sheets.specs.Sheets.{SheetView};
     ghost use Rattle.line_sheets.specs.declared.sheet.TheConstants.{EVENT_ROOM, SHEET_ROOM};
 
     ghost Value = { SheetView };

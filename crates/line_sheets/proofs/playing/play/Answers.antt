@@ -3,7 +3,8 @@ use Rattle.fold_state.specs.Boards.{Slots, memory_of}
 use Rattle.line_sheets.specs.Pieces.{played_one}
 use Rattle.line_sheets.specs.Playing.{GoesOn}
 use Rattle.line_sheets.specs.Readings.{HasPlayed, LeftView, held_size}
-use Rattle.line_sheets.specs.Sheets.{AreSeated, SheetView, act_as, piece_of}
+use Rattle.line_sheets.specs.Lying.{act_as}
+use Rattle.line_sheets.specs.Sheets.{AreSeated, SheetView, piece_of}
 use Rattle.line_sheets.proofs.PlayedFacts.{end-goes, first-seated, passed-size, run-goes}
 use Rattle.line_sheets.proofs.playing.play.Goals as goal
 

@@ -3,7 +3,8 @@ use Rattle.fold_state.specs.Boards.{memory_of}
 use Rattle.line_sheets.specs.declared.reading.Work.{Work}
 use Rattle.line_sheets.specs.Pieces.{played_one}
 use Rattle.line_sheets.specs.Readings.{HasPlayed}
-use Rattle.line_sheets.specs.Sheets.{act_as, piece_of}
+use Rattle.line_sheets.specs.Lying.{act_as}
+use Rattle.line_sheets.specs.Sheets.{piece_of}
 use Rattle.line_sheets.proofs.playing.play_one.Goals as goal
 
 pub returns-in-Calm-clause-played : goal.returns-in-Calm-clause-played

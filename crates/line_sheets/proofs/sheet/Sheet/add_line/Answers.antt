@@ -1,6 +1,7 @@
 use Rattle.std.proofs.Common.{◌∙◌, List, ℕ, ap, arith, subst}
 use Rattle.fold_state.specs.Sketches.{IsShown, behind}
-use Rattle.line_sheets.specs.Sheets.{SheetView, sheet_in, with_text}
+use Rattle.line_sheets.specs.Lying.{sheet_in}
+use Rattle.line_sheets.specs.Sheets.{SheetView, with_text}
 use Rattle.line_sheets.proofs.LyingFacts.{write-behind, write-held, write-view}
 use Rattle.line_sheets.proofs.sheet.Sheet.add_line.Goals as goal
 
