@@ -86,9 +86,9 @@ unfolding still
 still-feed lines taken part left none few fits =
     ap (take (most_lines - lines)) (lines-feed taken part left none fits) ∙ take-one lines part (lines_behind (taken + (length part + 1)) left) few
 
-still-end : (lines taken : ℕ) → still (record { lines = lines; octets = taken }) [] ≡ []
+pub still-end : (r : Reading) → still r [] ≡ []
 unfolding still
-still-end lines taken = ap (take (most_lines - lines)) (lines-end taken) ∙ take_all {A = List ℕ} (most_lines - lines) [] (omega arith)
+still-end r = ap (take (most_lines - r.lines)) (lines-end r.octets) ∙ take_all {A = List ℕ} (most_lines - r.lines) [] (omega arith)
 
 still-last : (lines taken further : ℕ) (part : List ℕ) → HasNoFeed part → lines < most_lines → taken + length part < most_script → 0 < length part
     → still (record { lines = lines; octets = taken }) part ≡ part ∷ still (record { lines = lines + 1; octets = further }) []
@@ -186,9 +186,10 @@ none-end lines taken (Some left) (Some behind) few fits consumed end =
     let at : left ≡ [] = consumed ∙ end in
     let part_open : nat_le most_script (taken + 0) ≡ false = grind (arith, nat_tests, fits) in
     let more : nat_eq (lines + 0) most_lines ≡ false = grind (arith, nat_tests, few) in
+    let none = still-end (record { lines = lines; octets = taken }) in
     rw at (record {
-      none = still-end lines taken;
-      limited = rw (part_open, still-end lines taken, more) refl;
+      none = none;
+      limited = rw (part_open, none, more) refl;
     })
 
 -- after as many lines as are taken
@@ -221,3 +222,29 @@ still-start octets = rw (zero-add (length octets)) refl
 pub limit-start : (octets : List ℕ) → meets_limit reading_start octets ≡ reaches_limit octets
 unfolding meets_limit reaches_limit
 limit-start octets = rw (zero-add (length octets), still-start octets, zero-add (length (script octets))) refl
+
+-- ---- lines that were handled in between
+
+pub ahead-none : (r : Reading) (left : Option (List ℕ)) → IfSome left (λ l. IfSome left (λ b. still r l ≡ still r b))
+ahead-none r None = tt
+ahead-none r (Some l) = refl
+
+pub limit-none : (r : Reading) (left : Option (List ℕ)) → IfSome left (λ l. IfSome left (λ b. meets_limit r l ≡ meets_limit r b))
+limit-none r None = tt
+limit-none r (Some l) = refl
+
+pub ahead-more : (was mid now : Reading) (left place behind : Option (List ℕ)) (given : List ℕ) (handled : List (List ℕ)) (line : List ℕ) → Consumes left place given
+    → IfSome left (λ l. IfSome place (λ b. still was l ≡ handled ++ still mid b)) → IfSome place (λ l. IfSome behind (λ b. still mid l ≡ line ∷ still now b))
+    → IfSome left (λ l. IfSome behind (λ b. still was l ≡ (handled ++ line ∷ []) ++ still now b))
+ahead-more was mid now None place behind given handled line taken first next = tt
+ahead-more was mid now (Some l) None behind given handled line taken first next = absurd taken
+ahead-more was mid now (Some l) (Some p) None given handled line taken first next = tt
+ahead-more was mid now (Some l) (Some p) (Some b) given handled line taken first next =
+    first ∙ ap (λ ls. handled ++ ls) next ∙ sym (append_assoc handled (line ∷ []) (still now b))
+
+pub limit-more : (was mid now : Reading) (left place behind : Option (List ℕ)) (given : List ℕ) → Consumes left place given → IfSome left (λ l. IfSome place (λ b. meets_limit was l ≡ meets_limit mid b))
+    → IfSome place (λ l. IfSome behind (λ b. meets_limit mid l ≡ meets_limit now b)) → IfSome left (λ l. IfSome behind (λ b. meets_limit was l ≡ meets_limit now b))
+limit-more was mid now None place behind given taken first next = tt
+limit-more was mid now (Some l) None behind given taken first next = absurd taken
+limit-more was mid now (Some l) (Some p) None given taken first next = tt
+limit-more was mid now (Some l) (Some p) (Some b) given taken first next = first ∙ next

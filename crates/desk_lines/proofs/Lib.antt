@@ -2,5 +2,6 @@ pub mod CutFacts
 pub mod WordFacts
 pub mod LongFacts
 pub mod AheadFacts
+pub mod GivenFacts
 pub mod PieceFacts
 pub mod ReaderFacts

@@ -2,4 +2,5 @@ pub mod Ahead
 pub mod Pieces
 pub mod Reader
 pub mod Gives
+pub mod Given
 pub mod Requests

@@ -9,15 +9,15 @@ use Rattle.decode_session.proofs.FinishFacts.{part-behind}
 use Rattle.desk.specs.Handling.{moves_at}
 use Rattle.desk_lines.specs.Ahead.{Reading, reading_start, still, meets_limit}
 use Rattle.desk_lines.proofs.AheadFacts.{still-start, limit-start}
+use Rattle.desk_lines.proofs.GivenFacts.{given-append, upto-both}
 use Rattle.histories.specs.History.{StartsWith, moves_of}
 use Rattle.tm_io.specs.Octets.{WritesUnless}
 use Rattle.live_desk.specs.declared.desk_end.DeskEnd.{DeskEnd}
 use Rattle.live_desk.specs.DeskEnds.{is_reply_fault}
 use Rattle.live_desk.specs.Operators.{is_several, seat_of}
-use Rattle.live_desk.specs.Scripts.{DeskedFrom, EndsEarly, FailsAt, IsGiven, IsUpTo, Pauses, tail_at}
+use Rattle.live_desk.specs.Scripts.{DeskedFrom, EndsEarly, FailsAt, Pauses, tail_at}
 use Rattle.live_desk.specs.Standing.{Standing}
-use Rattle.live_desk.proofs.ScriptFacts.{still-end}
-use Rattle.live_desk.proofs.LineFacts.{Known, desk-none, given-append, moves-append, text-append}
+use Rattle.live_desk.proofs.LineFacts.{Known, desk-none, moves-append, text-append}
 use Rattle.mib_model.specs.declared.database.Database.{Database}
 use Rattle.mib_model.specs.Desk.{DeskReply, desk_start}
 use Rattle.mib_model.specs.DeskRuns.{Calls, IsDesk, prelude}
@@ -49,16 +49,6 @@ fails-behind number rs qs others tail a b c written (front, more, place, wrote, 
   subst (Appends a place) (sym (text-append number rs front)) (Appends-trans a b place (desk_text number rs) (desk_text number front) written wrote),
   inr (ap (λ l. rs ++ l) all, none, limit, part),
 )
-
--- lines that were handled behind others are no more than were given: none, where those had come to the script's end
-more-given : (mid : Reading) (left place : Known) (given further : List ℕ) (handled more others : List (List ℕ)) → Consumes left place given → IfSome left (λ l. IsUpTo given place handled)
-    → IfSome place (λ l. still mid l ≡ more ++ others) → IsGiven place further more → IsGiven left (given ++ further) (handled ++ more)
-more-given mid None place given further handled more others taken upto parted few = tt
-more-given mid (Some l) None given further handled more others taken upto parted few = absurd taken
-more-given mid (Some l) (Some p) given further handled more others taken (inl all) parted few = omega (arith, given-append given further, all, few, length-append handled more)
-more-given mid (Some l) (Some p) given further handled more others taken (inr (all, end)) parted few =
-    let none = ap (λ (ls : List (List ℕ)). length ls) (sym (still-end mid) ∙ ap (still mid) (sym end) ∙ parted) in
-    omega (arith, given-append given further, all, none, length-append more others, length-append handled more)
 
 -- the moves of the first lines stand at the front
 in-front : (seat : ℕ) (front seen o1 : RegisterHistory) (cs : Calls) → StartsWith front seen → moves_of seat seen ≡ o1 → o1 ≡ moves_at seat cs → StartsWith (moves_of seat front) (moves_at seat cs)
@@ -116,7 +106,7 @@ module _ (number : Option ℕ) (e : DeskEnd) (first : Database) (all front seen 
             of_script = script-both before.read unread middle.read before.left middle.left w.given w.handled r.handled r.others w.consumed w.ahead r.parted;
             all = r.all;
             whole = omega (arith, given-append w.given r.given, w.whole, r.whole, length-append w.handled r.handled);
-            no_more = more-given middle.read before.left middle.left w.given r.given w.handled r.handled r.others w.consumed w.upto r.parted r.no_more;
+            no_more = upto-both middle.read before.left middle.left after.left w.given r.given w.handled r.handled r.others w.consumed r.consumed r.parted w.upto r.no_more;
             early = w.calls;
             late = r.calls;
             early_replies = w.replies;
@@ -127,6 +117,7 @@ module _ (number : Option ℕ) (e : DeskEnd) (first : Database) (all front seen 
             later = subst (λ ls. IsDesk (is_several number) s1 ls r.calls r.replies s2) (sym (ap (λ (ls : List (List ℕ)). drop (length ls) (w.handled ++ r.handled)) front_is ∙ drop-append_seam w.handled r.handled)) r.is_desk;
             entered = refl;
             tail = r.tail;
+            by_end = r.by_end;
             is_tail = tail-both before.read unread number e middle.read before.left middle.left w.given r.tail w.consumed w.limit r.is_tail;
             told = subst (WritesUnless (is_reply_fault e) w0 w2) (sym (append_assoc (desk_text number w.replies) (desk_text number r.replies) r.tail) ∙ ap (λ t. t ++ r.tail) (sym (text-append number w.replies r.replies)))
                 (gives-behind (is_reply_fault e) (desk_text number w.replies) (desk_text number r.replies ++ r.tail) w0 w1 w2 (subst (Appends w0 w1) w.told p.printed) r.told);
@@ -170,6 +161,7 @@ module _ (number : Option ℕ) (e : DeskEnd) (first : Database) (all front seen 
             later = subst (λ ls. IsDesk (is_several number) s1 ls [] [] s1) (sym (ap (λ (ls : List (List ℕ)). drop (length ls) r.handled) front_is ∙ drop-length r.handled)) (desk-none (is_several number) s1);
             entered = sym (append-nil r.calls);
             tail = r.tail;
+            by_end = r.by_end;
             is_tail = tail-one before.read unread number e before.left r.tail r.is_tail;
             told = subst (λ rs. WritesUnless (is_reply_fault e) before.held.written after.held.written (desk_text number rs ++ r.tail)) (sym (append-nil r.replies)) r.told;
             fails_at = λ is. subst (λ rs. FailsAt number rs r.others r.tail before.held.written after.held.written) (sym (append-nil r.replies)) (r.fails_at is);

@@ -1,5 +1,5 @@
 -- A script, line by line.
-use Rattle.std.proofs.Common.{◌≡◌, ◌≤◌, ◌+◌, ◌-◌, nat_le, take, ℕ, Bool, true, false, cond, List, [], ◌∷◌, ◌++◌, length, Option, Some, None, refl, sym, ap, ◌∙◌, subst, append_assoc, append-nil, length-append, arith, inl, inr}
+use Rattle.std.proofs.Common.{◌≡◌, ◌≤◌, ◌+◌, ℕ, Bool, true, false, cond, List, [], ◌∷◌, ◌++◌, length, Option, Some, None, refl, sym, ap, ◌∙◌, subst, append_assoc, append-nil, length-append, arith, inl, inr}
 use Rattle.std.specs.Prelude.{IfSome}
 use Rattle.std.specs.Option.{option_to_list}
 use Rattle.std.specs.Io.KnownBytes.{Appends, Consumes}
@@ -8,94 +8,26 @@ use Rattle.std.proofs.lemmas.Bool.{false≢true}
 use Rattle.std.proofs.lemmas.List.Elements.{All-nil}
 use Rattle.tm_io.specs.Octets.{AppendsPrefix, WritesUnless}
 use Rattle.decode_session.proofs.FinishFacts.{part-longer, part-behind}
-use Rattle.desk_lines.specs.Ahead.{HasNoFeed, Reading, lines_behind, still, meets_limit}
-use Rattle.desk_lines.specs.Gives.{IsTakenFor, TakesPart, NoneComes}
+use Rattle.desk_lines.specs.Ahead.{Reading, still, meets_limit}
+use Rattle.desk_lines.specs.Given.{lines_given}
+use Rattle.desk_lines.specs.Gives.{TakesPart, NoneComes}
+use Rattle.desk_lines.proofs.AheadFacts.{ahead-more, ahead-none, limit-more, limit-none}
+use Rattle.desk_lines.proofs.GivenFacts.{given-append, given-line, given-none, upto-more, upto-none, upto-part}
 use Rattle.live_desk.specs.declared.desk_end.DeskEnd.{DeskEnd}
 use Rattle.live_desk.specs.declared.desk_end.DeskEnd.TheVariants as end
 use Rattle.live_desk.specs.declared.line.Came.TheVariants as came
 use Rattle.live_desk.specs.Lines.{Comes, Fails, HandlesNext, Stops}
 use Rattle.live_desk.specs.DeskEnds.{is_reply_fault, limit_line_at}
 use Rattle.live_desk.specs.Operators.{is_several, seat_of}
-use Rattle.live_desk.specs.Scripts.{Ends, EndsEarly, FailsAt, IsGiven, IsHandled, IsUpTo, Pauses, Working, Works, lines_given, tail_at}
+use Rattle.live_desk.specs.Scripts.{Ends, EndsEarly, FailsAt, IsHandled, IsTail, Pauses, Working, Works, tail_at}
 use Rattle.live_desk.specs.Standing.{Standing}
-use Rattle.live_desk.proofs.LineFacts.{Known, desk-append, desk-none, desk-one, given-append, given-line, given-none, given-whole, moves-append, text-append, text-none}
+use Rattle.live_desk.proofs.LineFacts.{Known, desk-append, desk-none, desk-one, moves-append, text-append, text-none}
 use Rattle.desk.specs.Handling.{moves_at}
 use Rattle.mib_model.specs.Desk.{DeskReply}
 use Rattle.mib_model.specs.DeskLines.{request_of}
 use Rattle.mib_model.specs.DeskRuns.{IsDesk, is_go, prelude}
 use Rattle.mib_model.specs.Lines.{is_feed}
 use Rattle.mib_model.specs.Replies.{desk_text}
-use Rattle.mib_model.specs.Script.{most_lines, most_script}
-use Rattle.std.proofs.lemmas.Bool.{cases_Bool}
-use Rattle.std.proofs.lemmas.List.{take_all}
-
--- ---- lines that are still to come
-
-ahead-none : (r : Reading) (left : Known) → IfSome left (λ l. IfSome left (λ b. still r l ≡ still r b))
-ahead-none r None = tt
-ahead-none r (Some l) = refl
-
-limit-none : (r : Reading) (left : Known) → IfSome left (λ l. IfSome left (λ b. meets_limit r l ≡ meets_limit r b))
-limit-none r None = tt
-limit-none r (Some l) = refl
-
-ahead-more : (was mid now : Reading) (left place behind : Known) (given : List ℕ) (handled : List (List ℕ)) (line : List ℕ) → Consumes left place given → IfSome left (λ l. IfSome place (λ b. still was l ≡ handled ++ still mid b))
-    → IfSome place (λ l. IfSome behind (λ b. still mid l ≡ line ∷ still now b)) → IfSome left (λ l. IfSome behind (λ b. still was l ≡ (handled ++ line ∷ []) ++ still now b))
-ahead-more was mid now None place behind given handled line taken first next = tt
-ahead-more was mid now (Some l) None behind given handled line taken first next = absurd taken
-ahead-more was mid now (Some l) (Some p) None given handled line taken first next = tt
-ahead-more was mid now (Some l) (Some p) (Some b) given handled line taken first next =
-    first ∙ ap (λ ls. handled ++ ls) next ∙ sym (append_assoc handled (line ∷ []) (still now b))
-
-limit-more : (was mid now : Reading) (left place behind : Known) (given : List ℕ) → Consumes left place given → IfSome left (λ l. IfSome place (λ b. meets_limit was l ≡ meets_limit mid b))
-    → IfSome place (λ l. IfSome behind (λ b. meets_limit mid l ≡ meets_limit now b)) → IfSome left (λ l. IfSome behind (λ b. meets_limit was l ≡ meets_limit now b))
-limit-more was mid now None place behind given taken first next = tt
-limit-more was mid now (Some l) None behind given taken first next = absurd taken
-limit-more was mid now (Some l) (Some p) None given taken first next = tt
-limit-more was mid now (Some l) (Some p) (Some b) given taken first next = first ∙ next
-
--- at the end none is still to come
-lines-end : (taken : ℕ) → lines_behind taken [] ≡ []
-lines-end taken = elim (cases_Bool (nat_le most_script (taken + 0))) [
-  | inl filled ↦ rw (filled, take_all {A = ℕ} (most_script - taken) [] (omega arith)) refl
-  | inr not ↦ rw not refl
-]
-
-pub still-end : (r : Reading) → still r [] ≡ []
-unfolding still
-still-end r = ap (take (most_lines - r.lines)) (lines-end r.octets) ∙ take_all {A = List ℕ} (most_lines - r.lines) [] (omega arith)
-
-no-line : (r now : Reading) (place b : List ℕ) (line : List ℕ) → place ≡ [] → still r place ≡ line ∷ still now b → ⊥
-no-line r now place b line end first = let none : [] ≡ line ∷ still now b = sym (still-end r) ∙ ap (still r) (sym end) ∙ first in cc none
-
--- ---- lines that were given
-
-upto-none : (left : Known) → IfSome left (λ l. IsUpTo [] left [])
-upto-none None = tt
-upto-none (Some l) = inl (omega arith)
-
-upto-more : (was now : Reading) (left place behind : Known) (given taken line : List ℕ) (handled : List (List ℕ)) → Consumes left place given → Consumes place behind taken → HasNoFeed line → IsTakenFor line taken behind
-    → IfSome place (λ l. IfSome behind (λ b. still was l ≡ line ∷ still now b)) → IfSome left (λ l. IsUpTo given place handled) → IfSome left (λ l. IsUpTo (given ++ taken) behind (handled ++ line ∷ []))
-upto-more was now None place behind given taken line handled c more none for first upto = tt
-upto-more was now (Some l) None behind given taken line handled c more none for first upto = absurd c
-upto-more was now (Some l) (Some p) None given taken line handled c more none for first upto = absurd more
-upto-more was now (Some l) (Some p) (Some b) given taken line handled c more none for first (inr (few, end)) = absurd (no-line was now p b line end first)
-upto-more was now (Some l) (Some p) (Some b) given taken line handled c more none for first (inl few) = by for
-  where
-    by : IsTakenFor line taken (Some b) → IsUpTo (given ++ taken) (Some b) (handled ++ line ∷ [])
-    by (inl is) = inl (omega (arith, given-append given taken, few, ap lines_given is ∙ given-whole line none, length-append handled (line ∷ [])))
-    by (inr last) = inr (omega (arith, given-append given taken, few, length-append handled (line ∷ [])), last.1)
-
--- what is taken behind the lines gives none
-upto-all : (left place : Known) (given part : List ℕ) (handled : List (List ℕ)) → IfSome left (λ l. IsUpTo given place handled) → IsGiven left (given ++ part) handled
-upto-all None place given part handled upto = tt
-upto-all (Some l) place given part handled (inl few) = omega (arith, given-append given part, few)
-upto-all (Some l) place given part handled (inr (few, end)) = omega (arith, given-append given part, few)
-
-upto-same : (left place : Known) (given : List ℕ) (handled : List (List ℕ)) → IfSome left (λ l. IsUpTo given place handled) → IsGiven left given handled
-upto-same None place given handled upto = tt
-upto-same (Some l) place given handled (inl few) = omega (arith, few)
-upto-same (Some l) place given handled (inr (few, end)) = few
 
 -- ---- lines that were handled
 
@@ -138,7 +70,7 @@ module _ (number : Option ℕ) (failed go : Bool) (before middle after : Standin
           given = w.given ++ h.takes.taken;
           consumed = Consumes-trans before.left middle.left after.left w.given h.takes.taken w.consumed h.takes.consumed;
           whole = omega (arith, given-append w.given h.takes.taken, w.whole, given-line h.line h.takes.taken after.left h.takes.no_feed h.takes.is_taken, length-append w.handled (h.line ∷ []));
-          upto = upto-more middle.read after.read before.left middle.left after.left w.given h.takes.taken h.line w.handled w.consumed h.takes.consumed h.takes.no_feed h.takes.is_taken h.takes.first w.upto;
+          upto = upto-more middle.read after.read before.left middle.left after.left w.given h.line w.handled w.consumed h.takes w.upto;
           ahead = ahead-more before.read middle.read after.read before.left middle.left after.left w.given w.handled h.line w.consumed w.ahead h.takes.first;
           limit = limit-more before.read middle.read after.read before.left middle.left after.left w.given w.consumed w.limit h.takes.limit;
           told = ap (λ t. t ++ reply_of number h.replied.given) w.told ∙ sym (text-append number w.replies replies);
@@ -168,6 +100,16 @@ tail-is : (number : Option ℕ) (e : DeskEnd) (r : Reading) (left : Known) → I
 unfolding tail_for
 tail-is number e r None = tt
 tail-is number e r (Some l) = refl
+
+-- behind a fault of the replies
+either-tail : (number : Option ℕ) (limit : Bool) → IsTail number end.ReplyFault (tail_at number end.ReplyFault limit)
+either-tail number true = inr refl
+either-tail number false = inl refl
+
+fault-tail : (number : Option ℕ) (r : Reading) (left : Known) → IsTail number end.ReplyFault (tail_for number end.ReplyFault r left)
+unfolding tail_for
+fault-tail number r None = inl refl
+fault-tail number r (Some l) = either-tail number (meets_limit r l)
 
 parted-ahead : (was now : Reading) (left behind : Known) (given : List ℕ) (handled : List (List ℕ)) → Consumes left behind given → IfSome left (λ l. IfSome behind (λ b. still was l ≡ handled ++ still now b)) → IfSome left (λ l. still was l ≡ handled ++ others_of now behind)
 unfolding others_of
@@ -223,9 +165,9 @@ module _ (number : Option ℕ) (before middle after : Standing) (text : List ℕ
   whole-part p = omega (arith, given-append w.given p.part, given-none p.part p.no_feed, w.whole)
 
   -- none is to come
-  stops : (e : DeskEnd) (failed limit : Bool) (tail : List ℕ) → IsHandled e [] → (s : Stops failed limit tail middle after) → WritesUnless (is_reply_fault e) w0 w2 (desk_text number w.replies ++ tail_at number e limit)
+  stops : (e : DeskEnd) (failed limit : Bool) (tail : List ℕ) → IsHandled e [] → IsTail number e (tail_at number e limit) → (s : Stops failed limit tail middle after) → WritesUnless (is_reply_fault e) w0 w2 (desk_text number w.replies ++ tail_at number e limit)
       → (is_reply_fault e ≡ true → FailsAt number w.replies [] (tail_at number e limit) w0 w2) → Ended-as e w.handled
-  stops e failed limit tail all s told fails = (
+  stops e failed limit tail all by s told fails = (
     record {
       handled = w.handled;
       others = [];
@@ -236,10 +178,11 @@ module _ (number : Option ℕ) (before middle after : Standing) (text : List ℕ
       given = w.given ++ s.takes.part;
       consumed = taken-part s.takes;
       whole = whole-part s.takes;
-      no_more = upto-all before.left middle.left w.given s.takes.part w.handled w.upto;
+      no_more = upto-part before.left middle.left after.left w.given s.takes.part w.handled w.consumed s.takes.consumed w.upto;
       parted = parted-none before.read middle.read before.left middle.left w.given w.handled limit w.consumed w.ahead s.none;
       all = all;
       tail = tail_at number e limit;
+      by_end = by;
       is_tail = tail-known number e before.read before.left limit (limit-known before.read middle.read before.left middle.left w.given limit w.consumed w.limit s.none);
       told = told;
       fails_at = fails;
@@ -248,13 +191,13 @@ module _ (number : Option ℕ) (before middle after : Standing) (text : List ℕ
   )
 
   ends-done : Stops false false [] middle after → Ended-as end.Done w.handled
-  ends-done s = stops end.Done false false [] refl s (Appends-trans w0 w1 w2 (desk_text number w.replies) [] wrote s.told) (λ is. absurd (false≢true is))
+  ends-done s = stops end.Done false false [] refl refl s (Appends-trans w0 w1 w2 (desk_text number w.replies) [] wrote s.told) (λ is. absurd (false≢true is))
 
   ends-limit : Stops false true (limit_line_at number) middle after → Ended-as end.Limit w.handled
-  ends-limit s = stops end.Limit false true (limit_line_at number) refl s (Appends-trans w0 w1 w2 (desk_text number w.replies) (limit_line_at number) wrote s.told) (λ is. absurd (false≢true is))
+  ends-limit s = stops end.Limit false true (limit_line_at number) refl refl s (Appends-trans w0 w1 w2 (desk_text number w.replies) (limit_line_at number) wrote s.told) (λ is. absurd (false≢true is))
 
   ends-unlimited : Stops true true (limit_line_at number) middle after → Ended-as end.ReplyFault w.handled
-  ends-unlimited s = stops end.ReplyFault true true (limit_line_at number) tt s (part-behind (desk_text number w.replies) (limit_line_at number) w0 w1 w2 wrote s.told)
+  ends-unlimited s = stops end.ReplyFault true true (limit_line_at number) tt (inr refl) s (part-behind (desk_text number w.replies) (limit_line_at number) w0 w1 w2 wrote s.told)
       (λ is. (w.replies, [], w1, wrote, inr (refl, refl, refl, s.told)))
 
   -- the desk failed
@@ -270,10 +213,11 @@ module _ (number : Option ℕ) (before middle after : Standing) (text : List ℕ
       given = w.given ++ f.takes.part;
       consumed = taken-part f.takes;
       whole = whole-part f.takes;
-      no_more = upto-all before.left middle.left w.given f.takes.part w.handled w.upto;
+      no_more = upto-part before.left middle.left after.left w.given f.takes.part w.handled w.consumed f.takes.consumed w.upto;
       parted = parted-ahead before.read middle.read before.left middle.left w.given w.handled w.consumed w.ahead;
       all = tt;
       tail = [];
+      by_end = refl;
       is_tail = no-tail before.left;
       told = subst (Appends w0 w2) (sym (append-nil (desk_text number w.replies))) (subst (λ t. Appends w0 t (desk_text number w.replies)) (sym f.told) wrote);
       fails_at = λ is. absurd (false≢true is);
@@ -299,10 +243,11 @@ module _ (number : Option ℕ) (before middle after : Standing) (text : List ℕ
           given = m.given;
           consumed = m.consumed;
           whole = m.whole;
-          no_more = upto-same before.left after.left m.given m.handled m.upto;
+          no_more = m.upto;
           parted = parted-ahead before.read after.read before.left after.left m.given m.handled m.consumed m.ahead;
           all = tt;
           tail = tail;
+          by_end = fault-tail number before.read before.left;
           is_tail = tail-is number end.ReplyFault before.read before.left;
           told = part-longer (desk_text number m.replies) tail w0 w2 (subst (AppendsPrefix w0 w2) m.told (part-behind text (reply_of number h.replied.given) w0 w1 w2 printed h.replied.told));
           fails_at = λ is. (w.replies, option_to_list h.replied.given, w1, wrote, inl (both.2, one-reply h.replied.given, h.replied.told));

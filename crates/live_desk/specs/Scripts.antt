@@ -1,8 +1,9 @@
 -- What a desk does with its script. [This profile.]
-use Rattle.std.specs.Prelude.{◌≡◌, ◌⊎◌, ℕ, ◌≤◌, ◌+◌, Bool, true, false, List, [], ◌++◌, length, drop, Option, Some, None, IfSome, ⊤, if◌then◌else◌}
-use Rattle.std.specs.Io.KnownBytes.{Appends, Consumes, IsAtEnd}
+use Rattle.std.specs.Prelude.{◌≡◌, ◌⊎◌, ℕ, ◌≤◌, Bool, true, false, List, [], ◌++◌, length, drop, Option, Some, None, IfSome, ⊤, if◌then◌else◌}
+use Rattle.std.specs.Io.KnownBytes.{Appends, Consumes}
 use Rattle.tm_io.specs.Octets.{AppendsPrefix, WritesUnless}
 use Rattle.desk_lines.specs.Ahead.{still, meets_limit}
+use Rattle.desk_lines.specs.Given.{IsUpTo, lines_given}
 use Rattle.desk.specs.Handling.{moves_at}
 use Rattle.histories.specs.History.{StartsWith, moves_of}
 use Rattle.tm_io.specs.Causes.{RisesWhere}
@@ -16,19 +17,7 @@ use Rattle.mib_model.specs.Desk.{DeskReply, DeskState, desk_start}
 use Rattle.mib_model.specs.DeskRuns.{Calls, IsDesk, prelude}
 use Rattle.mib_model.specs.RegisterHistories.{RegisterHistory}
 use Rattle.mib_model.specs.Replies.{desk_text}
-use Rattle.mib_model.specs.Script.{script, whole_pieces, reaches_limit}
-
--- how many lines end among octets, by their LF
-abbrev pub lines_given : List ℕ → ℕ
-lines_given octets = length (whole_pieces octets)
-
--- no more lines were handled than were given, but for one at the script's end that no LF ends
-abbrev pub IsUpTo : List ℕ → Option (List ℕ) → List (List ℕ) → Type 0
-IsUpTo given behind handled = (length handled ≤ lines_given given) ⊎ ((length handled ≤ lines_given given + 1) × IsAtEnd behind)
-
--- of a script that tells its octets no more lines are handled than were given, but for one at its end that no LF ends
-abbrev pub IsGiven : Option (List ℕ) → List ℕ → List (List ℕ) → Type 0
-IsGiven left given handled = IfSome left (λ octets. length handled ≤ lines_given given + 1)
+use Rattle.mib_model.specs.Script.{script, reaches_limit}
 
 -- ---- lines of a script
 
@@ -58,6 +47,13 @@ IsHandled end.ReplyFault others = ⊤
 abbrev pub tail_at : Option ℕ → DeskEnd → Bool → List ℕ
 tail_at number e limit = if is_desk_fault e then [] else if limit then limit_line_at number else []
 
+-- what may stand behind the replies, by the end alone
+abbrev pub IsTail : Option ℕ → DeskEnd → List ℕ → Type 0
+IsTail number end.Done tail = tail ≡ []
+IsTail number end.Limit tail = tail ≡ limit_line_at number
+IsTail number end.DeskFault tail = tail ≡ []
+IsTail number end.ReplyFault tail = (tail ≡ []) ⊎ (tail ≡ limit_line_at number)
+
 -- the replies failed: all before the last were written, and a first part of the last; or all were written, no line was left, and a first
 -- part of the limit's line
 abbrev pub FailsAt : Option ℕ → List DeskReply → List (List ℕ) → List ℕ → Option (List ℕ) → Option (List ℕ) → Type 0
@@ -77,10 +73,11 @@ pub record Ends (number : Option ℕ) (e : DeskEnd) (before after : Standing) : 
   pub given : List ℕ
   pub consumed : Consumes before.left after.left given
   pub whole : lines_given given ≤ length handled
-  pub no_more : IsGiven before.left given handled
+  pub no_more : IfSome before.left (λ l. IsUpTo given after.left handled)
   pub parted : IfSome before.left (λ l. still before.read l ≡ handled ++ others)
   pub all : IsHandled e others
   pub tail : List ℕ
+  pub by_end : IsTail number e tail
   pub is_tail : IfSome before.left (λ l. tail ≡ tail_at number e (meets_limit before.read l))
   pub told : WritesUnless (is_reply_fault e) before.held.written after.held.written (desk_text number replies ++ tail)
   pub fails_at : is_reply_fault e ≡ true → FailsAt number replies others tail before.held.written after.held.written
@@ -136,7 +133,7 @@ pub record DeskedAt (number : Option ℕ) (e : DeskEnd) (first : Database) (entr
   pub taken : Consumes left behind given
   pub handled : List (List ℕ)
   pub others : List (List ℕ)
-  pub no_more : IsGiven left given handled
+  pub no_more : IfSome left (λ octets. IsUpTo given behind handled)
   pub of_script : IfSome left (λ octets. script octets ≡ handled ++ others)
   pub all : IsHandled e others
   pub whole : lines_given given ≤ length handled
@@ -150,6 +147,7 @@ pub record DeskedAt (number : Option ℕ) (e : DeskEnd) (first : Database) (entr
   pub later : IsDesk (is_several number) middle (drop (length (prelude (is_several number) handled)) handled) late late_replies last
   pub entered : entries ≡ early ++ late
   pub tail : List ℕ
+  pub by_end : IsTail number e tail
   pub is_tail : IfSome left (λ octets. tail ≡ tail_at number e (reaches_limit octets))
   pub told : WritesUnless (is_reply_fault e) old new (desk_text number (early_replies ++ late_replies) ++ tail)
   pub fails_at : is_reply_fault e ≡ true → FailsAt number (early_replies ++ late_replies) others tail old new

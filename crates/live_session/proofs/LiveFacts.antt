@@ -53,6 +53,7 @@ desked-on e first entries seen all left behind w0 w1 on d = record {
   later = d.later;
   entered = d.entered;
   tail = d.tail;
+  by_end = d.by_end;
   is_tail = d.is_tail;
   told = d.told;
   fails_at = d.fails_at;

@@ -11,7 +11,9 @@ use Rattle.tm_io.specs.Octets.{AppendsPrefix, WritesUnless}
 use Rattle.build_rules.specs.declared.fault.BuildFault.{BuildFault}
 use Rattle.build_rules.specs.Asks.{Answered, answer_to, answered, asked_in, behind_answer}
 use Rattle.desk_lines.specs.Ahead.{Reading, meets_limit, reading_start, still}
-use Rattle.desk_lines.proofs.AheadFacts.{limit-start, still-start}
+use Rattle.desk_lines.proofs.AheadFacts.{ahead-more, ahead-none, limit-more, limit-none, limit-start, still-start}
+use Rattle.desk_lines.proofs.GivenFacts.{given-append, given-line, given-none, upto-more, upto-none, upto-part}
+use Rattle.desk_lines.specs.Given.{IsUpTo, lines_given}
 use Rattle.desk_lines.specs.Gives.{NoneComes, TakesLine, TakesPart}
 use Rattle.mib_model.specs.declared.database.Database.{Database}
 use Rattle.mib_model.specs.DeskLines.{is_comment}
@@ -20,7 +22,6 @@ use Rattle.mib_model.specs.Script.{reaches_limit, script}
 use Rattle.mibtm_build.specs.declared.code.BuildCode.{BuildCode}
 use Rattle.mibtm_build.specs.declared.code.BuildCode.TheVariants as code
 use Rattle.mibtm_build.specs.Runs.{AreAll, AreAnswered, Comes, ComesTo, Fails, Goes, HandlesNext, IsEnd, Ran, Standing, Stops, is_out_fault, unanswered}
-use Rattle.mibtm_build.proofs.GivenFacts.{count, count-append, count-line, count-none}
 
 abbrev pub Known : Type 0
 Known = Option (List ℕ)
@@ -59,30 +60,6 @@ answered-more db place lines line packets octets (Some fault) are comes =
     answered-parts db place lines (line ∷ []) ∙ rw (are, comes (place + length lines)) refl
 
 -- ---- what is still to come
-
-ahead-none : (r : Reading) (left : Known) → IfSome left (λ l. IfSome left (λ b. still r l ≡ still r b))
-ahead-none r None = tt
-ahead-none r (Some l) = refl
-
-limit-none : (r : Reading) (left : Known) → IfSome left (λ l. IfSome left (λ b. meets_limit r l ≡ meets_limit r b))
-limit-none r None = tt
-limit-none r (Some l) = refl
-
-ahead-more : (was mid now : Reading) (left place behind : Known) (given : List ℕ) (lines : List (List ℕ)) (line : List ℕ) → Consumes left place given
-    → IfSome left (λ l. IfSome place (λ b. still was l ≡ lines ++ still mid b)) → IfSome place (λ l. IfSome behind (λ b. still mid l ≡ line ∷ still now b))
-    → IfSome left (λ l. IfSome behind (λ b. still was l ≡ (lines ++ line ∷ []) ++ still now b))
-ahead-more was mid now None place behind given lines line taken first next = tt
-ahead-more was mid now (Some l) None behind given lines line taken first next = absurd taken
-ahead-more was mid now (Some l) (Some p) None given lines line taken first next = tt
-ahead-more was mid now (Some l) (Some p) (Some b) given lines line taken first next =
-    first ∙ ap (λ ls. lines ++ ls) next ∙ sym (append_assoc lines (line ∷ []) (still now b))
-
-limit-more : (was mid now : Reading) (left place behind : Known) (given : List ℕ) → Consumes left place given → IfSome left (λ l. IfSome place (λ b. meets_limit was l ≡ meets_limit mid b))
-    → IfSome place (λ l. IfSome behind (λ b. meets_limit mid l ≡ meets_limit now b)) → IfSome left (λ l. IfSome behind (λ b. meets_limit was l ≡ meets_limit now b))
-limit-more was mid now None place behind given taken first next = tt
-limit-more was mid now (Some l) None behind given taken first next = absurd taken
-limit-more was mid now (Some l) (Some p) None given taken first next = tt
-limit-more was mid now (Some l) (Some p) (Some b) given taken first next = first ∙ next
 
 -- the lines of a script, and those of them that are still to come
 parted : (left place : Known) (mid : Reading) (given : List ℕ) (lines : List (List ℕ)) → Consumes left place given
@@ -126,7 +103,8 @@ goes-start db s = record {
   counted = omega arith;
   given = [];
   consumed = Consumes-nil s.left;
-  whole = let none = count-none [] (All-nil (λ octet. is_feed octet ≡ false)) in omega (arith, none);
+  whole = let none = given-none [] (All-nil (λ octet. is_feed octet ≡ false)) in omega (arith, none);
+  upto = upto-none s.left;
   ahead = ahead-none s.read s.left;
   limit = limit-none s.read s.left;
   printed = Appends-nil s.written;
@@ -136,8 +114,8 @@ module _ (db : Database) (before middle after : Standing) (g : Goes db before mi
   line-place : (came : Option BuildCode) (h : HandlesNext came db middle after) → middle.read.lines + 1 ≡ before.read.lines + 1 + length g.lines
   line-place came h = omega (arith, g.counted)
 
-  whole-more : (line taken : List ℕ) → count taken ≤ 1 → count (g.given ++ taken) ≤ length (g.lines ++ line ∷ [])
-  whole-more line taken one = omega (arith, count-append g.given taken, g.whole, one, length-append g.lines (line ∷ []))
+  whole-more : (line taken : List ℕ) → lines_given taken ≤ 1 → lines_given (g.given ++ taken) ≤ length (g.lines ++ line ∷ [])
+  whole-more line taken one = omega (arith, given-append g.given taken, g.whole, one, length-append g.lines (line ∷ []))
 
   pub goes-more : HandlesNext None db middle after → Goes db before after
   goes-more h =
@@ -149,7 +127,8 @@ module _ (db : Database) (before middle after : Standing) (g : Goes db before mi
         counted = let now : after.read.lines ≡ middle.read.lines + 1 = ap (λ (r : Reading). r.lines) t.counted in omega (arith, now, g.counted, length-append g.lines (h.line ∷ []));
         given = g.given ++ t.taken;
         consumed = Consumes-trans before.left middle.left after.left g.given t.taken g.consumed t.consumed;
-        whole = whole-more h.line t.taken (count-line h.line t.taken after.left t.no_feed t.is_taken);
+        whole = whole-more h.line t.taken (given-line h.line t.taken after.left t.no_feed t.is_taken);
+        upto = upto-more middle.read after.read before.left middle.left after.left g.given h.line g.lines g.consumed t g.upto;
         ahead = ahead-more before.read middle.read after.read before.left middle.left after.left g.given g.lines h.line g.consumed g.ahead t.first;
         limit = limit-more before.read middle.read after.read before.left middle.left after.left g.given g.consumed g.limit t.limit;
         printed = Appends-trans before.written middle.written after.written g.packets octets g.printed printed;
@@ -180,8 +159,11 @@ module _ (db : Database) (before middle after : Standing) (g : Goes db before mi
   part-taken : (p : TakesPart middle.read after.read middle.left after.left) → Consumes before.left after.left (g.given ++ p.part)
   part-taken p = Consumes-trans before.left middle.left after.left g.given p.part g.consumed p.consumed
 
-  part-whole : (p : TakesPart middle.read after.read middle.left after.left) → count (g.given ++ p.part) ≤ length g.lines + 0
-  part-whole p = omega (arith, count-append g.given p.part, count-none p.part p.no_feed, g.whole)
+  part-whole : (p : TakesPart middle.read after.read middle.left after.left) → lines_given (g.given ++ p.part) ≤ length g.lines + 0
+  part-whole p = omega (arith, given-append g.given p.part, given-none p.part p.no_feed, g.whole)
+
+  part-upto : (p : TakesPart middle.read after.read middle.left after.left) → IfSome before.left (λ l. IsUpTo (g.given ++ p.part) after.left g.lines)
+  part-upto p = upto-part before.left middle.left after.left g.given p.part g.lines g.consumed p.consumed g.upto
 
   -- no line is left
   stops : (limit : Bool) (c : BuildCode) → IsEnd c → is_out_fault c ≡ false → unanswered c ≡ 0 → ((came : Answered) → came.1 ≡ None → AreAnswered c came)
@@ -194,7 +176,8 @@ module _ (db : Database) (before middle after : Standing) (g : Goes db before mi
     all = all (limit-told limit before.left middle.left middle.read g.given g.consumed s.none limit-from-start);
     given = g.given ++ s.takes.part;
     consumed = part-taken s.takes;
-    whole = subst (λ (n : ℕ). count (g.given ++ s.takes.part) ≤ length g.lines + n) (sym all_answered) (part-whole s.takes);
+    whole = subst (λ (n : ℕ). lines_given (g.given ++ s.takes.part) ≤ length g.lines + n) (sym all_answered) (part-whole s.takes);
+    no_more = part-upto s.takes;
     answers = answers (answered db 1 g.lines) no-refusal;
     printed = subst (λ (b : Bool). WritesUnless b before.written after.written (answered db 1 g.lines).0) (sym no_fault) (prints s.same);
   }
@@ -210,6 +193,7 @@ module _ (db : Database) (before middle after : Standing) (g : Goes db before mi
         given = g.given ++ f.takes.part;
         consumed = part-taken f.takes;
         whole = part-whole f.takes;
+        no_more = part-upto f.takes;
         answers = no-refusal;
         printed = prints f.same;
       }
@@ -220,8 +204,11 @@ module _ (db : Database) (before middle after : Standing) (g : Goes db before mi
       parted before.left after.left after.read (g.given ++ t.taken) (g.lines ++ line ∷ []) (Consumes-trans before.left middle.left after.left g.given t.taken g.consumed t.consumed)
       (ahead-more reading_start middle.read after.read before.left middle.left after.left g.given g.lines line g.consumed from-start t.first)
 
-  line-given : (line : List ℕ) (t : TakesLine middle.read after.read middle.left after.left line) → count (g.given ++ t.taken) ≤ length g.lines + 1
-  line-given line t = omega (arith, count-append g.given t.taken, count-line line t.taken after.left t.no_feed t.is_taken, g.whole)
+  line-given : (line : List ℕ) (t : TakesLine middle.read after.read middle.left after.left line) → lines_given (g.given ++ t.taken) ≤ length g.lines + 1
+  line-given line t = omega (arith, given-append g.given t.taken, given-line line t.taken after.left t.no_feed t.is_taken, g.whole)
+
+  line-upto : (line : List ℕ) (t : TakesLine middle.read after.read middle.left after.left line) → IfSome before.left (λ l. IsUpTo (g.given ++ t.taken) after.left (g.lines ++ line ∷ []))
+  line-upto line t = upto-more middle.read after.read before.left middle.left after.left g.given line g.lines g.consumed t g.upto
 
   refused : (place : ℕ) (fault : BuildFault) → HandlesNext (Some (code.Refused place fault)) db middle after → Ran (code.Refused place fault) db before.left after.left before.written after.written
   refused place fault h =
@@ -238,6 +225,7 @@ module _ (db : Database) (before middle after : Standing) (g : Goes db before mi
         given = g.given ++ t.taken;
         consumed = Consumes-trans before.left middle.left after.left g.given t.taken g.consumed t.consumed;
         whole = omega (arith, line-given h.line t, length-append g.lines (h.line ∷ []));
+        no_more = line-upto h.line t;
         answers = ap (λ (a : Answered). a.1) all ∙ ap (λ (n : ℕ). Some (n, fault)) number;
         printed = subst (λ (w : Known). Appends before.written w (answered db 1 (g.lines ++ h.line ∷ [])).0) (sym same)
             (subst (Appends before.written middle.written) (sym (ap (λ (a : Answered). a.0) all ∙ append-nil g.packets)) g.printed);
@@ -258,6 +246,7 @@ module _ (db : Database) (before middle after : Standing) (g : Goes db before mi
         given = g.given ++ t.taken;
         consumed = Consumes-trans before.left middle.left after.left g.given t.taken g.consumed t.consumed;
         whole = omega (arith, line-given h.line t, length-append g.lines (h.line ∷ []));
+        no_more = line-upto h.line t;
         answers = tt;
         printed = subst (AppendsPrefix before.written after.written) (sym (ap (λ (a : Answered). a.0) all)) (part-behind g.packets octets before.written middle.written after.written g.printed part);
       }
@@ -274,6 +263,7 @@ module _ (db : Database) (before middle after : Standing) (g : Goes db before mi
         given = g.given ++ t.taken;
         consumed = Consumes-trans before.left middle.left after.left g.given t.taken g.consumed t.consumed;
         whole = line-given h.line t;
+        no_more = upto-part before.left middle.left after.left g.given t.taken g.lines g.consumed t.consumed g.upto;
         answers = no-refusal;
         printed = prints h.handles;
       }
@@ -326,6 +316,7 @@ ran-broken c db left behind old new r = record {
   given = r.given;
   consumed = r.consumed;
   whole = omega (arith, r.whole, few-more c);
+  no_more = r.no_more;
   answers = tt;
   printed = part-of (is_out_fault c) (answered db 1 r.lines).0 old new r.printed;
 }

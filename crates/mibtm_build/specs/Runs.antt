@@ -4,9 +4,10 @@ use Rattle.std.specs.Io.KnownBytes.{Appends, Consumes}
 use Rattle.tm_io.specs.Causes.{RisesWhere}
 use Rattle.tm_io.specs.Octets.{AppendsPrefix, WritesUnless}
 use Rattle.mib_model.specs.declared.database.Database.{Database}
-use Rattle.mib_model.specs.Script.{script, reaches_limit, whole_pieces}
+use Rattle.mib_model.specs.Script.{script, reaches_limit}
 use Rattle.desk_lines.specs.declared.reader.DeskReader.{DeskReader}
 use Rattle.desk_lines.specs.Ahead.{Reading, still, meets_limit}
+use Rattle.desk_lines.specs.Given.{IsUpTo, lines_given}
 use Rattle.desk_lines.specs.Gives.{TakesLine, TakesPart, NoneComes}
 use Rattle.desk_lines.specs.Reader.{reading_of, source_of}
 use Rattle.build_rules.specs.declared.fault.BuildFault.{BuildFault}
@@ -93,7 +94,8 @@ pub record Goes (db : Database) (before after : Standing) : Type 0 where
   pub counted : after.read.lines ≡ before.read.lines + length lines
   pub given : List ℕ
   pub consumed : Consumes before.left after.left given
-  pub whole : length (whole_pieces given) ≤ length lines
+  pub whole : lines_given given ≤ length lines
+  pub upto : IfSome before.left (λ l. IsUpTo given after.left lines)
   pub ahead : IfSome before.left (λ l. IfSome after.left (λ b. still before.read l ≡ lines ++ still after.read b))
   pub limit : IfSome before.left (λ l. IfSome after.left (λ b. meets_limit before.read l ≡ meets_limit after.read b))
   pub printed : Appends before.written after.written packets
@@ -136,6 +138,7 @@ pub record Ran (c : BuildCode) (db : Database) (left behind old new : Option (Li
   pub all : AreAll c others left
   pub given : List ℕ
   pub consumed : Consumes left behind given
-  pub whole : length (whole_pieces given) ≤ length lines + unanswered c
+  pub whole : lines_given given ≤ length lines + unanswered c
+  pub no_more : IfSome left (λ octets. IsUpTo given behind lines)
   pub answers : AreAnswered c (answered db 1 lines)
   pub printed : WritesUnless (is_out_fault c) old new (answered db 1 lines).0
