@@ -4,7 +4,7 @@ ghost use Rattle.std.specs.List.{All, position};
 ghost use Rattle.std.specs.Option.{option_copied};
 ghost use Rattle.std.specs.Str.{bytes_eq};
 ghost use Rattle.fold_state.specs.Boards.{plan_names};
-ghost use Rattle.fold_state.specs.Demands.{AreAsked, AreDemandsOf, demand_at};
+ghost use Rattle.fold_state.specs.Demands.{AreAsked, AreDemandsOf, AreNoted};
 ghost use Rattle.fold_state.specs.Entering.{entered_at};
 ghost use Rattle.fold_state.specs.Premises.{IsParamsOf, IsRaw};
 ghost use Rattle.fold_state.specs.Sketches.{IsShown, behind, finished_lines};
@@ -18,8 +18,9 @@ ghost use Rattle.mib_model.specs.Texts.{ended_text, head_text};
 ghost use Rattle.record_text.specs.declared.lines.TheConstants.{BEGIN_ROOM, HEAD_ROOM, NOTE_ROOM, VALUE_ROOM};
 ghost use Rattle.record_text.specs.ValueParts.{begin_text};
 
+use crate::noted::{draw_noted, is_asked};
 use crate::sheet::{SEATS_MOST, Sheet};
-use fold_state::{Demand, Mark, Places, Seen, draw_at, is_raw};
+use fold_state::{Demand, Mark, Places, Seen, is_raw};
 use mib_model::{Ended, Value};
 use param_plan::Params;
 use record_text::{begin_value, ended_line, head_line};
@@ -33,14 +34,6 @@ fn seat_of(place: Option<usize>) -> u32
         Some(at) => u32::try_from(at).unwrap_or(0),
         None => 0,
     }
-}
-
-// Whether the raw number of the name at a place is asked: where it is noted, and where nothing is.
-#[inline(always)]
-fn is_asked(demands: &[Demand], at: usize) -> bool
-    ensures { result ≡ (demand_at demands.now at).asked }
-{
-    at >= demands.len() || demands[at].asked
 }
 
 impl Sheet {
@@ -83,20 +76,21 @@ impl Sheet {
     fn add_line(
         &mut self,
         params: &Params,
+        demands: &[Demand],
         place: Option<usize>,
         value: &Value,
         packet: &[u8],
     ) -> Mark
         requires inside { is_inside packet.now value.now.at value.now.shape.width ≡ true }
         requires room { self.old.size + VALUE_ROOM ≤ SHEET_ROOM }
-        ensures shown { (db : Database) → IsParamsOf db params.now → IsRaw value.now
+        ensures shown { (asked : List ℕ → Bool) (db : Database) → IsParamsOf db params.now → AreNoted asked params.now demands.now → IsRaw value.now
             → place ≡ position (λ slice. bytes_eq slice.pcf.name value.now.name) params.now
             → IsShown db packet.now value.now (result, behind self.old.tail self.new.tail) }
         ensures text { self.new ≡ with_text self.old (behind self.old.tail self.new.tail) }
         ensures open { result ≡ Mark.Open → self.new ≡ self.old }
         ensures room { self.new.size ≤ self.old.size + VALUE_ROOM }
     {
-        draw_at(params, place, value, packet, &mut self.text)
+        draw_noted(params, demands, place, value, packet, &mut self.text)
     }
 
     // A value stands behind it now whose line goes on by what is kept.
@@ -120,18 +114,25 @@ impl Sheet {
 
     // The lines of a value whose plan has a place among the plans stand behind it now, as far as they don't depend on what is kept.
     #[inline(always)]
-    fn add_value(&mut self, params: &Params, place: Option<usize>, value: &Value, packet: &[u8])
+    fn add_value(
+        &mut self,
+        params: &Params,
+        demands: &[Demand],
+        place: Option<usize>,
+        value: &Value,
+        packet: &[u8],
+    )
         requires inside { is_inside packet.now value.now.at value.now.shape.width ≡ true }
         requires few { length params.now ≤ SEATS_MOST }
         requires text { self.old.size + VALUE_ROOM ≤ SHEET_ROOM }
         requires events { length self.old.runs < EVENT_ROOM }
-        ensures added { (db : Database) → IsParamsOf db params.now → IsRaw value.now → HasPlan params.now value.now.name
-            → place ≡ position (λ slice. bytes_eq slice.pcf.name value.now.name) params.now
+        ensures added { (asked : List ℕ → Bool) (db : Database) → IsParamsOf db params.now → AreNoted asked params.now demands.now → IsRaw value.now
+            → HasPlan params.now value.now.name → place ≡ position (λ slice. bytes_eq slice.pcf.name value.now.name) params.now
             → Adds db (plan_names params.now) self.old self.new (λ memory. finished_lines db packet.now memory value.now) }
         ensures size { self.new.size ≤ self.old.size + VALUE_ROOM }
         ensures events { length self.new.runs ≤ length self.old.runs + 1 }
     {
-        match self.add_line(params, place, value, packet) {
+        match self.add_line(params, demands, place, value, packet) {
             Mark::Told => {}
             Mark::Nominal(number) => self.calm(seat_of(place), number),
             Mark::Open => self.add_open(seat_of(place), value, packet),
@@ -197,6 +198,7 @@ impl Sheet {
         &mut self,
         places: &mut Places,
         params: &Params,
+        demands: &[Demand],
         first: usize,
         packet: &[u8],
         values: &[Value],
@@ -205,7 +207,8 @@ impl Sheet {
         requires few { length params.now ≤ SEATS_MOST }
         requires text { self.old.size + length values.now * VALUE_ROOM ≤ SHEET_ROOM }
         requires events { length self.old.runs + length values.now ≤ EVENT_ROOM }
-        ensures added { (db : Database) → IsParamsOf db params.now → All IsRaw values.now → All (λ v. HasPlan params.now v.name) values.now
+        ensures added { (asked : List ℕ → Bool) (db : Database) → IsParamsOf db params.now → AreNoted asked params.now demands.now
+            → All IsRaw values.now → All (λ v. HasPlan params.now v.name) values.now
             → Adds db (plan_names params.now) self.old self.new (values_played db packet.now values.now) }
         ensures size { self.new.size ≤ self.old.size + length values.now * VALUE_ROOM }
     {
@@ -213,7 +216,7 @@ impl Sheet {
             let value = &values[k];
             let near = first.saturating_add(k);
             let place = places.place(params, near, &value.name);
-            self.add_value(params, place, value, packet);
+            self.add_value(params, demands, place, value, packet);
         }
     }
 
@@ -241,7 +244,7 @@ impl Sheet {
         self.add_head(seen);
         let first = places.begin(params, seen.found, values.len());
         self.enter_all(places, params, demands, first, values);
-        self.add_all(places, params, first, seen.packet, values);
+        self.add_all(places, params, demands, first, seen.packet, values);
         self.add_end(seen.ended);
         true
     }
