@@ -19,4 +19,4 @@ pub returns-then-is_plain-clause-added : goal.returns-then-is_plain-clause-added
 returns-then-is_plain-clause-added c = behind-added c.args.out.now c.plain_line.new.out _ c.plain_line.ensures.text
 
 pub returns-clause-shown : goal.returns-clause-shown
-returns-clause-shown c = λ asked db plans noted raw place. c.draw_at.ensures.shown db plans raw place
+returns-clause-shown c = λ asked db plans noted raw place. c.draw_at.ensures.shown db plans raw (sym c.in-Some.is ∙ place)
