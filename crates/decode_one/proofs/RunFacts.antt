@@ -1,5 +1,5 @@
 -- The records of packets of one edition, and the interpreter's run.
-use Rattle.std.proofs.Common.{◌≡◌, ◌∙◌, ℕ, suc, Bool, true, cond, ◌==◌, List, [], ◌∷◌, ◌++◌, Option, Some, None, All, refl, ap, arith, sym}
+use Rattle.std.proofs.Common.{◌≡◌, ◌∙◌, ℕ, suc, true, cond, ◌==◌, List, [], ◌∷◌, ◌++◌, Option, Some, None, All, refl, ap, arith, sym}
 use Rattle.std.proofs.lemmas.Bool.Decides.{nat_tests}
 use Rattle.mib_model.specs.Interpreter.{Course, StampedPacket, course_after, course_after_all, interpret, memory_for, record_for, records_text}
 use Rattle.mib_model.specs.Kept.{Memory}

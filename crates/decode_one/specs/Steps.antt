@@ -42,7 +42,7 @@ pub record ComeTo (c : Course) (ss : List StampedPacket) (db : Database) (before
   pub memory : c.memory ≡ before
   pub packets : All (IsOf c.edition c.tables) ss
 
--- the packets' records stand behind a text, and their run leaves this memory
-pub record HasRun (c : Course) (ss : List StampedPacket) (after : Memory) (old new : List ℕ) : Type 0 where
+-- the packets' records stand behind a text, and their run leaves a memory that is alike to this one, as far as names are asked
+pub record HasRunFor (asked : List ℕ → Bool) (c : Course) (ss : List StampedPacket) (after : Memory) (old new : List ℕ) : Type 0 where
   pub text : new ≡ old ++ records_text (interpret c ss)
-  pub memory : (course_after_all c ss).memory ≡ after
+  pub memory : AreAlike asked (course_after_all c ss).memory after

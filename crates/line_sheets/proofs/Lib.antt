@@ -3,3 +3,5 @@ pub mod LyingFacts
 pub mod PlayedFacts
 pub mod AddFacts
 pub mod PacketFacts
+pub mod PlaceFacts
+pub mod AskedFacts

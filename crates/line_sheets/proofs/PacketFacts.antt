@@ -1,11 +1,7 @@
 -- The lines of values behind a sheet.
-use Rattle.std.proofs.Common.{◌≡◌, ◌∙◌, ℕ, ℤ, ◌<◌, Bool, true, false, cond, List, [], ◌∷◌, ◌++◌, Option, Some, None, IsSome, ◌≤◌, length, get_or, codes, refl, sym, ap, subst, arith, append_assoc, append-nil}
-use Rattle.std.proofs.lemmas.List.{length-map}
+use Rattle.std.proofs.Common.{◌≡◌, ◌∙◌, ℕ, ℤ, ◌<◌, Bool, true, false, cond, List, [], ◌∷◌, ◌++◌, Option, Some, None, length, get_or, codes, refl, sym, ap, append_assoc, append-nil}
 use Rattle.std.proofs.lemmas.List.Concat.{flat_map-append}
-use Rattle.std.proofs.lemmas.List.Quantifiers.{position-Some}
-use Rattle.std.proofs.lemmas.Slice.Eq.{bytes_eq-Decides}
-use Rattle.std.specs.List.{flat_map, position}
-use Rattle.std.specs.Str.{bytes_eq}
+use Rattle.std.specs.List.{flat_map}
 use Rattle.mib_model.specs.declared.database.Database.{Database}
 use Rattle.mib_model.specs.declared.number.Eng.{Eng}
 use Rattle.mib_model.specs.declared.packet.Value.{Value}
@@ -18,39 +14,15 @@ use Rattle.mib_model.specs.Kept.{Memory, entered, has_number}
 use Rattle.mib_model.specs.Parameters.{parameter}
 use Rattle.mib_model.specs.Tails.{Tail, Told}
 use Rattle.mib_model.specs.Texts.{tail_text, told_text, value_text}
-use Rattle.param_plan.specs.Slices.{ParamSlice}
-use Rattle.param_plan.proofs.PlanFacts.{position-map}
 use Rattle.record_text.specs.ValueParts.{begin_text}
 use Rattle.fold_state.specs.declared.sketch.Mark.TheVariants as mark
-use Rattle.fold_state.specs.Boards.{is_name_of, plan_names}
 use Rattle.fold_state.specs.Opened.{bare_value, open_text, opened}
 use Rattle.fold_state.specs.Sketches.{IsShown, finished_lines, told_after_nominal}
 use Rattle.fold_state.proofs.FinishFacts.{finished-more}
 use Rattle.line_sheets.specs.Pieces.{Played, and_then, behind}
 use Rattle.line_sheets.specs.Sheets.{Calmed, Entered, Opened, SheetView, with_act, with_text}
-use Rattle.line_sheets.specs.Drawings.{Adds, HasPlan, values_played}
+use Rattle.line_sheets.specs.Drawings.{Adds, values_played}
 use Rattle.line_sheets.proofs.AddFacts.{adds-act, adds-same, adds-text, adds-then}
-
--- the name that has a seat, by the place of its plan
-pub seat-named : (params : List ParamSlice) (name : List ℕ) (at : ℕ) → position (λ slice. bytes_eq slice.pcf.name name) params ≡ Some at
-    → (get_or (plan_names params) at [] ≡ name) × (at < length (plan_names params))
-seat-named params name at is =
-    let found = position-Some (is_name_of name) (plan_names params) at [] (position-map (λ (s : ParamSlice). s.pcf.name) (is_name_of name) params ∙ is) in
-    ((bytes_eq-Decides (get_or (plan_names params) at []) name).0 found.1, found.0)
-
--- the seat of a name that has a plan, by the place that was found
-pub seat-there : (params : List ParamSlice) (name : List ℕ) (place : Option ℕ) (seat most : ℕ) → HasPlan params name → place ≡ position (λ slice. bytes_eq slice.pcf.name name) params → length params ≤ most
-    → ((at : ℕ) → place ≡ Some at → at ≤ most → seat ≡ at) → (get_or (plan_names params) seat [] ≡ name) × (seat < length (plan_names params))
-seat-there params name place seat most has is few each = go place refl where
-  long : length (plan_names params) ≡ length params
-  long = simp length-map
-
-  go : (p : Option ℕ) → place ≡ p → (get_or (plan_names params) seat [] ≡ name) × (seat < length (plan_names params))
-  go None none = absurd (cc (subst (λ (p : Option ℕ). IsSome p) (sym is ∙ none) has))
-  go (Some at) found =
-      let there = seat-named params name at (sym is ∙ found) in
-      let same = each at found (omega (arith, there.1, long, few)) in
-      subst (λ (n : ℕ). (get_or (plan_names params) n [] ≡ name) × (n < length (plan_names params))) (sym same) there
 
 cut-behind : (a b c d : List ℕ) → a ++ b ++ c ++ d ≡ a ++ (b ++ c ++ d)
 cut-behind a b c d = simp append_assoc

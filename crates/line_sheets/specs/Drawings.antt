@@ -1,9 +1,10 @@
 -- What is drawn behind a sheet. [This profile.]
-use Rattle.std.specs.Prelude.{◌≡◌, ℕ, List, [], ◌∷◌, ◌++◌, IsSome}
+use Rattle.std.specs.Prelude.{◌≡◌, ℕ, Bool, List, [], ◌∷◌, ◌++◌, IsSome}
 use Rattle.std.specs.List.{flat_map, position}
 use Rattle.std.specs.Str.{bytes_eq}
 use Rattle.line_sheets.specs.Pieces.{Played, and_then, played}
 use Rattle.line_sheets.specs.Sheets.{AreSeated, SheetView, pieces_of}
+use Rattle.memory_laws.specs.Alike.{AreAlike, TellAlike}
 use Rattle.mib_model.specs.declared.database.Database.{Database}
 use Rattle.mib_model.specs.declared.packet.Value.{Value}
 use Rattle.mib_model.specs.Finish.{all_finished}
@@ -23,6 +24,16 @@ HasPlan params name = IsSome (position (λ slice. bytes_eq slice.pcf.name name) 
 pub record Adds (db : Database) (names : List (List ℕ)) (old new : SheetView) (more : Memory → Played) : Type 0 where
   pub played : (memory : Memory) → played db (pieces_of names new) memory ≡ and_then (played db (pieces_of names old) memory) more
   pub seated : AreSeated names old.runs → AreSeated names new.runs
+
+-- from memories that are alike both give the same octets, and what is kept is alike
+abbrev pub PlaysAlike : (List ℕ → Bool) → (Memory → Played) → (Memory → Played) → Type 0
+PlaysAlike asked f g = (memory kept : Memory) → AreAlike asked memory kept → TellAlike asked (f memory) (g kept)
+
+-- a sheet is another with more behind it, which is played so as far as names are asked, and names that have seats are spoken of alone
+pub record AddsFor (asked : List ℕ → Bool) (db : Database) (names : List (List ℕ)) (old new : SheetView) (more : Memory → Played) : Type 0 where
+  pub extra : Memory → Played
+  pub adds : Adds db names old new extra
+  pub alike : PlaysAlike asked more extra
 
 -- what is kept after values of a packet, and their lines
 abbrev pub values_played : Database → List ℕ → List Value → Memory → Played
@@ -51,7 +62,7 @@ unfoldable pub packets_played : List StampedPacket → Memory → Played
 packets_played [] memory = (memory, [])
 packets_played (s ∷ ss) memory = and_then (packet_played s memory) (packets_played ss)
 
--- a sheet is the records of packets by a database, whatever is kept, and speaks of names that have seats alone
-pub record IsSheetOf (db : Database) (names : List (List ℕ)) (ss : List StampedPacket) (sheet : SheetView) : Type 0 where
-  pub played : (memory : Memory) → played db (pieces_of names sheet) memory ≡ packets_played ss memory
+-- a sheet is the records of packets by a database, whatever is kept, as far as names are asked, and speaks of names that have seats alone
+pub record IsSheetFor (asked : List ℕ → Bool) (db : Database) (names : List (List ℕ)) (ss : List StampedPacket) (sheet : SheetView) : Type 0 where
+  pub played : PlaysAlike asked (packets_played ss) (played db (pieces_of names sheet))
   pub seated : AreSeated names sheet.runs

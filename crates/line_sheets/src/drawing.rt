@@ -1,12 +1,14 @@
 // The record of a packet behind a sheet.
-ghost use Rattle.std.specs.Prelude.{◌≡◌, ◌≤◌, ◌<◌, ◌+◌, ◌*◌, ℕ, List, [], Some, IsFalse, IsTrue, get_or, length, true};
+ghost use Rattle.std.specs.Prelude.{◌≡◌, ◌≤◌, ◌<◌, ◌+◌, ◌*◌, ℕ, Bool, List, [], Some, IsFalse, IsTrue, get_or, length, true};
 ghost use Rattle.std.specs.List.{All, position};
 ghost use Rattle.std.specs.Option.{option_copied};
 ghost use Rattle.std.specs.Str.{bytes_eq};
 ghost use Rattle.fold_state.specs.Boards.{plan_names};
+ghost use Rattle.fold_state.specs.Demands.{AreAsked, AreDemandsOf, AreNoted};
+ghost use Rattle.fold_state.specs.Entering.{entered_at};
 ghost use Rattle.fold_state.specs.Premises.{IsParamsOf, IsRaw};
 ghost use Rattle.fold_state.specs.Sketches.{IsShown, behind, finished_lines};
-ghost use Rattle.line_sheets.specs.Drawings.{Adds, HasPlan, body_played, values_played};
+ghost use Rattle.line_sheets.specs.Drawings.{Adds, AddsFor, HasPlan, body_played, values_played};
 ghost use Rattle.line_sheets.specs.Sheets.{with_text};
 ghost use Rattle.line_sheets.specs.declared.sheet.TheConstants.{EVENT_ROOM, SEATS_MOST, SHEET_ROOM};
 ghost use Rattle.mib_model.specs.Bits.{is_inside};
@@ -16,8 +18,9 @@ ghost use Rattle.mib_model.specs.Texts.{ended_text, head_text};
 ghost use Rattle.record_text.specs.declared.lines.TheConstants.{BEGIN_ROOM, HEAD_ROOM, NOTE_ROOM, VALUE_ROOM};
 ghost use Rattle.record_text.specs.ValueParts.{begin_text};
 
+use crate::noted::{draw_noted, is_asked};
 use crate::sheet::{SEATS_MOST, Sheet};
-use fold_state::{Mark, Places, Seen, draw_at, is_raw};
+use fold_state::{Demand, Mark, Places, Seen, is_raw};
 use mib_model::{Ended, Value};
 use param_plan::Params;
 use record_text::{begin_value, ended_line, head_line};
@@ -73,20 +76,21 @@ impl Sheet {
     fn add_line(
         &mut self,
         params: &Params,
+        demands: &[Demand],
         place: Option<usize>,
         value: &Value,
         packet: &[u8],
     ) -> Mark
         requires inside { is_inside packet.now value.now.at value.now.shape.width ≡ true }
         requires room { self.old.size + VALUE_ROOM ≤ SHEET_ROOM }
-        ensures shown { (db : Database) → IsParamsOf db params.now → IsRaw value.now
+        ensures shown { (asked : List ℕ → Bool) (db : Database) → IsParamsOf db params.now → AreNoted asked params.now demands.now → IsRaw value.now
             → place ≡ position (λ slice. bytes_eq slice.pcf.name value.now.name) params.now
             → IsShown db packet.now value.now (result, behind self.old.tail self.new.tail) }
         ensures text { self.new ≡ with_text self.old (behind self.old.tail self.new.tail) }
         ensures open { result ≡ Mark.Open → self.new ≡ self.old }
         ensures room { self.new.size ≤ self.old.size + VALUE_ROOM }
     {
-        draw_at(params, place, value, packet, &mut self.text)
+        draw_noted(params, demands, place, value, packet, &mut self.text)
     }
 
     // A value stands behind it now whose line goes on by what is kept.
@@ -110,18 +114,25 @@ impl Sheet {
 
     // The lines of a value whose plan has a place among the plans stand behind it now, as far as they don't depend on what is kept.
     #[inline(always)]
-    fn add_value(&mut self, params: &Params, place: Option<usize>, value: &Value, packet: &[u8])
+    fn add_value(
+        &mut self,
+        params: &Params,
+        demands: &[Demand],
+        place: Option<usize>,
+        value: &Value,
+        packet: &[u8],
+    )
         requires inside { is_inside packet.now value.now.at value.now.shape.width ≡ true }
         requires few { length params.now ≤ SEATS_MOST }
         requires text { self.old.size + VALUE_ROOM ≤ SHEET_ROOM }
         requires events { length self.old.runs < EVENT_ROOM }
-        ensures added { (db : Database) → IsParamsOf db params.now → IsRaw value.now → HasPlan params.now value.now.name
-            → place ≡ position (λ slice. bytes_eq slice.pcf.name value.now.name) params.now
+        ensures added { (asked : List ℕ → Bool) (db : Database) → IsParamsOf db params.now → AreNoted asked params.now demands.now → IsRaw value.now
+            → HasPlan params.now value.now.name → place ≡ position (λ slice. bytes_eq slice.pcf.name value.now.name) params.now
             → Adds db (plan_names params.now) self.old self.new (λ memory. finished_lines db packet.now memory value.now) }
         ensures size { self.new.size ≤ self.old.size + VALUE_ROOM }
         ensures events { length self.new.runs ≤ length self.old.runs + 1 }
     {
-        match self.add_line(params, place, value, packet) {
+        match self.add_line(params, demands, place, value, packet) {
             Mark::Told => {}
             Mark::Nominal(number) => self.calm(seat_of(place), number),
             Mark::Open => self.add_open(seat_of(place), value, packet),
@@ -142,12 +153,35 @@ impl Sheet {
         }
     }
 
-    // The raw numbers of values are entered behind it now, whose places are looked for where the guesses from here on say.
-    fn enter_all(&mut self, places: &mut Places, params: &Params, first: usize, values: &[Value])
+    // It is entered where it is asked at the place that is the seat.
+    #[inline(always)]
+    fn enter_asked(&mut self, demands: &[Demand], seat: u32, value: &Value)
+        requires { length self.old.runs < EVENT_ROOM }
+        ensures added { (db : Database) (names : List (List ℕ)) → IsRaw value.now → get_or names seat [] ≡ value.now.name → seat < length names
+            → Adds db names self.old self.new (λ memory. (entered_at demands.now seat memory value.now, [])) }
+        ensures size { self.new.size ≡ self.old.size }
+        ensures events { length self.new.runs ≤ length self.old.runs + 1 }
+    {
+        if is_asked(demands, seat as usize) {
+            self.enter_value(seat, value);
+        }
+    }
+
+    // The raw numbers of values that are asked are entered behind it now. The places of the values are looked for where the guesses from
+    // here on say.
+    fn enter_all(
+        &mut self,
+        places: &mut Places,
+        params: &Params,
+        demands: &[Demand],
+        first: usize,
+        values: &[Value],
+    )
         requires few { length params.now ≤ SEATS_MOST }
         requires events { length self.old.runs + length values.now ≤ EVENT_ROOM }
-        ensures added { (db : Database) → All IsRaw values.now → All (λ v. HasPlan params.now v.name) values.now
-            → Adds db (plan_names params.now) self.old self.new (λ memory. (all_entered memory values.now, [])) }
+        ensures added { (asked : List ℕ → Bool) (db : Database) → AreAsked asked (plan_names params.now) demands.now → All IsRaw values.now
+            → All (λ v. HasPlan params.now v.name) values.now
+            → AddsFor asked db (plan_names params.now) self.old self.new (λ memory. (all_entered memory values.now, [])) }
         ensures size { self.new.size ≡ self.old.size }
         ensures events { length self.new.runs ≤ length self.old.runs + length values.now }
     {
@@ -155,7 +189,7 @@ impl Sheet {
             let value = &values[k];
             let near = first.saturating_add(k);
             let place = places.place(params, near, &value.name);
-            self.enter_value(seat_of(place), value);
+            self.enter_asked(demands, seat_of(place), value);
         }
     }
 
@@ -164,6 +198,7 @@ impl Sheet {
         &mut self,
         places: &mut Places,
         params: &Params,
+        demands: &[Demand],
         first: usize,
         packet: &[u8],
         values: &[Value],
@@ -172,7 +207,8 @@ impl Sheet {
         requires few { length params.now ≤ SEATS_MOST }
         requires text { self.old.size + length values.now * VALUE_ROOM ≤ SHEET_ROOM }
         requires events { length self.old.runs + length values.now ≤ EVENT_ROOM }
-        ensures added { (db : Database) → IsParamsOf db params.now → All IsRaw values.now → All (λ v. HasPlan params.now v.name) values.now
+        ensures added { (asked : List ℕ → Bool) (db : Database) → IsParamsOf db params.now → AreNoted asked params.now demands.now
+            → All IsRaw values.now → All (λ v. HasPlan params.now v.name) values.now
             → Adds db (plan_names params.now) self.old self.new (values_played db packet.now values.now) }
         ensures size { self.new.size ≤ self.old.size + length values.now * VALUE_ROOM }
     {
@@ -180,17 +216,24 @@ impl Sheet {
             let value = &values[k];
             let near = first.saturating_add(k);
             let place = places.place(params, near, &value.name);
-            self.add_value(params, place, value, packet);
+            self.add_value(params, demands, place, value, packet);
         }
     }
 
-    /// Draws the record of a packet behind it, where it has room: at most 1,024 values, whose bits are in the packet. The record is that of
-    /// the definitions, whatever is kept, where the plans are those of all parameters, and each value has a plan and a raw number. It takes no memory.
-    pub fn draw(&mut self, places: &mut Places, params: &Params, seen: &Seen<'_>) -> bool
+    /// Draws the record of a packet behind it, where it has room: at most 1,024 values, whose bits are in the packet. Raw numbers are entered
+    /// as far as they are demanded. The record is that of the definitions, whatever is kept, where the plans are those of all parameters, what
+    /// is asked is demanded, and each value has a plan and a raw number. It takes no memory.
+    pub fn draw(
+        &mut self,
+        places: &mut Places,
+        params: &Params,
+        demands: &[Demand],
+        seen: &Seen<'_>,
+    ) -> bool
         requires { All (λ v. is_inside seen.now.packet.now v.at v.shape.width ≡ true) seen.now.values.now }
-        ensures drawn { IsTrue result → (db : Database) → IsParamsOf db params.now → All IsRaw seen.now.values.now
-            → All (λ v. HasPlan params.now v.name) seen.now.values.now
-            → Adds db (plan_names params.now) self.old self.new (body_played db seen.now.packet.now seen.now.values.now
+        ensures drawn { IsTrue result → (asked : List ℕ → Bool) (db : Database) → IsParamsOf db params.now
+            → AreDemandsOf asked params.now demands.now → All IsRaw seen.now.values.now → All (λ v. HasPlan params.now v.name) seen.now.values.now
+            → AddsFor asked db (plan_names params.now) self.old self.new (body_played db seen.now.packet.now seen.now.values.now
             (head_text seen.now.number seen.now.header.now seen.now.found.now (option_copied seen.now.title)) (ended_text seen.now.ended.now)) }
         ensures full { IsFalse result → self.new ≡ self.old }
     {
@@ -200,8 +243,8 @@ impl Sheet {
         }
         self.add_head(seen);
         let first = places.begin(params, seen.found, values.len());
-        self.enter_all(places, params, first, values);
-        self.add_all(places, params, first, seen.packet, values);
+        self.enter_all(places, params, demands, first, values);
+        self.add_all(places, params, demands, first, seen.packet, values);
         self.add_end(seen.ended);
         true
     }

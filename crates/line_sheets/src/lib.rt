@@ -2,6 +2,7 @@
 #![tactic(auto)]
 
 mod drawing;
+mod noted;
 mod playing;
 mod reading;
 mod sheet;

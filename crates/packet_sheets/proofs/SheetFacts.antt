@@ -1,13 +1,15 @@
 -- The sheet of packets, and of one more.
-use Rattle.std.proofs.Common.{◌≡◌, ◌∙◌, ℕ, suc, ◌+◌, ◌<◌, List, [], ◌∷◌, ◌++◌, length, get_or, take, refl, sym, ap, arith, append-nil}
+use Rattle.std.proofs.Common.{◌≡◌, ◌∙◌, ℕ, suc, ◌+◌, ◌<◌, Bool, List, [], ◌∷◌, ◌++◌, length, get_or, take, refl, sym, ap, subst, arith, append-nil}
 use Rattle.std.proofs.lemmas.List.{length-take-le, take_more}
+use Rattle.memory_laws.specs.Alike.{TellAlike}
 use Rattle.mib_model.specs.declared.database.Database.{Database}
 use Rattle.mib_model.specs.Interpreter.{StampedPacket}
 use Rattle.mib_model.specs.Kept.{Memory}
 use Rattle.mib_model.specs.Output.{stamped_first, stamped_from}
 use Rattle.line_sheets.specs.Pieces.{Played, and_then, behind, played}
-use Rattle.line_sheets.specs.Sheets.{SheetView, no_sheet}
-use Rattle.line_sheets.specs.Drawings.{Adds, IsSheetOf, packet_played, packets_played}
+use Rattle.line_sheets.specs.Sheets.{SheetView, no_sheet, pieces_of}
+use Rattle.line_sheets.specs.Drawings.{AddsFor, IsSheetFor, packet_played, packets_played}
+use Rattle.line_sheets.proofs.AskedFacts.{then-alike}
 use Rattle.line_sheets.proofs.PlayFacts.{behind-behind}
 
 -- packets, and one more
@@ -20,17 +22,22 @@ packets-more (r ∷ ss) s memory =
     ap (behind one.1) (packets-more ss s one.0) ∙ behind-behind one.1 front.1 (packet_played s front.0)
 
 -- no packets
-pub sheet-none : (db : Database) (names : List (List ℕ)) → IsSheetOf db names [] no_sheet
+pub sheet-none : (asked : List ℕ → Bool) (db : Database) (names : List (List ℕ)) → IsSheetFor asked db names [] no_sheet
 unfolding packets_played played
-sheet-none db names = record { played = λ memory. refl; seated = λ k d below. absurd (omega (arith, below)) }
+sheet-none asked db names = record { played = λ memory kept alike. (refl, alike); seated = λ k d below. absurd (omega (arith, below)) }
 
 -- one more packet
-pub sheet-more : (db : Database) (names : List (List ℕ)) (ss : List StampedPacket) (s : StampedPacket) (old new : SheetView) → IsSheetOf db names ss old → Adds db names old new (packet_played s)
-    → IsSheetOf db names (ss ++ s ∷ []) new
-sheet-more db names ss s old new is adds = record {
-  played = λ memory. adds.played memory ∙ (ap (λ (p : Played). and_then p (packet_played s)) (is.played memory) ∙ sym (packets-more ss s memory));
-  seated = adds.seated is.seated;
-}
+pub sheet-more : (asked : List ℕ → Bool) (db : Database) (names : List (List ℕ)) (ss : List StampedPacket) (s : StampedPacket) (old new : SheetView) → IsSheetFor asked db names ss old
+    → AddsFor asked db names old new (packet_played s) → IsSheetFor asked db names (ss ++ s ∷ []) new
+sheet-more asked db names ss s old new is adds =
+    let front = played db (pieces_of names old) in
+    let both = then-alike asked (packets_played ss) front (packet_played s) adds.extra is.played adds.alike in
+    record {
+      played = λ memory kept alike.
+          subst (λ (p : Played). TellAlike asked p (played db (pieces_of names new) kept)) (sym (packets-more ss s memory))
+          (subst (TellAlike asked (and_then (packets_played ss memory) (packet_played s))) (sym (adds.adds.played kept)) (both memory kept alike));
+      seated = adds.adds.seated is.seated;
+    }
 
 -- packets with their numbers, and one more
 stamped-push : (db : Database) (number : ℕ) (packets : List (List ℕ)) (packet : List ℕ)

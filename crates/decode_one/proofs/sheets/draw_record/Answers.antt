@@ -1,7 +1,9 @@
-use Rattle.std.proofs.Common.{List, ℕ, ap, subst}
+use Rattle.std.proofs.Common.{List, ℕ, ap, subst, sym}
 use Rattle.fold_state.specs.Boards.{plan_names}
-use Rattle.line_sheets.specs.Drawings.{Adds, packet_played}
-use Rattle.line_sheets.proofs.AddFacts.{adds-same}
+use Rattle.fold_state.specs.Demands.{AreDemandsOf}
+use Rattle.line_sheets.specs.Drawings.{AddsFor, packet_played}
+use Rattle.param_plan.specs.Slices.{ParamSlice}
+use Rattle.line_sheets.proofs.AskedFacts.{for-same}
 use Rattle.decode_one.proofs.FinishFacts.{record-drawn, taken-inside, taken-params, taken-planned, taken-raw}
 use Rattle.decode_one.proofs.sheets.draw_record.Goals as goal
 
@@ -10,7 +12,7 @@ draw-requires g c =
     taken-inside (g.P.Structures.tables c.args.plans.now) c.params-params.ensures.sound c.args.packet.now c.args.half.now c.args.values.now c.requires.half
 
 pub returns-clause-drawn : goal.returns-clause-drawn
-returns-clause-drawn g c = λ ok s of.
+returns-clause-drawn g c = λ ok asked s demanded of.
     let db = g.P.Structures.tables c.args.plans.now in
     let sound = c.params-params.ensures.sound in
     let packet = c.args.packet.now in
@@ -19,6 +21,7 @@ returns-clause-drawn g c = λ ok s of.
     let is = c.requires.half in
     let params = c.params-params.result.now in
     let all = c.params-params.ensures.slices in
-    let adds = c.draw.ensures.drawn ok db (taken-params db sound packet half values is params all) (taken-raw db sound packet half values is) (taken-planned db sound packet half values is params all) in
-    let meant = adds-same db (plan_names params) c.args.sheet.now c.draw.new.self _ (packet_played s) adds (record-drawn db sound packet half values is c.args.number _ s c.title.ensures of) in
-    subst (λ (names : List (List ℕ)). Adds db names c.args.sheet.now c.draw.new.self (packet_played s)) (ap plan_names all) meant
+    let noted = subst (λ (slices : List ParamSlice). AreDemandsOf asked slices c.args.demands.now) (sym all) demanded in
+    let adds = c.draw.ensures.drawn ok asked db (taken-params db sound packet half values is params all) noted (taken-raw db sound packet half values is) (taken-planned db sound packet half values is params all) in
+    let meant = for-same asked db (plan_names params) c.args.sheet.now c.draw.new.self _ (packet_played s) adds (record-drawn db sound packet half values is c.args.number _ s c.title.ensures of) in
+    subst (λ (names : List (List ℕ)). AddsFor asked db names c.args.sheet.now c.draw.new.self (packet_played s)) (ap plan_names all) meant

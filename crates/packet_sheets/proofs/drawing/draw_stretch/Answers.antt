@@ -1,7 +1,8 @@
-use Rattle.std.proofs.Common.{◌+◌, List, arith, sym, subst, take}
+use Rattle.std.proofs.Common.{◌∙◌, ◌+◌, List, ℕ, arith, sym, subst, take}
+use Rattle.std.proofs.lemmas.List.{take_all}
 use Rattle.edition_plans.specs.Params.{param_slices}
 use Rattle.fold_state.specs.Boards.{plan_names}
-use Rattle.line_sheets.specs.Drawings.{IsSheetOf}
+use Rattle.line_sheets.specs.Drawings.{IsSheetFor}
 use Rattle.line_sheets.specs.Sheets.{SheetView, no_sheet}
 use Rattle.mib_model.specs.Interpreter.{StampedPacket}
 use Rattle.mib_model.specs.Output.{stamped_first, stamped_from}
@@ -14,8 +15,9 @@ loop-k-init g c =
     let names = plan_names (param_slices db) in
     record {
       slots = c.requires.slots;
-      drawn = subst (λ (s : SheetView). IsSheetOf db names (stamped_from db c.args.number (take 0 c.args.stretch.now.packets)) s) (sym c.clear.ensures)
-          (subst (λ (ss : List StampedPacket). IsSheetOf db names ss no_sheet) (sym (stamped-none db c.args.number)) (sheet-none db names));
+      drawn = λ asked demanded.
+          subst (λ (s : SheetView). IsSheetFor asked db names (stamped_from db c.args.number (take 0 c.args.stretch.now.packets)) s) (sym c.clear.ensures)
+          (subst (λ (ss : List StampedPacket). IsSheetFor asked db names ss no_sheet) (sym (stamped-none db c.args.number)) (sheet-none asked db names));
     }
 
 pub loop-k-preserved : goal.loop-k-preserved
@@ -29,7 +31,23 @@ loop-k-preserved g c =
     let next = stamped-next db number packets k packet (omega (arith, c.loop-k-test.true, c.len-count.ensures)) (c.packet-packet.ensures.packet packet) in
     record {
       slots = c.draw_next.ensures.slots;
-      drawn = subst (λ (ss : List StampedPacket). IsSheetOf db names ss c.draw_next.new.sheet) (sym next)
-          (sheet-more db names (stamped_from db number (take k packets)) (stamped_first db (number + k, packet)) c.loop-k.sheet c.draw_next.new.sheet c.loop-k.invariant.drawn
-          (c.draw_next.ensures.drawn c.if-not-draw_next.false));
+      drawn = λ asked demanded.
+          subst (λ (ss : List StampedPacket). IsSheetFor asked db names ss c.draw_next.new.sheet) (sym next)
+          (sheet-more asked db names (stamped_from db number (take k packets)) (stamped_first db (number + k, packet)) c.loop-k.sheet c.draw_next.new.sheet
+          (c.loop-k.invariant.drawn asked demanded) (c.draw_next.ensures.drawn c.if-not-draw_next.false asked demanded));
     }
+
+pub returns-then-not-draw_next-clause-drawn : goal.returns-then-not-draw_next-clause-drawn
+returns-then-not-draw_next-clause-drawn g c = λ asked demanded.
+    let db = g.P.Structures.tables c.args.plans.now in
+    subst (λ (s : SheetView). IsSheetFor asked db (plan_names (param_slices db)) (stamped_from db c.args.number (take c.loop-k.k c.args.stretch.now.packets)) s)
+    (sym (c.draw_next.ensures.full c.if-not-draw_next.true)) (c.loop-k.invariant.drawn asked demanded)
+
+pub returns-clause-drawn : goal.returns-clause-drawn
+returns-clause-drawn g c = λ asked demanded.
+    let db = g.P.Structures.tables c.args.plans.now in
+    let packets = c.args.stretch.now.packets in
+    let all = take_all c.loop-k.k packets (omega (arith, c.loop-k-test.false, c.len-count.ensures)) in
+    let whole = take_all c.len-count.result packets (omega (arith, c.len-count.ensures)) in
+    subst (λ (ps : List (List ℕ)). IsSheetFor asked db (plan_names (param_slices db)) (stamped_from db c.args.number ps) c.loop-k.sheet) (all ∙ sym whole)
+    (c.loop-k.invariant.drawn asked demanded)

@@ -11,7 +11,7 @@ use Rattle.line_sheets.proofs.sheet.Sheet.add_all.Goals as goal
 
 pub loop-k-init : goal.loop-k-init
 loop-k-init c = record {
-  added = λ db plans raws has.
+  added = λ asked db plans noted raws has.
       let names = plan_names c.args.params.now in
       adds-same db names c.args.self.now c.args.self.now _ _ (adds-none db names c.args.self.now) (values-none db c.args.packet.now);
   size = omega arith;
@@ -22,7 +22,7 @@ pub loop-k-preserved : goal.loop-k-preserved
 loop-k-preserved c =
     let inv = c.loop-k.invariant in
     record {
-      added = λ db plans raws has.
+      added = λ asked db plans noted raws has.
           let i = c.loop-k.k in
           let values = c.args.values.now in
           let params = c.args.params.now in
@@ -32,8 +32,8 @@ loop-k-preserved c =
           let is = c.index-values-k.is in
           let raw = each-item IsRaw values i v below is raws in
           let plan = each-item (λ (u : Value). HasPlan params u.name) values i v below is has in
-          let one = c.add_value.ensures.added db plans raw plan c.place-place.ensures in
-          let both = adds-then db (plan_names params) c.args.self.now c.loop-k.self c.add_value.new.self _ _ (inv.added db plans raws has) one in
+          let one = c.add_value.ensures.added asked db plans noted raw plan c.place-place.ensures in
+          let both = adds-then db (plan_names params) c.args.self.now c.loop-k.self c.add_value.new.self _ _ (inv.added asked db plans noted raws has) one in
           let more : take (i + 1) values ≡ _ = take_more values i v below in
           let front = more ∙ ap (λ (x : Value). take i values ++ x ∷ []) (sym is) in
           adds-same db (plan_names params) c.args.self.now c.add_value.new.self _ _ both
@@ -43,7 +43,7 @@ loop-k-preserved c =
     }
 
 pub returns-clause-added : goal.returns-clause-added
-returns-clause-added c = λ db plans raws has.
+returns-clause-added c = λ asked db plans noted raws has.
     let values = c.args.values.now in
-    adds-same db (plan_names c.args.params.now) c.args.self.now c.loop-k.self _ _ (c.loop-k.invariant.added db plans raws has)
+    adds-same db (plan_names c.args.params.now) c.args.self.now c.loop-k.self _ _ (c.loop-k.invariant.added asked db plans noted raws has)
     (λ memory. ap (λ (vs : List Value). values_played db c.args.packet.now vs memory) (take_all c.loop-k.k values c.loop-k-test.false))

@@ -10,8 +10,8 @@ invariant_of-self c =
     let sheet = c.self.inside in
     let inv = c.self.invariant in
     let size = ap (λ (s : SheetView). s.size) c.self.view_is in (
-      write-held sheet.text _ c.draw_at.new.out sheet.events.items sheet.raws.items sheet.counts.items inv.0 c.draw_at.ensures.added,
-      omega (arith, size, c.requires.room, c.draw_at.ensures.room),
+      write-held sheet.text _ c.draw_noted.new.out sheet.events.items sheet.raws.items sheet.counts.items inv.0 c.draw_noted.ensures.added,
+      omega (arith, size, c.requires.room, c.draw_noted.ensures.room),
       inv.2,
       inv.3,
       inv.4,
@@ -22,24 +22,24 @@ invariant_of-self c =
     )
 
 pub returns-clause-shown : goal.returns-clause-shown
-returns-clause-shown c = λ db plans raw at.
+returns-clause-shown c = λ asked db plans noted raw at.
     let sheet = c.self.inside in
-    let line = behind sheet.text c.draw_at.new.out in
+    let line = behind sheet.text c.draw_noted.new.out in
     let old = c.args.self.now in
-    let new = sheet_in c.draw_at.new.out sheet.events.items sheet.raws.items sheet.counts.items in
-    let wrote = write-view sheet.text line c.draw_at.new.out sheet.events.items sheet.raws.items sheet.counts.items c.self.invariant.0 c.draw_at.ensures.added old c.self.view_is in
-    subst (λ (l : List ℕ). IsShown db c.args.packet.now c.args.value.now (c.draw_at.result, l)) (write-behind line old new wrote) (c.draw_at.ensures.shown db plans raw at)
+    let new = sheet_in c.draw_noted.new.out sheet.events.items sheet.raws.items sheet.counts.items in
+    let wrote = write-view sheet.text line c.draw_noted.new.out sheet.events.items sheet.raws.items sheet.counts.items c.self.invariant.0 c.draw_noted.ensures.added old c.self.view_is in
+    subst (λ (l : List ℕ). IsShown db c.args.packet.now c.args.value.now (c.draw_noted.result, l)) (write-behind line old new wrote) (c.draw_noted.ensures.shown asked db plans noted raw at)
 
 pub returns-clause-text : goal.returns-clause-text
 returns-clause-text c =
     let sheet = c.self.inside in
-    let line = behind sheet.text c.draw_at.new.out in
+    let line = behind sheet.text c.draw_noted.new.out in
     let old = c.args.self.now in
-    let new = sheet_in c.draw_at.new.out sheet.events.items sheet.raws.items sheet.counts.items in
-    let wrote = write-view sheet.text line c.draw_at.new.out sheet.events.items sheet.raws.items sheet.counts.items c.self.invariant.0 c.draw_at.ensures.added old c.self.view_is in
+    let new = sheet_in c.draw_noted.new.out sheet.events.items sheet.raws.items sheet.counts.items in
+    let wrote = write-view sheet.text line c.draw_noted.new.out sheet.events.items sheet.raws.items sheet.counts.items c.self.invariant.0 c.draw_noted.ensures.added old c.self.view_is in
     wrote ∙ ap (λ (l : List ℕ). with_text old l) (write-behind line old new wrote)
 
 pub returns-clause-open : goal.returns-clause-open
 returns-clause-open c = λ left.
     let sheet = c.self.inside in
-    ap (λ (t : List ℕ). sheet_in t sheet.events.items sheet.raws.items sheet.counts.items) (c.draw_at.ensures.open left) ∙ c.self.view_is
+    ap (λ (t : List ℕ). sheet_in t sheet.events.items sheet.raws.items sheet.counts.items) (c.draw_noted.ensures.open left) ∙ c.self.view_is

@@ -7,7 +7,8 @@ use Rattle.line_sheets.specs.Sheets.{Act, Calmed, SheetView, with_act, with_text
 use Rattle.line_sheets.specs.declared.sheet.TheConstants.{SEATS_MOST}
 use Rattle.line_sheets.proofs.AddFacts.{adds-to}
 use Rattle.line_sheets.proofs.LyingFacts.{act_events, act_size, text_events}
-use Rattle.line_sheets.proofs.PacketFacts.{adds-calm, adds-told, seat-there}
+use Rattle.line_sheets.proofs.PacketFacts.{adds-calm, adds-told}
+use Rattle.line_sheets.proofs.PlaceFacts.{seat-there}
 use Rattle.line_sheets.proofs.sheet.Sheet.add_value.Goals as goal
 
 pub calm-requires : goal.calm-requires
@@ -26,13 +27,13 @@ add_open-requires-clause-events c =
     omega (arith, same, c.requires.events)
 
 pub returns-in-Told-clause-added : goal.returns-in-Told-clause-added
-returns-in-Told-clause-added c = λ db plans raw has at.
+returns-in-Told-clause-added c = λ asked db plans noted raw has at.
     let old = c.args.self.now in
     let new = c.add_line.new.self in
     let v = c.args.value.now in
     let packet = c.args.packet.now in
     let line = behind old.tail new.tail in
-    let shown = subst (λ (m : Mark). IsShown db packet v (m, line)) c.in-Told.is (c.add_line.ensures.shown db plans raw at) in
+    let shown = subst (λ (m : Mark). IsShown db packet v (m, line)) c.in-Told.is (c.add_line.ensures.shown asked db plans noted raw at) in
     adds-to db (plan_names c.args.params.now) old (with_text old line) new (λ memory. finished_lines db packet memory v) c.add_line.ensures.text
     (adds-told db (plan_names c.args.params.now) packet v old line shown)
 
@@ -42,7 +43,7 @@ returns-in-Told-clause-events c =
     omega (arith, same)
 
 pub returns-in-Nominal-clause-added : goal.returns-in-Nominal-clause-added
-returns-in-Nominal-clause-added c = λ db plans raw has at.
+returns-in-Nominal-clause-added c = λ asked db plans noted raw has at.
     let old = c.args.self.now in
     let new = c.add_line.new.self in
     let v = c.args.value.now in
@@ -51,11 +52,11 @@ returns-in-Nominal-clause-added c = λ db plans raw has at.
     let number = c.in-Nominal.number in
     let seat = c.seat_of.result in
     let act : Act = Calmed seat number.count in
-    let shown = subst (λ (m : Mark). IsShown db packet v (m, line)) c.in-Nominal.is (c.add_line.ensures.shown db plans raw at) in
+    let shown = subst (λ (m : Mark). IsShown db packet v (m, line)) c.in-Nominal.is (c.add_line.ensures.shown asked db plans noted raw at) in
     let there = seat-there c.args.params.now v.name c.args.place seat SEATS_MOST has at c.requires.few c.seat_of.ensures in
     adds-to db (plan_names c.args.params.now) old (with_act (with_text old line) act) c.calm.new.self (λ memory. finished_lines db packet memory v)
     (c.calm.ensures ∙ ap (λ (s : SheetView). with_act s act) c.add_line.ensures.text)
-    (adds-calm db (plan_names c.args.params.now) packet v old seat there.0 there.1 line number shown)
+    (adds-calm db (plan_names c.args.params.now) packet v old seat there.named there.below line number shown)
 
 pub returns-in-Nominal-clause-size : goal.returns-in-Nominal-clause-size
 returns-in-Nominal-clause-size c =
@@ -69,13 +70,13 @@ returns-in-Nominal-clause-events c =
     omega (arith, same, more)
 
 pub returns-in-Open-clause-added : goal.returns-in-Open-clause-added
-returns-in-Open-clause-added c = λ db plans raw has at.
+returns-in-Open-clause-added c = λ asked db plans noted raw has at.
     let v = c.args.value.now in
     let names = plan_names c.args.params.now in
     let seat = c.seat_of-in-Open.result in
     let there = seat-there c.args.params.now v.name c.args.place seat SEATS_MOST has at c.requires.few c.seat_of-in-Open.ensures in
     subst (λ (s : SheetView). Adds db names s c.add_open.new.self (λ memory. finished_lines db c.args.packet.now memory v)) (c.add_line.ensures.open c.in-Open.is)
-    (c.add_open.ensures.added db names raw there.0 there.1)
+    (c.add_open.ensures.added db names raw there.named there.below)
 
 pub returns-in-Open-clause-size : goal.returns-in-Open-clause-size
 returns-in-Open-clause-size c =
