@@ -1,6 +1,7 @@
 ghost use Rattle.std.specs.Prelude.{◌≡◌, ◌≢◌, IfOk, IfErr, OnOk, IfSome, Ok};
 ghost use Rattle.folder_edition.specs.Refusals.{refusal_of_save};
 ghost use Rattle.folder_tables.specs.Refusals.{HasRefusalCause, Refuses};
+ghost use Rattle.mib_model.specs.Soundness.{IsSound};
 ghost use Rattle.tool_objects.specs.Sources.{if_sound, sound_in};
 
 use edition::{Edition, SaveFault};
@@ -28,6 +29,7 @@ fn compile<L: Ledger>(alloc: Global, book: Book, blank: Blank) -> Result<Edition
     requires parts { blank.parts ≡ L.parts }
     requires one { blank.parts ≡ 1 }
     ensures told { IfOk result (λ edition. if_sound book ≡ Ok edition) }
+    ensures sound { IfOk result (λ edition. IsSound edition) }
     ensures refused { IfErr result (λ refusal. Refuses refusal (if_sound book)) }
     ensures cause { IfErr result (λ refusal. refusal ≢ Refusal.Failed) }
 {
@@ -40,6 +42,7 @@ fn compile<L: Ledger>(alloc: Global, book: Book, blank: Blank) -> Result<Edition
 /// The edition of a book, which is refused by its first flaw.
 pub fn book_edition(alloc: Global, book: Book) -> Result<Edition, Refusal>
     ensures told { IfOk result (λ edition. if_sound book ≡ Ok edition) }
+    ensures sound { IfOk result (λ edition. IsSound edition) }
     ensures refused { IfErr result (λ refusal. Refuses refusal (if_sound book)) }
     ensures cause { IfErr result (λ refusal. refusal ≢ Refusal.Failed) }
 {
@@ -53,6 +56,7 @@ pub fn folder_edition<T: Shelf>(
     tables: &mut T,
 ) -> Result<Edition, Refusal>
     ensures told { IfOk result (λ edition. IfSome (T.holds tables.old) (λ files. sound_in files folder.now ≡ Ok edition)) }
+    ensures sound { IfOk result (λ edition. IsSound edition) }
     ensures refused { IfErr result (λ code. IfSome (T.holds tables.old) (λ files. Refuses code (sound_in files folder.now))) }
     ensures ok { OnOk result (T.faults tables.new ≡ T.faults tables.old) }
     ensures cause { IfErr result (λ refusal. HasRefusalCause refusal (T.faults tables.old) (T.faults tables.new)) }

@@ -16,6 +16,7 @@ use Rattle.tm_audit.specs.Audit.{refused}
 use Rattle.tm_audit.specs.Codes.{finding_text}
 use Rattle.tm_audit.specs.Saved.{saved_tables}
 use Rattle.tool_objects.specs.Objects.{ShelfView, SinkView, HasStood, HasFailed, IsUncalled, IsUnwritten, HasBroken, IsHandedOn, Took}
+use Rattle.tool_objects.specs.Opened.{AreSound}
 use Rattle.tool_objects.specs.Sources.{sound_in}
 use Rattle.tool_objects.specs.Told.{HasMissed, HasTurned, OfFile, StoodAt}
 use Rattle.mibtm_audit.specs.Operands.{Named}
@@ -45,11 +46,6 @@ HasTablesCause other before now = ⊥
 abbrev pub Unread : {T : Type 0} → AuditCode → List ℕ → ShelfView T → Type 0
 Unread c folder tables =
     HasTablesCause c (tables.faults tables.before) (tables.faults tables.now) × IfSome (tables.holds tables.before) (λ files. Refuses c (sound_in files folder))
-
--- sound tables were had, those of the folder where they are told
-pub record Had {T : Type 0} (db : Database) (folder : List ℕ) (tables : ShelfView T) : Type 0 where
-  pub stood : HasStood tables
-  pub of_tables : IfSome (tables.holds tables.before) (λ files. sound_in files folder ≡ Ok db)
 
 -- ---- the script
 
@@ -170,4 +166,4 @@ ByScript c first names desk text feed out =
 abbrev pub Audited : {T D X F O : Type 0} → AuditCode → Named → ShelfView T → ShelfView D → ShelfView X → ShelfView F → SinkView O → Type 0
 Audited c names tables desk text feed out =
     (Unread c names.folder tables × IsUncalled desk × IsUncalled text × IsUncalled feed × IsUnwritten out)
-    ⊎ ((db : Database) × Had db names.folder tables × ByScript c db names desk text feed out)
+    ⊎ ((db : Database) × AreSound db names.folder tables × ByScript c db names desk text feed out)

@@ -6,6 +6,7 @@ use Rattle.mib_model.specs.declared.code.Input.TheVariants as input
 use Rattle.mib_model.specs.declared.code.Misuse.{Misuse}
 use Rattle.mib_model.specs.declared.database.Database.{Database}
 use Rattle.tool_objects.specs.Objects.{ShelfView, SinkView, HasStood, HasFailed, IsUncalled, IsUnwritten, HasBroken, IsHandedOn}
+use Rattle.tool_objects.specs.Opened.{AreSound}
 use Rattle.tool_objects.specs.Sources.{sound_in}
 use Rattle.tool_objects.specs.Told.{HasMissed, HasTurned, OfFile, StoodAt}
 use Rattle.mibtm_build.specs.declared.code.BuildCode.{BuildCode}
@@ -65,13 +66,8 @@ pub record RunsBy {D O : Type 0} (c : BuildCode) (db : Database) (name : List �
 abbrev pub Asks : {D O : Type 0} → BuildCode → Database → List ℕ → ShelfView D → SinkView O → Type 0
 Asks c db name asks out = (Unasked c name asks × IsUnwritten out) ⊎ RunsBy c db name asks out
 
--- sound tables were had, those of the folder where they are told
-pub record Had {T : Type 0} (db : Database) (folder : List ℕ) (tables : ShelfView T) : Type 0 where
-  pub stood : HasStood tables
-  pub of_tables : IfSome (tables.holds tables.before) (λ files. sound_in files folder ≡ Ok db)
-
 -- what a call says of its objects
 abbrev pub Built : {T D O : Type 0} → BuildCode → Named → ShelfView T → ShelfView D → SinkView O → Type 0
 Built c names tables asks out =
     (Unread c names.folder tables × IsUncalled asks × IsUnwritten out)
-    ⊎ ((db : Database) × Had db names.folder tables × Asks c db names.asks asks out)
+    ⊎ ((db : Database) × AreSound db names.folder tables × Asks c db names.asks asks out)

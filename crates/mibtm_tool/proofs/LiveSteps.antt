@@ -6,6 +6,7 @@ use Rattle.mib_model.specs.declared.code.Code.TheVariants as code
 use Rattle.mib_model.specs.declared.code.Input.TheVariants as input
 use Rattle.mib_model.specs.declared.database.Database.{Database}
 use Rattle.mib_model.specs.RegisterHistories.{RegisterHistory}
+use Rattle.mib_model.specs.Soundness.{IsSound}
 use Rattle.session.specs.Sources.{Files}
 use Rattle.live_session.specs.Live.{Lives, object}
 use Rattle.mibtm_tool.proofs.DecodeSteps.{fed}
@@ -22,7 +23,7 @@ stood_at holds name held start is told left = fed (λ at. start ≡ at) holds na
 
 module _ {T F D O P : Type 0} (folder name desk_name : List ℕ) (tables : ShelfView T) (before mid now : F) (holds : F → Option Files)
     (left : F → Option (List ℕ)) (faults missed : F → ℕ) (desk : ShelfView D) (out : SinkView O) (replies : SinkView P) (db : Database) (held : Bool)
-    (stood : HasStood tables) (read : IfSome (tables.holds tables.before) (λ files. sound_in files folder ≡ Ok db)) (is : held ≡ true)
+    (stood : HasStood tables) (sound : IsSound db) (read : IfSome (tables.holds tables.before) (λ files. sound_in files folder ≡ Ok db)) (is : held ≡ true)
     (told : IfSome (holds before) (λ files. held ≡ is_some (files name)))
     (starts : IfSome (holds before) (λ files. IfSome (files name) (λ octets. left mid ≡ Some octets)))
     (same : faults mid ≡ faults before) (turned : missed mid ≡ missed before) where
@@ -64,6 +65,7 @@ module _ {T F D O P : Type 0} (folder name desk_name : List ℕ) (tables : Shelf
     handed = said.handed;
     replied = said.replied;
     first = db;
+    is_sound = sound;
     octets = left mid;
     lines = said.lines;
     of_tables = read;

@@ -8,6 +8,7 @@ use Rattle.mib_model.specs.declared.code.Input.TheVariants as input
 use Rattle.mib_model.specs.declared.database.Database.{Database}
 use Rattle.mib_model.specs.declared.fault.MibFault.{MibFault}
 use Rattle.mib_model.specs.RegisterHistories.{RegisterHistory}
+use Rattle.mib_model.specs.Soundness.{IsSound}
 use Rattle.mib_model.specs.Summaries.{summary}
 use Rattle.edition_register.specs.declared.outcome.Closed.{Closed}
 use Rattle.live_session.specs.Live.{EndsAs, Object, object, Lives, StaysHandedOn}
@@ -139,7 +140,7 @@ abbrev pub StoodAt : {S : Type 0} → ShelfView S → List ℕ → Option (List 
 StoodAt s name start = OfFile s name (λ found. IsSomeAnd found (λ octets. start ≡ Some octets))
 
 -- a live run with this history left its objects so; the code and what it printed and replied are those of the definitions. It began with
--- one edition and with what feed and desk had left: those of the folder and of the files, where the shelves tell them. The code and the
+-- one sound edition and with what feed and desk had left: those of the folder and of the files, where the shelves tell them. The code and the
 -- counts of faults are tied to that run in any case
 pub record Lived {T F D O P : Type 0} (c : Code) (history : RegisterHistory) (names : Names) (s : Shelves T F D)
     (out : SinkView O) (replies : SinkView P) : Type 0 where
@@ -149,6 +150,7 @@ pub record Lived {T F D O P : Type 0} (c : Code) (history : RegisterHistory) (na
   pub handed : c ≢ code.OutFault → out.handed out.now ≡ out.written out.now
   pub replied : StaysHandedOn (replies.faults replies.before) (replies.faults replies.now) replies.written replies.handed replies.before replies.now
   pub first : Database
+  pub is_sound : IsSound first
   pub octets : Option (List ℕ)
   pub lines : Option (List ℕ)
   pub of_tables : IfSome (s.tables.holds s.tables.before) (λ files. sound_in files names.folder ≡ Ok first)

@@ -1,7 +1,9 @@
 // The file of the names of a page.
-ghost use Rattle.std.specs.Prelude.{◌≡◌, ◌≤◌, length, IfOk, IfErr, OnOk, IfSome, IsSomeAnd, Some};
+ghost use Rattle.std.specs.Prelude.{◌≡◌, ◌≤◌, ◌+◌, length, IfOk, IfErr, OnOk, IfSome, IsSomeAnd, Some};
 ghost use Rattle.display_pages.specs.declared.page.TheConstants.{MOST_CELLS};
 ghost use Rattle.page_files.specs.Files.{HasPageCause, IsPageOf, IsReadStop, RefusesFile, RefusesText, page_part, stop_code};
+ghost use Rattle.page_texts.specs.declared.page_file.TheConstants.{PAGE_FILE_MOST};
+ghost use Rattle.whole_texts.specs.Parts.{ConsumesAtMost, EndsInPart};
 
 use mib_model::Name;
 use page_texts::{BoardCode, BoardInput, PAGE_FILE_MOST, PageFileFault, names_in};
@@ -25,6 +27,7 @@ fn code_of(fault: TextFault) -> BoardCode
 // The text of the file that a shelf is turned to, as far as is read.
 fn read_part<S: Source>(alloc: Global, source: &mut S) -> Result<Vec<u8>, BoardCode>
     ensures told { IfOk result (λ text. IfSome (S.left source.old) (λ octets. text.items ≡ page_part octets)) }
+    ensures part { ConsumesAtMost (PAGE_FILE_MOST + 1) (S.left source.old) (S.left source.new) }
     ensures ok { OnOk result (S.faults source.new ≡ S.faults source.old) }
     ensures cause { IfErr result (λ code. HasPageCause code (S.faults source.old) (S.faults source.new)) }
     ensures stop { IfErr result IsReadStop }
@@ -53,6 +56,7 @@ fn read_names<S: Source>(alloc: Global, source: &mut S) -> Result<Vec<Name>, Boa
     ensures names { IfOk result (λ names. IfSome (S.left source.old) (IsPageOf names.items)) }
     ensures few { IfOk result (λ names. length names.items ≤ MOST_CELLS) }
     ensures refused { IfErr result (λ code. IfSome (S.left source.old) (λ octets. RefusesFile code (Some octets))) }
+    ensures part { ConsumesAtMost (PAGE_FILE_MOST + 1) (S.left source.old) (S.left source.new) }
     ensures ok { OnOk result (S.faults source.new ≡ S.faults source.old) }
     ensures cause { IfErr result (λ code. HasPageCause code (S.faults source.old) (S.faults source.new)) }
 {
@@ -66,6 +70,7 @@ pub fn page_names<P: Shelf>(alloc: Global, name: &str, page: &mut P) -> Result<V
     ensures names { IfOk result (λ names. IfSome (P.holds page.old) (λ files. IsSomeAnd (files name.now) (IsPageOf names.items))) }
     ensures few { IfOk result (λ names. length names.items ≤ MOST_CELLS) }
     ensures refused { IfErr result (λ code. IfSome (P.holds page.old) (λ files. RefusesFile code (files name.now))) }
+    ensures part { EndsInPart result (PAGE_FILE_MOST + 1) (P.holds page.old) name.now (P.left page.new) (P.missed page.old) (P.missed page.new) }
     ensures ok { OnOk result (P.faults page.new ≡ P.faults page.old) }
     ensures cause { IfErr result (λ code. HasPageCause code (P.faults page.old) (P.faults page.new)) }
 {

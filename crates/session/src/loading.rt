@@ -1,9 +1,12 @@
 // The tables of a folder, read in their order.
-ghost use Rattle.std.specs.Prelude.{◌≡◌, string_bytes, IfOk, IfErr, OnOk, IfSome, Ok};
+ghost use Rattle.std.specs.Prelude.{◌≡◌, ◌+◌, string_bytes, IfOk, IfErr, OnOk, IfSome, Ok};
 ghost use Rattle.mib_model.specs.Reading.{table_of};
 ghost use Rattle.mib_model.specs.TableLists.{kind_held, rows_held};
+ghost use Rattle.mib_model.specs.declared.kind.Kind.TheVariants as kind;
+ghost use Rattle.mib_model.specs.declared.limits.TheConstants.{TABLE_MOST};
 ghost use Rattle.session.specs.Causes.{HasLoadCause, IsTextStop};
 ghost use Rattle.session.specs.Sources.{Fills, Refuses, database_in, read_in, table_file};
+ghost use Rattle.whole_texts.specs.Parts.{ReadsPart};
 
 use crate::load_fault::LoadFault;
 use crate::text_file::read_file;
@@ -43,6 +46,7 @@ fn load_table<T: Shelf>(
     book: &mut Book,
 ) -> Result<(), LoadFault>
     ensures told { OnOk result (IfSome (T.holds tables.old) (λ files. Fills table (read_in files folder.now table) book.old book.new)) }
+    ensures part { OnOk result (ReadsPart (TABLE_MOST + 1) (T.holds tables.old) (table_file folder.now table) (T.left tables.new)) }
     ensures refused { IfErr result (λ fault. IfSome (T.holds tables.old) (λ files. Refuses fault (read_in files folder.now table))) }
     ensures ok { OnOk result (T.faults tables.new ≡ T.faults tables.old) }
     ensures cause { IfErr result (λ fault. HasLoadCause fault (T.faults tables.old) (T.faults tables.new)) }
@@ -60,6 +64,7 @@ fn load_table<T: Shelf>(
 /// such one; `Failed` comes just where the shelf's count of faults rose.
 pub fn load<T: Shelf>(alloc: Global, folder: &str, tables: &mut T) -> Result<Book, LoadFault>
     ensures told { IfOk result (λ book. IfSome (T.holds tables.old) (λ files. database_in files folder.now ≡ Ok book)) }
+    ensures last { OnOk result (ReadsPart (TABLE_MOST + 1) (T.holds tables.old) (table_file folder.now kind.Ocp) (T.left tables.new)) }
     ensures refused { IfErr result (λ fault. IfSome (T.holds tables.old) (λ files. Refuses fault (database_in files folder.now))) }
     ensures ok { OnOk result (T.faults tables.new ≡ T.faults tables.old) }
     ensures cause { IfErr result (λ fault. HasLoadCause fault (T.faults tables.old) (T.faults tables.new)) }

@@ -1,12 +1,14 @@
 -- What is said of an input that was had, or was not to be had. [This profile.]
 use Rattle.std.specs.Prelude.{◌≡◌, ◌⊎◌, ℕ, List, None, Ok, IfSome}
 use Rattle.mib_model.specs.declared.database.Database.{Database}
+use Rattle.mib_model.specs.Soundness.{IsSound}
 use Rattle.tool_objects.specs.Objects.{HasStood, ShelfView}
 use Rattle.tool_objects.specs.Sources.{sound_in}
 use Rattle.tool_objects.specs.Told.{HasMissed, HasTurned, OfFile, StoodAt}
 
 -- sound tables were had, those of the folder where they are told
 pub record AreSound {T : Type 0} (db : Database) (folder : List ℕ) (tables : ShelfView T) : Type 0 where
+  pub is_sound : IsSound db
   pub stood : HasStood tables
   pub of_tables : IfSome (tables.holds tables.before) (λ files. sound_in files folder ≡ Ok db)
 

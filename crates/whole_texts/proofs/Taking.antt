@@ -1,8 +1,9 @@
 -- What was taken of a source.
-use Rattle.std.proofs.Common.{◌≡◌, ◌≤◌, ℕ, List, [], ◌++◌, length, take, Option, Some, None, IfSome, sym, ap, ◌∙◌, append-nil, subst}
+use Rattle.std.proofs.Common.{◌≡◌, ◌≤◌, ℕ, ◌+◌, List, [], ◌++◌, length, take, Option, Some, None, IfSome, sym, ap, ◌∙◌, append-nil, subst, arith, length-append}
 use Rattle.std.proofs.lemmas.List.{take_all, take_at}
 use Rattle.std.proofs.KnownBytes.{Consumes-trans}
 use Rattle.std.specs.Io.KnownBytes.{Consumes, IsAtEnd}
+use Rattle.whole_texts.specs.Parts.{ConsumesAtMost}
 
 -- up to its end
 pub read-to-end : (most : ℕ) (old new : Option (List ℕ)) (text : List ℕ) → Consumes old new text → IsAtEnd new → length text ≤ most
@@ -21,3 +22,7 @@ read-full most (Some octets) (Some left) text taken full = sym (ap (take most) t
 -- no octet more
 pub taken-none : (old mid new : Option (List ℕ)) (text : List ℕ) → Consumes old mid text → Consumes mid new [] → Consumes old new text
 taken-none old mid new text taken none = subst (Consumes old new) (append-nil text) (Consumes-trans old mid new text [] taken none)
+
+-- a further piece, within what may be read
+pub taken-more : (most : ℕ) (old mid new : Option (List ℕ)) (text piece : List ℕ) → Consumes old mid text → Consumes mid new piece → length text + length piece ≤ most → ConsumesAtMost most old new
+taken-more most old mid new text piece taken more few = (text ++ piece, omega (arith, few, length-append text piece), Consumes-trans old mid new text piece taken more)

@@ -1,5 +1,7 @@
+ghost use Rattle.std.specs.Io.KnownBytes.{Consumes};
 ghost use Rattle.std.specs.Prelude.{◌≡◌, ◌≤◌, length, take, vec_len, IfOk, IfErr, OnOk, IfSome};
 ghost use Rattle.whole_texts.specs.Causes.{HasTextCause};
+ghost use Rattle.whole_texts.specs.Parts.{ConsumesAtMost};
 
 use crate::text_fault::TextFault;
 use std::alloc::{AllocError, Global};
@@ -25,6 +27,9 @@ fn read_into<S: Source>(
     requires room { 1 ≤ length chunk.old }
     requires empty { vec_len text.old ≡ 0 }
     ensures told { OnOk result (IfSome (S.left source.old) (λ octets. text.new.items ≡ take most octets)) }
+    ensures taken { OnOk result (Consumes (S.left source.old) (S.left source.new) text.new.items) }
+    ensures few { OnOk result (vec_len text.new ≤ most) }
+    ensures part { ConsumesAtMost most (S.left source.old) (S.left source.new) }
     ensures ok { OnOk result (S.faults source.new ≡ S.faults source.old) }
     ensures cause { IfErr result (λ fault. HasTextCause fault (S.faults source.old) (S.faults source.new)) }
     ensures holds { S.holds source.new ≡ S.holds source.old }
@@ -41,13 +46,16 @@ fn read_into<S: Source>(
     Ok(())
 }
 
-/// What a source has left, up to so many octets. Behind an error some of it was read.
+/// What a source has left, up to so many octets: no more of it is read, behind an error too.
 pub fn read_up_to<S: Source>(
     alloc: Global,
     source: &mut S,
     most: usize,
 ) -> Result<Vec<u8>, TextFault>
     ensures told { IfOk result (λ text. IfSome (S.left source.old) (λ octets. text.items ≡ take most octets)) }
+    ensures taken { IfOk result (λ text. Consumes (S.left source.old) (S.left source.new) text.items) }
+    ensures few { IfOk result (λ text. vec_len text ≤ most) }
+    ensures part { ConsumesAtMost most (S.left source.old) (S.left source.new) }
     ensures ok { OnOk result (S.faults source.new ≡ S.faults source.old) }
     ensures cause { IfErr result (λ fault. HasTextCause fault (S.faults source.old) (S.faults source.new)) }
     ensures holds { S.holds source.new ≡ S.holds source.old }

@@ -12,7 +12,7 @@ returns-in-Ok-true-clause-lives g c =
     (shelf c.args.desk.now c.live_beside.new.desk g.D.Source.holds g.D.Source.left g.D.Source.faults g.D.Source.missed)
     (sink c.args.out.now c.live_beside.new.out g.O.Sink.written g.O.Sink.handed g.O.Sink.faults)
     (sink c.args.replies.now c.live_beside.new.replies g.P.Sink.written g.P.Sink.handed g.P.Sink.faults)
-    c.in-Ok.edition c.in-Ok-true.field-0 c.in-Ok.ensures.ok c.in-Ok.ensures.told c.in-Ok-true.field-0-test
+    c.in-Ok.edition c.in-Ok-true.field-0 c.in-Ok.ensures.ok c.in-Ok.ensures.sound c.in-Ok.ensures.told c.in-Ok-true.field-0-test
     c.in-Ok-true.ensures.held c.in-Ok-true.ensures.left c.in-Ok-true.ensures.cause.ok c.in-Ok-true.ensures.missed.ok
     c.live_beside.result.code (option_map history_of c.live_beside.result.closed) c.live_beside.ensures.lives
 
