@@ -16,4 +16,4 @@ pub desk_send : IsSend Desk.the_row
 desk_send = search (book-send, edition-sync, edition-send, crosses, sendable) depth 60 fits 20000
 
 pub seated_send : IsSend SeatedDesk.the_row
-seated_send = search (desk_send, seat.the_send, slot.the_send, editions.the_send, room_send, book-send, edition-send, edition-sync, crosses, sendable) depth 60 fits 20000
+seated_send = search (seat.the_send, slot.the_send, editions.the_send, room_send, book-send, edition-send, edition-sync, crosses, sendable) depth 60 fits 20000

@@ -11,19 +11,19 @@ use Rattle.tool_objects.specs.Told.{HasTurned}
 use Rattle.tool_words.specs.Panels.{words_by}
 use Rattle.desk_panel_tool.proofs.panel.panel.Goals as goal
 
-pub returns-in-Ok-Ok-clause-panels : goal.returns-in-Ok-Ok-clause-panels
-returns-in-Ok-Ok-clause-panels g c =
-    let at = c.open_inputs.new in let ran = c.panel_run in let lived = c.in-Ok-Ok.ensures in let old = at.desks in let new = ran.new.stations in
+pub returns-in-Ok-panel_run-clause-panels : goal.returns-in-Ok-panel_run-clause-panels
+returns-in-Ok-panel_run-clause-panels g c =
+    let at = c.open_inputs.new in let ran = c.panel_run in let lived = c.in-Ok-panel_run.ensures in let old = at.desks in let new = ran.new.stations in
     let holds = g.D.Source.holds in let left = g.D.Source.left in let faults = g.D.Source.faults in let missed = g.D.Source.missed in
     let written = g.R.Sink.written in let handed = g.R.Sink.handed in let failed = g.R.Sink.faults in
     paneled holds left faults missed written handed failed
     c.args.feed.now at.feed ran.new.feed g.F.Source.holds g.F.Source.left g.F.Source.faults g.F.Source.missed
-    c.in-Ok-Ok.code (words_by c.args.request.now) c.in-Ok.first
+    c.in-Ok-panel_run.code (words_by c.args.request.now) c.in-Ok.first
     (shelf c.args.tables.now at.tables g.T.Source.holds g.T.Source.left g.T.Source.faults g.T.Source.missed)
     (sink c.args.out.now ran.new.out g.O.Sink.written g.O.Sink.handed g.O.Sink.faults)
     c.args.desks.now old new
     (c.requires.desks ∙ sym (length-map c.args.request.now.desks.items _)) c.open_inputs.auto.desks (ran.auto.stations ∙ c.open_inputs.auto.desks)
-    (Some (history_of c.in-Ok-Ok.closed)) c.in-Ok.ensures.opened (record {
+    (Some (history_of c.in-Ok-panel_run.closed)) c.in-Ok.ensures.opened (record {
       feed_turned = ran.ensures.feed_kept.1;
       desks_turned = each-view holds left faults missed written handed failed _ (λ s. HasTurned s.desk) (λ a b kept. kept.1) old new ran.ensures.desks_kept;
       handed = lived.handed;
@@ -33,12 +33,12 @@ returns-in-Ok-Ok-clause-panels g c =
       lives = lived.lives.lives;
     })
 
-pub returns-in-Ok-Err-clause-panels : goal.returns-in-Ok-Err-clause-panels
-returns-in-Ok-Err-clause-panels g c =
-    let at = c.open_inputs.new in let ran = c.panel_run in let same = c.in-Ok-Err.ensures.untouched in
+pub returns-in-Err-panel_run-clause-panels : goal.returns-in-Err-panel_run-clause-panels
+returns-in-Err-panel_run-clause-panels g c =
+    let at = c.open_inputs.new in let ran = c.panel_run in let same = c.in-Err-panel_run.ensures.untouched in
     let holds = g.D.Source.holds in let left = g.D.Source.left in let faults = g.D.Source.faults in let missed = g.D.Source.missed in
     let written = g.R.Sink.written in let handed = g.R.Sink.handed in let failed = g.R.Sink.faults in
-    rw (c.unopened-in-Ok-Err.ensures.code, c.unopened-in-Ok-Err.ensures.closed)
+    rw (c.unopened.ensures.code, c.unopened.ensures.closed)
     (paneled holds left faults missed written handed failed
     c.args.feed.now at.feed ran.new.feed g.F.Source.holds g.F.Source.left g.F.Source.faults g.F.Source.missed
     code.Want (words_by c.args.request.now) c.in-Ok.first

@@ -7,8 +7,8 @@ use Rattle.live_board_tool.specs.Board.{RanBy}
 use Rattle.live_board_tool.proofs.BoardFacts.{boarded}
 use Rattle.live_board_tool.proofs.board.board.Goals as goal
 
-pub returns-in-Ok-Ok-clause-boards : goal.returns-in-Ok-Ok-clause-boards
-returns-in-Ok-Ok-clause-boards g c =
+pub returns-in-Ok-open_display-clause-boards : goal.returns-in-Ok-open_display-clause-boards
+returns-in-Ok-open_display-clause-boards g c =
     let at = c.open_inputs.new in let ran = c.run_picked in let closed = option_map history_of ran.result.closed in
     let out = sink c.args.out.now ran.new.out g.O.Sink.written g.O.Sink.handed g.O.Sink.faults in
     let replies = sink c.args.replies.now ran.new.replies g.R.Sink.written g.R.Sink.handed g.R.Sink.faults in
@@ -22,12 +22,12 @@ returns-in-Ok-Ok-clause-boards g c =
     (subst (λ (names : List (List ℕ)). RanBy ran.result.code closed c.in-Ok.first names
     (shelf at.feed ran.new.feed g.F.Source.holds g.F.Source.left g.F.Source.faults g.F.Source.missed)
     (shelf at.desk ran.new.desk g.D.Source.holds g.D.Source.left g.D.Source.faults g.D.Source.missed) out replies screen)
-    c.in-Ok-Ok.ensures.names ran.ensures.ran)
+    c.in-Ok-open_display.ensures.names ran.ensures.ran)
 
-pub returns-in-Ok-Err-clause-boards : goal.returns-in-Ok-Err-clause-boards
-returns-in-Ok-Err-clause-boards g c =
+pub returns-in-Err-open_display-clause-boards : goal.returns-in-Err-open_display-clause-boards
+returns-in-Err-open_display-clause-boards g c =
     let at = c.open_inputs.new in
-    rw (c.unopened-in-Ok-Err.ensures.code, c.unopened-in-Ok-Err.ensures.closed)
+    rw (c.unopened.ensures.code, c.unopened.ensures.closed)
     (boarded c.args.feed.now at.feed at.feed c.args.desk.now at.desk at.desk
     g.F.Source.holds g.F.Source.left g.F.Source.faults g.F.Source.missed g.D.Source.holds g.D.Source.left g.D.Source.faults g.D.Source.missed
     code.Want (words_by c.args.call.now.request) c.in-Ok.first c.in-Ok.names.items
