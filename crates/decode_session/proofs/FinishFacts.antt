@@ -1,19 +1,18 @@
 -- Records of packets of one edition, in parts.
-use Rattle.std.proofs.Common.{◌≡◌, ◌<◌, ◌+◌, ℕ, Bool, zero, suc, List, [], ◌∷◌, ◌++◌, Option, Some, None, true, cond, ◌==◌, length, take, drop, get_or, refl, sym, ap, ◌∙◌, append-nil, append_assoc, zero-add, arith, subst}
-use Rattle.std.proofs.lemmas.List.{take_more, map-append, take-append-drop}
+use Rattle.std.proofs.Common.{◌≡◌, ◌+◌, ℕ, Bool, zero, suc, List, [], ◌∷◌, ◌++◌, Option, Some, None, true, cond, ◌==◌, length, take, refl, sym, ap, ◌∙◌, append-nil, zero-add, arith, subst}
+use Rattle.std.specs.List.{All}
+use Rattle.std.proofs.lemmas.List.Elements.{All-cons, All-nil}
 use Rattle.std.proofs.lemmas.Grind.{flat_map-append}
 use Rattle.std.proofs.KnownBytes.{Appends-trans}
 use Rattle.std.specs.Io.KnownBytes.{Appends}
 use Rattle.tm_io.specs.Octets.{AppendsPrefix}
-use Rattle.decode_one.specs.Steps.{ComesTo, HasStepped, HasSteppedFor}
-use Rattle.decode_session.specs.declared.cell.Cell.{Cell}
-use Rattle.decode_session.specs.Cells.{packet_in, stamped_cell, all_stamped}
+use Rattle.decode_one.specs.Steps.{ComesTo, ComeTo, HasStepped, HasSteppedFor, IsOf}
 use Rattle.decode_session.specs.Finishing.{standing, next_text, batch_text, Leaves, LeavesAfter}
-use Rattle.decode_session.specs.Moving.{Moves}
 use Rattle.mib_laws.proofs.RunFacts.{interpret-append}
 use Rattle.mib_model.specs.declared.database.Database.{Database}
 use Rattle.mib_model.specs.Interpreter.{Course, StampedPacket, record_for, course_after, interpret, course_after_all, records_text}
 use Rattle.mib_model.specs.Kept.{Memory}
+use Rattle.mib_model.specs.Output.{stamped_first, stamped_from}
 use Rattle.mib_model.specs.Texts.{edition_text_of, record_text, record_body}
 
 -- ---- one packet
@@ -48,18 +47,6 @@ module _ (edition : ℕ) (db : Database) (memory : Memory) where
       → HasStepped (standing edition db memory) (numbered edition db number packet) after old new → Leaves edition db memory (numbered edition db number packet) after
   unfolding course_after
   step-leaves after number packet old new step = ap (standing edition db) (sym step.memory)
-
-  -- the interpreter comes to the packet of a cell
-  pub comes : (cell : Cell) (packet : List ℕ) → packet ≡ packet_in cell → ComesTo (standing edition db memory) (stamped_cell edition db cell) cell.number packet db memory
-  comes cell packet is = comes-to cell.number (packet_in cell) packet is
-
-  pub stepped-text : (after : Memory) (cell : Cell) (old new : List ℕ)
-      → HasStepped (standing edition db memory) (stamped_cell edition db cell) after old new → new ≡ old ++ next_text edition db memory (stamped_cell edition db cell)
-  stepped-text after cell old new step = step-text after cell.number (packet_in cell) old new step
-
-  pub stepped-leaves : (after : Memory) (cell : Cell) (old new : List ℕ)
-      → HasStepped (standing edition db memory) (stamped_cell edition db cell) after old new → Leaves edition db memory (stamped_cell edition db cell) after
-  stepped-leaves after cell old new step = step-leaves after cell.number (packet_in cell) old new step
 
 -- ---- packets
 
@@ -96,6 +83,22 @@ pub leaves-append : (edition : ℕ) (db : Database) (memory middle after : Memor
 leaves-append edition db memory middle after first others leaves more =
     more ∙ ap (λ (c : Course). course_after_all c others) leaves ∙ sym (course-append (standing edition db memory) first others)
 
+-- what is kept after packets that come there is known
+pub leaves-run : (db : Database) (number : ℕ) (packets : List (List ℕ)) (memory : Memory)
+    → LeavesAfter 1 db memory (stamped_from db number packets) (course_after_all (standing 1 db memory) (stamped_from db number packets)).memory
+unfolding stamped_from course_after_all course_after
+leaves-run db number [] memory = refl
+leaves-run db number (p ∷ ps) memory = leaves-run db (number + 1) ps (course_after (standing 1 db memory) (stamped_first db (number, p))).memory
+
+stamped-of : (db : Database) (number : ℕ) (packets : List (List ℕ)) → All (IsOf 1 db) (stamped_from db number packets)
+unfolding stamped_from
+stamped-of db number [] = All-nil (IsOf 1 db)
+stamped-of db number (p ∷ ps) = All-cons (IsOf 1 db) (stamped_first db (number, p)) (stamped_from db (number + 1) ps) (record { edition = refl; tables = refl }) (stamped-of db (number + 1) ps)
+
+-- the interpreter comes to packets
+pub come-to : (db : Database) (number : ℕ) (packets : List (List ℕ)) (memory : Memory) → ComeTo (standing 1 db memory) (stamped_from db number packets) db memory
+come-to db number packets memory = record { tables = refl; memory = refl; packets = stamped-of db number packets }
+
 -- ---- a first part of a text
 
 take-less : (xs ys : List ℕ) (n : ℕ) → (k : ℕ) × (take k (xs ++ ys) ≡ take n xs)
@@ -115,67 +118,3 @@ part-behind text tail old mid new wrote (count, printed) =
     take-behind : (xs ys : List ℕ) (n : ℕ) → take (length xs + n) (xs ++ ys) ≡ xs ++ take n ys
     take-behind [] ys n = ap (λ k. take k ys) (zero-add n)
     take-behind (x ∷ xs) ys n = let next : suc (length xs) + n ≡ suc (length xs + n) = omega arith in rw next (ap (λ t. x ∷ t) (take-behind xs ys n))
-
--- ---- cells in their order
-
-stamped-more : (edition : ℕ) (db : Database) (cells : List Cell) (i : ℕ) (cell : Cell) → i < length cells → cell ≡ get_or cells i cell
-    → all_stamped edition db (take (i + 1) cells) ≡ all_stamped edition db (take i cells) ++ stamped_cell edition db cell ∷ []
-stamped-more edition db cells i cell below is =
-    ap (all_stamped edition db) (take_more cells i cell below) ∙ map-append (stamped_cell edition db) (take i cells) (get_or cells i cell ∷ [])
-    ∙ ap (λ x. all_stamped edition db (take i cells) ++ stamped_cell edition db x ∷ []) (sym is)
-
-module _ (edition : ℕ) (db : Database) (memory middle : Memory) (cells : List Cell) (i : ℕ) (cell : Cell) (below : i < length cells) (is : cell ≡ get_or cells i cell) (leaves : LeavesAfter edition db memory (all_stamped edition db (take i cells)) middle) where
-  text-push : batch_text edition db memory (all_stamped edition db (take i cells) ++ stamped_cell edition db cell ∷ []) ≡ batch_text edition db memory (all_stamped edition db (take i cells)) ++ next_text edition db middle (stamped_cell edition db cell)
-  text-push =
-      text-append edition db memory middle (all_stamped edition db (take i cells)) (stamped_cell edition db cell ∷ []) leaves
-      ∙ ap (λ t. batch_text edition db memory (all_stamped edition db (take i cells)) ++ t) (text-one edition db middle (stamped_cell edition db cell))
-
-  -- the text of one cell more
-  pub text-more : batch_text edition db memory (all_stamped edition db (take (i + 1) cells))
-      ≡ batch_text edition db memory (all_stamped edition db (take i cells)) ++ next_text edition db middle (stamped_cell edition db cell)
-  text-more = ap (batch_text edition db memory) (stamped-more edition db cells i cell below is) ∙ text-push
-
-  pub leaves-more : (after : Memory) → Leaves edition db middle (stamped_cell edition db cell) after → LeavesAfter edition db memory (all_stamped edition db (take (i + 1) cells)) after
-  leaves-more after next =
-      subst (λ s. LeavesAfter edition db memory s after) (sym (stamped-more edition db cells i cell below is))
-      (leaves-append edition db memory middle after (all_stamped edition db (take i cells)) (stamped_cell edition db cell ∷ []) leaves (leaves-one edition db middle after (stamped_cell edition db cell) next))
-
--- ---- text that moves to an output
-
--- more was appended to what is left
-pub moves-more : (text left more longer : List ℕ) (old new : Option (List ℕ)) → Moves text left old new → longer ≡ text ++ more → Moves longer (left ++ more) old new
-moves-more text left more longer old new moved is =
-    record {
-      first = moved.first;
-      parts = is ∙ (ap (λ t. t ++ more) moved.parts ∙ append_assoc moved.first left more);
-      wrote = moved.wrote;
-    }
-
--- a first part of what was left was written
-pub moves-on : (text left rest : List ℕ) (old mid new : Option (List ℕ)) → Moves text left old mid → Moves left rest mid new → Moves text rest old new
-moves-on text left rest old mid new moved next =
-    record {
-      first = moved.first ++ next.first;
-      parts = moved.parts ∙ (ap (λ t. moved.first ++ t) next.parts ∙ sym (append_assoc moved.first next.first rest));
-      wrote = Appends-trans old mid new moved.first next.first moved.wrote next.wrote;
-    }
-
--- all that was left was written
-pub moved-all : (text left : List ℕ) (old mid new : Option (List ℕ)) → Moves text left old mid → Appends mid new left → Appends old new text
-moved-all text left old mid new moved wrote = subst (Appends old new) (sym moved.parts) (Appends-trans old mid new moved.first left moved.wrote wrote)
-
--- writing stopped in what was left
-pub moved-part : (text left : List ℕ) (old mid new : Option (List ℕ)) → Moves text left old mid → AppendsPrefix mid new left → AppendsPrefix old new text
-moved-part text left old mid new moved wrote = subst (AppendsPrefix old new) (sym moved.parts) (part-behind moved.first left old mid new moved.wrote wrote)
-
--- a first part of the text of the first cells is one of the text of all
-pub part-of-all : (edition : ℕ) (db : Database) (memory middle : Memory) (cells : List Cell) (i : ℕ) (old new : Option (List ℕ))
-    → LeavesAfter edition db memory (all_stamped edition db (take i cells)) middle
-    → AppendsPrefix old new (batch_text edition db memory (all_stamped edition db (take i cells))) → AppendsPrefix old new (batch_text edition db memory (all_stamped edition db cells))
-part-of-all edition db memory middle cells i old new leaves wrote =
-    let others = all_stamped edition db (drop i cells) in
-    let parts : batch_text edition db memory (all_stamped edition db cells) ≡ batch_text edition db memory (all_stamped edition db (take i cells)) ++ batch_text edition db middle others =
-    ap (λ s. batch_text edition db memory (all_stamped edition db s)) (sym (take-append-drop i cells))
-    ∙ ap (batch_text edition db memory) (map-append (stamped_cell edition db) (take i cells) (drop i cells))
-    ∙ text-append edition db memory middle (all_stamped edition db (take i cells)) others leaves in
-    subst (AppendsPrefix old new) (sym parts) (part-longer (batch_text edition db memory (all_stamped edition db (take i cells))) (batch_text edition db middle others) old new wrote)

@@ -1,6 +1,6 @@
-pub mod CellFacts
 pub mod FinishFacts
 pub mod BatchFacts
+pub mod AheadFacts
 pub mod TurnFacts
 pub mod RunSteps
 pub mod SharedPlans

@@ -1,26 +1,24 @@
--- A run, batch by batch.
+-- A run, step by step.
 use Rattle.std.proofs.Common.{◌≡◌, ◌≢◌, ◌<◌, ◌≤◌, ◌+◌, ℕ, zero, suc, List, [], ◌∷◌, ◌++◌, Option, Some, None, Result, Ok, Err, length, take, refl, sym, ap, ◌∙◌, append_assoc, append-nil, length-append, arith, subst, ◌⊎◌, inl, inr}
-use Rattle.std.specs.List.{All, AllZip, concat}
+use Rattle.std.specs.Prelude.{IfSome}
+use Rattle.std.specs.List.{All, concat}
 use Rattle.std.proofs.lemmas.List.{take_at}
-use Rattle.std.proofs.lemmas.List.Elements.{All-append, All-nil, All-cons}
+use Rattle.std.proofs.lemmas.List.Elements.{All-append, All-nil}
 use Rattle.std.proofs.lemmas.List.Folds.{concat-append}
 use Rattle.std.proofs.KnownBytes.{Appends-trans, Appends-nil}
 use Rattle.std.specs.Io.KnownBytes.{Appends, Consumes, IsAtEnd}
 use Rattle.tm_io.specs.Causes.{Rose}
 use Rattle.tm_io.specs.Octets.{AppendsPrefix}
 use Rattle.packet_feed.specs.Feed.{TookRest, TookLast}
-use Rattle.decode_one.specs.Halves.{IsHalf}
 use Rattle.decode_session.specs.declared.batch.Filled.{Filled}
 use Rattle.decode_session.specs.declared.batch.Filled.TheVariants as filled
-use Rattle.decode_session.specs.declared.cell.Cell.{Cell}
 use Rattle.decode_session.specs.declared.ending.RunEnd.{RunEnd}
 use Rattle.decode_session.specs.declared.ending.RunEnd.TheVariants as end
 use Rattle.decode_session.specs.declared.ending.RunFault.{RunFault}
 use Rattle.decode_session.specs.declared.ending.RunFault.TheVariants as fault
 use Rattle.decode_session.specs.declared.ending.Stop.TheVariants as stop
-use Rattle.decode_session.specs.Batches.{AreRead, EndsBatch}
+use Rattle.decode_session.specs.Batches.{EndsBatch}
 use Rattle.decode_session.specs.Causes.{HasFillCause, HasFeedCause}
-use Rattle.decode_session.specs.Cells.{packets_in, all_stamped, IsDecoded, IsReady}
 use Rattle.decode_session.specs.Finishing.{batch_text, LeavesAfter, Going}
 use Rattle.decode_session.specs.Run.{Ran, Says, EndsBy, EndsWhole, EndsCut, EndsAtLimit, EndsUnread, EndsUnwritten, EndsWanting, Writes, WritesPart, WritesOver, ReadsNoFurther, StopsWriting}
 use Rattle.decode_session.proofs.BatchFacts.{stamped-append}
@@ -133,27 +131,6 @@ rest_text-some : (rest : List ℕ) (cut : ℕ) → length rest ≡ cut → 0 < c
 rest_text-some [] cut size some = absurd (omega (arith, size, some))
 rest_text-some (b ∷ rest) cut size some = ap cut_text size
 
-packets-count : (cells : List Cell) → length (packets_in cells) ≡ length cells
-packets-count [] = refl
-packets-count (c ∷ cs) = ap suc (packets-count cs)
-
--- ---- cells that were decoded
-
-pub ready-all : (db : Database) (cells done : List Cell) → AllZip (IsDecoded db) cells done → All (IsReady db) done
-ready-all db [] [] decoded = All-nil (IsReady db)
-ready-all db [] (d ∷ ds) decoded = absurd decoded
-ready-all db (c ∷ cs) [] decoded = absurd decoded
-ready-all db (c ∷ cs) (d ∷ ds) decoded =
-    All-cons (IsReady db) d ds (subst (λ packet. IsHalf db packet d.buffers.value.half d.buffers.value.slots) (sym decoded.0.same_packet) decoded.0.is_half) (ready-all db cs ds decoded.1)
-
--- decoding leaves their packets as they are
-pub stamped-same : (edition : ℕ) (db : Database) (cells done : List Cell) → AllZip (IsDecoded db) cells done → all_stamped edition db done ≡ all_stamped edition db cells
-stamped-same edition db [] [] decoded = refl
-stamped-same edition db [] (d ∷ ds) decoded = absurd decoded
-stamped-same edition db (c ∷ cs) [] decoded = absurd decoded
-stamped-same edition db (c ∷ cs) (d ∷ ds) decoded =
-    (λ i. record { number = decoded.0.same_number i; packet = decoded.0.same_packet i; edition = edition; tables = db } ∷ stamped-same edition db cs ds decoded.1 i)
-
 -- ---- a run that goes on
 
 pub going-start : (db : Database) (memory : Memory) (left old : Option (List ℕ)) → memory ≡ empty_memory → Going db 1 memory left left old old
@@ -165,9 +142,15 @@ going-start db memory (Some octets) old none =
 pub going-same : (db : Database) (number : ℕ) (memory : Memory) (start left old mid new : Option (List ℕ)) → new ≡ mid → Going db number memory start left old mid → Going db number memory start left old new
 going-same db number memory start left old mid new same so_far = rw same so_far
 
+-- nothing was read behind packets
+pub going-paused : (db : Database) (number : ℕ) (memory : Memory) (packets : List (List ℕ)) (start left after old new : Option (List ℕ)) → IfSome start (λ octets. EndsBatch filled.Paused packets left after)
+    → Going db number memory start left old new → Going db number memory start after old new
+going-paused db number memory packets None left after old new ends so_far = tt
+going-paused db number memory packets (Some octets) left after old new ends so_far = subst (λ l. Going db number memory (Some octets) l old new) (sym ends.0) so_far
+
 module _ (db : Database) (number : ℕ) (memory : Memory) where
   -- packets more
-  pub going-more : (more : List (List ℕ)) (after : Memory) (start left middle old mid new : Option (List ℕ)) → All IsPacket more → Consumes left middle (concat more)
+  pub going-more : (more : List (List ℕ)) (after : Memory) (start left middle old mid new : Option (List ℕ)) → All IsPacket more → IfSome start (λ octets. Consumes left middle (concat more))
       → Appends mid new (batch_text 1 db memory (stamped_from db number more)) → LeavesAfter 1 db memory (stamped_from db number more) after
       → Going db number memory start left old mid → Going db (number + length more) after start middle old new
   going-more more after None left middle old mid new are taken printed leaves so_far = tt
@@ -183,20 +166,6 @@ module _ (db : Database) (number : ℕ) (memory : Memory) where
             (Appends-trans old mid new (output_of_one db packets []) (batch_text 1 db memory (stamped_from db number more)) wrote printed),
         kept-more db packets more number memory after kept count leaves,
       )
-
-module _ (db : Database) (number : ℕ) (memory : Memory) (cells done : List Cell) (decoded : AllZip (IsDecoded db) cells done) where
-  -- the cells' packets are numbered from this number on
-  numbered : (left mid : Option (List ℕ)) → AreRead number cells left mid → all_stamped 1 db done ≡ stamped_from db number (packets_in cells)
-  numbered left mid are = stamped-same 1 db cells done decoded ∙ are.numbered db
-
-  -- a batch more
-  pub going-batch : (after : Memory) (start left middle old mid new : Option (List ℕ)) → AreRead number cells left middle → Appends mid new (batch_text 1 db memory (all_stamped 1 db done)) → LeavesAfter 1 db memory (all_stamped 1 db done) after
-      → Going db number memory start left old mid → Going db (number + length cells) after start middle old new
-  going-batch after start left middle old mid new are printed leaves so_far =
-      let is = numbered left middle are in
-      subst (λ n. Going db (number + n) after start middle old new) (packets-count cells)
-      (going-more db number memory (packets_in cells) after start left middle old mid new are.are_packets are.taken
-      (subst (λ s. Appends mid new (batch_text 1 db memory s)) is printed) (subst (λ s. LeavesAfter 1 db memory s after) is leaves) so_far)
 
 -- ---- a run that ends
 
@@ -221,7 +190,7 @@ ran-unhanded db number before now memory (Some octets) (Some left) old new few s
     )
 
 pub ran-whole : (db : Database) (number : ℕ) (memory : Memory) (start left after old new : Option (List ℕ)) → number ≤ 1000000000
-    → IsAtEnd left × Consumes left after [] → Going db number memory start left old new → Ran EndsWhole db start after old new
+    → IfSome start (λ octets. IsAtEnd left × Consumes left after []) → Going db number memory start left old new → Ran EndsWhole db start after old new
 ran-whole db number memory None left after old new few ends so_far = tt
 ran-whole db number memory (Some octets) None after old new few ends so_far = absurd so_far
 ran-whole db number memory (Some octets) (Some left) None old new few ends so_far = absurd ends.1
@@ -238,7 +207,7 @@ ran-limit db number memory (Some octets) (Some left) old new last so_far =
     (concat packets, packets, [], whole, packets-cut packets each, (refl, omega (arith, count, last), wrote))
 
 pub ran-fault : (db : Database) (number : ℕ) (memory : Memory) (start left after old new : Option (List ℕ)) → number ≤ 1000000000
-    → TookRest left after → Going db number memory start left old new → Ran EndsUnread db start after old new
+    → IfSome start (λ octets. TookRest left after) → Going db number memory start left old new → Ran EndsUnread db start after old new
 ran-fault db number memory None left after old new few took so_far = tt
 ran-fault db number memory (Some octets) None after old new few took so_far = absurd so_far
 ran-fault db number memory (Some octets) (Some left) None old new few took so_far = absurd took.2
@@ -248,7 +217,7 @@ ran-fault db number memory (Some octets) (Some left) (Some after) old new few to
     (concat packets ++ rest, packets, rest, read_whole octets left rest after packets whole taken, rest-cut packets rest each none, (omega (arith, count, few), wrote))
 
 pub ran-cut : (db : Database) (number cut : ℕ) (memory : Memory) (start left after old mid new : Option (List ℕ)) → number ≤ 1000000000
-    → TookLast cut left after → Appends mid new (cut_text cut) → Going db number memory start left old mid → Ran (EndsCut cut) db start after old new
+    → IfSome start (λ octets. TookLast cut left after) → Appends mid new (cut_text cut) → Going db number memory start left old mid → Ran (EndsCut cut) db start after old new
 ran-cut db number cut memory None left after old mid new few took printed so_far = tt
 ran-cut db number cut memory (Some octets) None after old mid new few took printed so_far = absurd so_far
 ran-cut db number cut memory (Some octets) (Some left) None old mid new few took printed so_far = absurd took.4
@@ -265,7 +234,7 @@ ran-cut db number cut memory (Some octets) (Some left) (Some after) old mid new 
 
 -- writing stopped in the line of the rest
 pub ran-stopped_at_rest : (db : Database) (number cut before now : ℕ) (memory : Memory) (start left after old mid new : Option (List ℕ)) → number ≤ 1000000000
-    → TookLast cut left after → now ≡ before → AppendsPrefix mid new (cut_text cut) → Going db number memory start left old mid → Ran (EndsUnwritten before now) db start after old new
+    → IfSome start (λ octets. TookLast cut left after) → now ≡ before → AppendsPrefix mid new (cut_text cut) → Going db number memory start left old mid → Ran (EndsUnwritten before now) db start after old new
 ran-stopped_at_rest db number cut before now memory None left after old mid new few took same stopped so_far = tt
 ran-stopped_at_rest db number cut before now memory (Some octets) None after old mid new few took same stopped so_far = absurd so_far
 ran-stopped_at_rest db number cut before now memory (Some octets) (Some left) None old mid new few took same stopped so_far = absurd took.4
@@ -302,7 +271,7 @@ record Rests (some : ℕ) (middle : List ℕ) (after : Option (List ℕ)) (befor
 rests-none : (some : ℕ) (middle left : List ℕ) (before now : ℕ) → middle ≡ left → Rests some middle (Some left) before now
 rests-none some middle left before now same = record { left = left; rest = []; is = refl; whole = same; none = none-begins_none; last = inl (λ more. refl) }
 
-batch-rests : {A : Type 0} (f : Filled) (cells : List A) (middle : List ℕ) (after : Option (List ℕ)) (before now : ℕ) → EndsBatch f cells (Some middle) after → HasFillCause f before now → Rests (length cells) middle after before now
+batch-rests : (f : Filled) (cells : List (List ℕ)) (middle : List ℕ) (after : Option (List ℕ)) (before now : ℕ) → EndsBatch f cells (Some middle) after → HasFillCause f before now → Rests (length cells) middle after before now
 batch-rests filled.Paused cells middle after before now (same, some) cause = subst (λ a. Rests (length cells) middle a before now) (sym same) (rests-none (length cells) middle middle before now refl)
 batch-rests filled.End cells middle None before now (end, taken) cause = absurd taken
 batch-rests filled.End cells middle (Some left) before now (end, taken) cause = rests-none (length cells) middle left before now taken
@@ -318,7 +287,7 @@ batch-rests filled.Failed cells middle (Some left) before now took cause =
 
 module _ (db : Database) (number : ℕ) (memory : Memory) (more : List (List ℕ)) (f : Filled) (before now : ℕ) (few : length more ≤ 64) (limit : number + length more ≤ 1000000001) (cause : HasFillCause f before now) where
   -- writing stopped in the records of packets
-  pub ran-stopped_within : (start left middle after old mid new : Option (List ℕ)) → All IsPacket more → Consumes left middle (concat more) → EndsBatch f more middle after
+  pub ran-stopped_within : (start left middle after old mid new : Option (List ℕ)) → All IsPacket more → IfSome start (λ octets. Consumes left middle (concat more)) → IfSome start (λ octets. EndsBatch f more middle after)
       → AppendsPrefix mid new (batch_text 1 db memory (stamped_from db number more)) → Going db number memory start left old mid → Ran (EndsUnwritten before now) db start after old new
   ran-stopped_within None left middle after old mid new are taken ends stop so_far = tt
   ran-stopped_within (Some octets) None middle after old mid new are taken ends stop so_far = absurd so_far
@@ -344,22 +313,6 @@ module _ (db : Database) (number : ℕ) (memory : Memory) (more : List (List ℕ
               (over-part db packets text old mid new wrote stop),
         ),
       )
-
-ends-packets : (f : Filled) (cells : List Cell) (middle after : Option (List ℕ)) → EndsBatch f cells middle after → EndsBatch f (packets_in cells) middle after
-ends-packets filled.Paused cells middle after (same, some) = (same, omega (arith, some, packets-count cells))
-ends-packets filled.End cells middle after ends = ends
-ends-packets (filled.Cut count) cells None after ends = ends
-ends-packets (filled.Cut count) cells (Some octets) after (took, alone) = (took, ap packets_in alone)
-ends-packets filled.Failed cells middle after ends = ends
-
-module _ (db : Database) (number : ℕ) (memory : Memory) (cells done : List Cell) (decoded : AllZip (IsDecoded db) cells done) (f : Filled) (before now : ℕ) (few : length cells ≤ 64) (limit : number + length cells ≤ 1000000001) (cause : HasFillCause f before now) where
-  -- writing stopped in the records of a batch
-  pub ran-stopped : (start left middle after old mid new : Option (List ℕ)) → AreRead number cells left middle → EndsBatch f cells middle after → AppendsPrefix mid new (batch_text 1 db memory (all_stamped 1 db done))
-      → Going db number memory start left old mid → Ran (EndsUnwritten before now) db start after old new
-  ran-stopped start left middle after old mid new are ends stopped so_far =
-      ran-stopped_within db number memory (packets_in cells) f before now (omega (arith, few, packets-count cells)) (omega (arith, limit, packets-count cells)) cause start left middle after old mid new
-      are.are_packets are.taken (ends-packets f cells middle after ends)
-      (subst (λ s. AppendsPrefix mid new (batch_text 1 db memory s)) (numbered db number memory cells done decoded left middle are) stopped) so_far
 
 -- ---- the run whole
 

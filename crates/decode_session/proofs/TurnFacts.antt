@@ -1,21 +1,25 @@
--- Packets that are read, decoded and finished in turn.
-use Rattle.std.proofs.Common.{◌≡◌, ◌≤◌, ◌+◌, ℕ, List, [], ◌∷◌, ◌++◌, Option, length, sym, ap, ◌∙◌, append-nil, append_assoc, arith, subst}
+-- Packets that are read and printed.
+use Rattle.std.proofs.Common.{◌≡◌, ◌<◌, ◌≤◌, ◌+◌, ℕ, List, [], ◌∷◌, ◌++◌, Option, Some, None, Result, Ok, Err, length, take, drop, get_or, take-append-drop, length-take, sym, ap, ◌∙◌, append-nil, append_assoc, arith, subst}
+use Rattle.std.specs.Prelude.{IfSome, OnErr, OnOk, is_err, true, false}
 use Rattle.std.specs.List.{concat}
 use Rattle.std.specs.Io.KnownBytes.{Appends, Consumes}
 use Rattle.tm_io.specs.Octets.{AppendsPrefix}
-use Rattle.std.proofs.KnownBytes.{Consumes-trans, Consumes-nil}
+use Rattle.std.proofs.KnownBytes.{Appends-nil, Appends-trans, Consumes-trans, Consumes-nil}
+use Rattle.std.proofs.lemmas.List.{take_more, take-take}
 use Rattle.std.proofs.lemmas.List.Elements.{All-append, All-nil, All-cons}
 use Rattle.std.proofs.lemmas.List.Folds.{concat-append}
 use Rattle.decode_one.specs.Steps.{HasStepped}
 use Rattle.decode_session.specs.declared.batch.Filled.{Filled}
+use Rattle.decode_session.specs.Batches.{EndsBatch, Reads}
 use Rattle.decode_session.specs.Causes.{HasFillCause}
-use Rattle.decode_session.specs.Finishing.{standing, batch_text, LeavesAfter, Going}
+use Rattle.decode_session.specs.Finishing.{standing, batch_text, Finishes, LeavesAfter, Going}
 use Rattle.decode_session.specs.Run.{Ran, EndsUnwritten}
-use Rattle.decode_session.specs.Turns.{Adds, AddsBatch}
+use Rattle.decode_session.specs.Turns.{Adds, AddsBatch, Prints, PrintsNext, PrintsPart, StopsNext}
 use Rattle.decode_session.proofs.BatchFacts.{stamped-append, stamped-one, stamped-none}
-use Rattle.decode_session.proofs.FinishFacts.{text-none, leaves-none, text-one, leaves-one, text-append, leaves-append, step-text, step-leaves}
+use Rattle.decode_session.proofs.FinishFacts.{text-none, leaves-none, text-one, leaves-one, text-append, leaves-append, leaves-run, part-behind, part-longer, step-text, step-leaves}
 use Rattle.decode_session.proofs.RunSteps.{going-more, ran-stopped_within}
 use Rattle.mib_model.specs.declared.database.Database.{Database}
+use Rattle.mib_model.specs.Interpreter.{course_after_all}
 use Rattle.mib_model.specs.Kept.{Memory}
 use Rattle.mib_model.specs.Output.{stamped_first, stamped_from}
 use Rattle.mib_model.specs.Packets.{IsPacket}
@@ -72,15 +76,108 @@ module _ (db : Database) (number : ℕ) where
         appended = is ∙ adds.appended;
       }
 
-  module _ (f : Filled) (next : ℕ) (memory after : Memory) (text : List ℕ) (start left behind old mid new : Option (List ℕ)) (batch : AddsBatch f db number next left behind memory after text) (so_far : Going db number memory start left old mid) where
-    -- the records of a batch were written
-    pub going-turn : Appends mid new text → Going db next after start batch.1 old new
-    going-turn printed =
-        subst (λ n. Going db n after start batch.1 old new) (sym batch.3)
-        (going-more db number memory batch.0 after start left batch.1 old mid new batch.2.are_packets batch.2.taken (subst (Appends mid new) batch.2.appended printed) batch.2.leaves so_far)
+  -- ---- packets that are printed
+
+  abbrev text_of : Memory → List (List ℕ) → List ℕ
+  text_of memory packets = batch_text 1 db memory (stamped_from db number packets)
+
+  pub prints-none : (memory : Memory) (old : Option (List ℕ)) → Prints db number [] memory memory old old
+  prints-none memory old =
+      record {
+        leaves = subst (λ s. LeavesAfter 1 db memory s memory) (sym (stamped-none db number)) (leaves-none 1 db memory);
+        wrote = subst (Appends old old) (sym (ap (batch_text 1 db memory) (stamped-none db number) ∙ text-none 1 db memory)) (Appends-nil old);
+      }
+
+  module _ (packets : List (List ℕ)) (k place : ℕ) (packet : List ℕ) (memory middle after : Memory) (text : List ℕ) (old mid new : Option (List ℕ)) (below : k < length packets) (at : place ≡ number + k) (is : packet ≡ get_or packets k [])
+      (first : Prints db number (take k packets) memory middle old mid) (next : Finishes 1 db (stamped_first db (place, packet)) [] text middle after) where
+    both : stamped_from db number (take (k + 1) packets) ≡ stamped_from db number (take k packets) ++ stamped_first db (place, packet) ∷ []
+    both =
+        let count : number + length (take k packets) ≡ place = omega (arith, at, below, length-take k packets) in
+        ap (stamped_from db number) (take_more packets k [] below) ∙ stamped-append db number (take k packets) (get_or packets k [] ∷ [])
+        ∙ ap (λ s. stamped_from db number (take k packets) ++ s) (stamped-one db (number + length (take k packets)) (get_or packets k []))
+        ∙ (λ i. stamped_from db number (take k packets) ++ stamped_first db (count i, sym is i) ∷ [])
+
+    longer : text_of memory (take (k + 1) packets) ≡ text_of memory (take k packets) ++ text
+    longer =
+        ap (batch_text 1 db memory) both ∙ text-append 1 db memory middle (stamped_from db number (take k packets)) (stamped_first db (place, packet) ∷ []) first.leaves
+        ∙ ap (λ t. text_of memory (take k packets) ++ t) (text-one 1 db middle (stamped_first db (place, packet)) ∙ sym next.text)
+
+    -- one packet more
+    pub prints-more : Appends mid new text → Prints db number (take (k + 1) packets) memory after old new
+    prints-more wrote =
+        record {
+          leaves = subst (λ s. LeavesAfter 1 db memory s after) (sym both)
+              (leaves-append 1 db memory middle after (stamped_from db number (take k packets)) (stamped_first db (place, packet) ∷ []) first.leaves (leaves-one 1 db middle after (stamped_first db (place, packet)) next.leaves));
+          wrote = subst (Appends old new) (sym longer) (Appends-trans old mid new (text_of memory (take k packets)) text first.wrote wrote);
+        }
+
+    -- writing stopped in its record
+    pub prints-stopped : (count : ℕ) → k < count → AppendsPrefix mid new text → PrintsPart db number (take count packets) memory old new
+    prints-stopped count more stopped =
+        let all = take count packets in
+        let here = take (k + 1) packets in
+        let others = drop (k + 1) all in
+        let parted : stamped_from db number all ≡ stamped_from db number here ++ stamped_from db (number + length here) others =
+        ap (stamped_from db number) (sym (take-append-drop (k + 1) all) ∙ ap (λ l. l ++ others) (take-take (k + 1) count packets (omega (arith, more)))) ∙ stamped-append db number here others in
+        let left = (course_after_all (standing 1 db memory) (stamped_from db number here)).memory in
+        let whole : text_of memory all ≡ text_of memory here ++ batch_text 1 db left (stamped_from db (number + length here) others) =
+        ap (batch_text 1 db memory) parted ∙ text-append 1 db memory left (stamped_from db number here) (stamped_from db (number + length here) others) (leaves-run db number here memory) in
+        subst (AppendsPrefix old new) (sym whole)
+        (part-longer (text_of memory here) (batch_text 1 db left (stamped_from db (number + length here) others)) old new
+        (subst (AppendsPrefix old new) (sym longer) (part-behind (text_of memory (take k packets)) text old mid new first.wrote stopped)))
+
+  -- the records of packets that were read were written
+  module _ (f : Filled) (next : ℕ) (memory : Memory) (packets : List (List ℕ)) (start left behind old mid new : Option (List ℕ)) (reads : Reads f start number next packets left behind) (so_far : Going db number memory start left old mid) where
+    pub going-next : (after : Memory) → Prints db number packets memory after mid new → Going db next after start reads.middle old new
+    going-next after prints =
+        subst (λ n. Going db n after start reads.middle old new) (sym reads.count)
+        (going-more db number memory packets after start left reads.middle old mid new reads.are_packets reads.taken prints.wrote prints.leaves so_far)
 
     -- writing stopped in them
-    pub stopped-turn : (before now : ℕ) → next ≤ number + 64 → next ≤ 1000000001 → HasFillCause f before now → AppendsPrefix mid new text → Ran (EndsUnwritten before now) db start behind old new
-    stopped-turn before now few limit cause stopped =
-        ran-stopped_within db number memory batch.0 f before now (omega (arith, few, batch.3)) (omega (arith, limit, batch.3)) cause start left batch.1 behind old mid new
-        batch.2.are_packets batch.2.taken batch.4 (subst (AppendsPrefix mid new) batch.2.appended stopped) so_far
+    pub stopped-next : (before now : ℕ) → next ≤ number + 64 → next ≤ 1000000001 → HasFillCause f before now → PrintsPart db number packets memory mid new → Ran (EndsUnwritten before now) db start behind old new
+    stopped-next before now few limit cause stopped =
+        ran-stopped_within db number memory packets f before now (omega (arith, few, reads.count)) (omega (arith, limit, reads.count)) cause start left reads.middle behind old mid new
+        reads.are_packets reads.taken reads.ends stopped so_far
+
+-- ---- what follows from what follows where a call succeeds, or fails
+
+pub on-ok : {T E : Type 0} (r : Result T E) (P Q : Type 0) → (P → Q) → OnOk r P → OnOk r Q
+on-ok (Ok v) P Q then holds = then holds
+on-ok (Err e) P Q then holds = tt
+
+pub on-err : {T E : Type 0} (r : Result T E) (P Q : Type 0) → (P → Q) → OnErr r P → OnErr r Q
+on-err (Ok v) P Q then holds = tt
+on-err (Err e) P Q then holds = then holds
+
+-- what holds where a call succeeded, and where it failed
+pub ok-of : {T E : Type 0} (r : Result T E) (P : Type 0) → is_err r ≡ false → OnOk r P → P
+ok-of (Ok v) P is holds = holds
+ok-of (Err e) P is holds = absurd (cc is)
+
+pub err-of : {T E : Type 0} (r : Result T E) (P : Type 0) → is_err r ≡ true → OnErr r P → P
+err-of (Ok v) P is holds = absurd (cc is)
+err-of (Err e) P is holds = holds
+
+-- what holds, holds where something is told
+guarded : (start : Option (List ℕ)) (P : Type 0) → P → IfSome start (λ octets. P)
+guarded None P holds = tt
+guarded (Some octets) P holds = holds
+
+module _ (f : Filled) (db : Database) (number next : ℕ) (start left behind old new : Option (List ℕ)) (memory after : Memory) (text : List ℕ) (batch : AddsBatch f db number next left behind memory after text) where
+  batch-reads : Reads f start number next batch.0 left behind
+  batch-reads =
+      record {
+        middle = batch.1;
+        are_packets = batch.2.are_packets;
+        taken = guarded start (Consumes left batch.1 (concat batch.0)) batch.2.taken;
+        count = batch.3;
+        ends = guarded start (EndsBatch f batch.0 batch.1 behind) batch.4;
+      }
+
+  -- the text of packets that were read one by one was written
+  pub batch-prints : Appends old new text → PrintsNext f db start number next left behind memory after old new
+  batch-prints wrote = (batch.0, batch-reads, record { leaves = batch.2.leaves; wrote = subst (Appends old new) batch.2.appended wrote })
+
+  -- writing stopped in it
+  pub batch-stops : AppendsPrefix old new text → StopsNext f db start number next left behind memory old new
+  batch-stops stopped = (batch.0, batch-reads, subst (AppendsPrefix old new) batch.2.appended stopped)

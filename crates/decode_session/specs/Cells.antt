@@ -1,5 +1,5 @@
 -- Packets between their reading and their records. [This project's own.]
-use Rattle.std.specs.Prelude.{◌≡◌, ℕ, List, take, map}
+use Rattle.std.specs.Prelude.{◌≡◌, ℕ, List, take}
 use Rattle.decode_one.specs.Halves.{IsHalf}
 use Rattle.decode_session.specs.declared.cell.Cell.{Cell}
 use Rattle.mib_model.specs.declared.database.Database.{Database}
@@ -9,17 +9,9 @@ use Rattle.mib_model.specs.Interpreter.{StampedPacket}
 abbrev pub packet_in : Cell → List ℕ
 packet_in cell = take cell.octets cell.buffers.value.frame
 
--- the packets of cells
-abbrev pub packets_in : List Cell → List (List ℕ)
-packets_in cells = map packet_in cells
-
 -- the packet of a cell with its number, of an edition with these tables
 abbrev pub stamped_cell : ℕ → Database → Cell → StampedPacket
 stamped_cell edition db cell = record { number = cell.number; packet = packet_in cell; edition = edition; tables = db }
-
--- the packets of cells with their numbers
-abbrev pub all_stamped : ℕ → Database → List Cell → List StampedPacket
-all_stamped edition db cells = map (stamped_cell edition db) cells
 
 -- a cell's packet was decoded by a database
 abbrev pub IsReady : Database → Cell → Type 0

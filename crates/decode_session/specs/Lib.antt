@@ -5,5 +5,6 @@ pub mod Frames
 pub mod Cells
 pub mod Batches
 pub mod Finishing
-pub mod Moving
 pub mod Turns
+pub mod Ahead
+pub mod Stocks

@@ -1,23 +1,25 @@
-// A run: batches are filled, decoded and finished one after the other.
-ghost use Rattle.std.specs.Prelude.{◌≡◌, ◌≢◌, ◌+◌, ◌<◌, ◌≤◌, ◌⊎◌, [], Err, OnOk, OnErr, IfSome, vec_len, vec_capacity};
+// A run: packets are drawn ahead where many are at hand, and printed in their order.
+ghost use Rattle.std.specs.Prelude.{◌≡◌, ◌≢◌, ◌+◌, ◌<◌, ◌≤◌, ◌⊎◌, List, Option, ℕ, Err, OnOk, OnErr, IfSome};
 ghost use Rattle.std.specs.Io.KnownBytes.{Appends};
-ghost use Rattle.decode_session.specs.Causes.{HasOutCause, HasFeedCause};
-ghost use Rattle.decode_session.specs.Finishing.{AreDemandsIn};
-ghost use Rattle.decode_session.specs.Run.{EndsBy, Ran, most_in_flight};
-ghost use Rattle.edition_plans.specs.Params.{param_slices};
-ghost use Rattle.fold_state.specs.Boards.{memory_of, plan_names};
-ghost use Rattle.mib_model.specs.Kept.{empty_memory};
+ghost use Rattle.std.specs.List.{All};
+ghost use Rattle.decode_session.specs.Ahead.{AreDealt, Come, IsUnused, packets_from};
+ghost use Rattle.decode_session.specs.Causes.{HasOutCause, HasFeedCause, HasFillCause};
+ghost use Rattle.decode_session.specs.Finishing.{Leads, Serves};
+ghost use Rattle.decode_session.specs.Run.{EndsBy, Ran, most_in_flight, most_packets};
+ghost use Rattle.decode_session.specs.Stocks.{IsStockOf};
+ghost use Rattle.decode_session.specs.Turns.{PrintsNext, StopsNext};
+ghost use Rattle.fold_state.specs.Boards.{memory_of};
+ghost use Rattle.mib_model.specs.Kept.{Memory, empty_memory};
 ghost use Rattle.mib_model.specs.Texts.{cut_text};
 ghost use Rattle.packet_feed.specs.Feed.{BeginsWithPacket, SourceStays, source_of};
 ghost use Rattle.tm_io.specs.Causes.{HasCause};
 ghost use Rattle.tm_io.specs.Octets.{AppendsPrefix};
 
-use crate::alone::run_alone;
-use crate::batch::{Filled, MOST_PACKETS, fill};
-use crate::decoding::decode_batch;
+use crate::alone::add_batch;
+use crate::batch::{Filled, MOST_PACKETS};
 use crate::ending::{RunEnd, RunFault, Stop};
-use crate::finishing::{finish_batch, free_rooms};
-use crate::stock::{Home, Stock, rooms_at_once};
+use crate::playing::print_job;
+use crate::stock::Stock;
 use edition_plans::Plans;
 use packet_feed::Feed;
 use record_text::{Lines, cut_line};
@@ -48,8 +50,54 @@ pub fn hand_on_before_wait<S: Source, O: Sink>(feed: &Feed<S>, out: &mut O) -> R
     out.flush()
 }
 
+// Reads the next packets, from the one of this number on, and writes their records: those of a job that is drawn, or some one by one.
+fn print_next<P: Plans, S: Source, O: Sink>(
+    number: u64,
+    plans: &P,
+    feed: &mut Feed<S>,
+    stock: &mut Stock,
+    out: &mut O,
+) -> (u64, Filled, Result<(), Failed>)
+    requires number { number ≤ most_packets }
+    requires stock { IsStockOf (P.tables plans.now) stock.old }
+    requires dealt { AreDealt (P.tables plans.now) number stock.old.ahead.jobs.items }
+    ensures stock { IsStockOf (P.tables plans.now) stock.new × (stock.new.ahead.jobs ≡ stock.old.ahead.jobs) }
+    ensures done { OnOk result.2 ((start : Option (List ℕ))
+        → IfSome start (λ octets. Come (packets_from number stock.old.ahead.jobs.items) (S.left (source_of feed.old)))
+        → Leads (P.tables plans.now) (memory_of stock.old.board) (memory_of stock.new.board)
+        (λ m after. PrintsNext result.1 (P.tables plans.now) start number result.0 (S.left (source_of feed.old)) (S.left (source_of feed.new)) m after
+        (O.written out.old) (O.written out.new))) }
+    ensures part { OnErr result.2 ((start : Option (List ℕ)) (m : Memory)
+        → IfSome start (λ octets. Come (packets_from number stock.old.ahead.jobs.items) (S.left (source_of feed.old)))
+        → Serves (P.tables plans.now) m (memory_of stock.old.board)
+        → StopsNext result.1 (P.tables plans.now) start number result.0 (S.left (source_of feed.old)) (S.left (source_of feed.new)) m
+        (O.written out.old) (O.written out.new)) }
+    ensures some { result.1 ≡ Filled.Paused → number < result.0 }
+    ensures few { (result.0 ≤ number + most_in_flight) × (result.0 ≤ most_packets + 1) }
+    ensures below { result.1 ≢ Filled.Paused → result.0 ≤ most_packets }
+    ensures cause { HasFillCause result.1 (S.faults (source_of feed.old)) (S.faults (source_of feed.new)) }
+    ensures out { HasCause (O.faults out.old) (O.faults out.new) result.2 }
+    ensures kept { SourceStays S.holds S.missed S.borrow (source_of feed.old) (source_of feed.new) }
+{
+    let Stock {
+        room,
+        board,
+        demands,
+        lines,
+        ahead,
+    } = stock;
+    ahead.pass(number);
+    if let Some(job) = ahead.job(number) {
+        return print_job(job, plans, demands, feed, room, board, lines, out);
+    }
+    let end = ahead.until(number);
+    let (next, filled) = add_batch(number, end, plans, demands, feed, room, board, lines);
+    (next, filled, write_all(out, lines.bytes()))
+}
+
 // Decodes the packets of a feed up to its end, a fault or the limit.
-fn run_batches<P: Plans + Sync, S: Source, O: Sink, R: Threads + Sync>(
+#[inline(never)]
+fn run_in<P: Plans + Sync, S: Source, O: Sink, R: Threads + Sync>(
     rt: &R,
     plans: &P,
     feed: &mut Feed<S>,
@@ -58,44 +106,29 @@ fn run_batches<P: Plans + Sync, S: Source, O: Sink, R: Threads + Sync>(
     workers: u8,
 ) -> Result<RunEnd, RunFault>
     requires workers { 1 ≤ workers }
-    requires some { 0 < vec_len stock.old.rooms }
-    requires few { vec_len stock.old.rooms ≤ most_in_flight }
-    requires empty { stock.old.cells.items ≡ [] }
-    requires cells { vec_len stock.old.rooms ≤ vec_capacity stock.old.cells }
-    requires demands { AreDemandsIn (P.tables plans.now) stock.old.demands.items }
-    requires names { stock.old.board.names ≡ plan_names (param_slices (P.tables plans.now)) }
+    requires stock { IsStockOf (P.tables plans.now) stock.old }
+    requires unused { All IsUnused stock.old.ahead.jobs.items }
     requires memory { memory_of stock.old.board ≡ empty_memory }
     ensures ran { let says = EndsBy result (S.faults (source_of feed.old)) (S.faults (source_of feed.new)) in
         Ran says (P.tables plans.now) (S.left (source_of feed.old)) (S.left (source_of feed.new)) (O.written out.old) (O.written out.new) }
     ensures feed { HasFeedCause result (S.faults (source_of feed.old)) (S.faults (source_of feed.new)) }
     ensures out { HasOutCause result (O.faults out.old) (O.faults out.new) }
-    ensures all { vec_len stock.new.rooms + vec_len stock.new.cells ≡ vec_len stock.old.rooms }
-    ensures rooms { vec_len stock.old.rooms ≤ vec_capacity stock.new.rooms }
     ensures some { result ≢ Err (RunFault.Print Stop.Memory) }
     ensures kept { SourceStays S.holds S.missed S.borrow (source_of feed.old) (source_of feed.new) }
 {
-    if workers == 1 {
-        return run_alone(plans, feed, stock, out);
-    }
     let mut number = 1;
     while number <= MOST_PACKETS {
         let Ok(()) = hand_on_before_wait(feed, out) else {
             return Err(RunFault::Print(Stop::Out));
         };
-        let filled = fill(number, feed, &mut stock.rooms, &mut stock.cells);
-        number += stock.cells.len() as u64;
-        decode_batch(rt, plans, &mut stock.cells, workers);
-        let Ok(()) = finish_batch(
-            plans,
-            &stock.demands,
-            &stock.cells,
-            &mut stock.board,
-            &mut stock.lines,
-            out,
-        ) else {
+        stock
+            .ahead
+            .draw(rt, plans, &stock.demands, number, feed, workers);
+        let (next, filled, written) = print_next(number, plans, feed, stock, out);
+        if written.is_err() {
             return Err(RunFault::Print(Stop::Out));
-        };
-        free_rooms(&mut stock.cells, &mut stock.rooms);
+        }
+        number = next;
         match filled {
             Filled::Paused => (),
             Filled::End => return Ok(RunEnd::Whole),
@@ -132,16 +165,11 @@ pub fn decode_run<P: Plans + Sync, S: Source, O: Sink, R: Threads + Sync>(
     ensures missed { S.missed source.new ≡ S.missed source.old }
     ensures untouched { result ≡ Err (RunFault.Print Stop.Memory) → (source.new ≡ source.old) × (out.new ≡ out.old) }
 {
-    let rooms = rooms_at_once(workers);
-    let Ok(mut home) = Home::with_rooms(alloc, rooms) else {
-        return Err(RunFault::Print(Stop::Memory));
-    };
-    let Ok(mut stock) = Stock::with_rooms(alloc, plans, &mut home, rooms) else {
+    let Ok(mut stock) = Stock::new(alloc, plans, workers) else {
         return Err(RunFault::Print(Stop::Memory));
     };
     let mut feed = Feed::new(source);
-    let ended = run_batches(rt, plans, &mut feed, &mut stock, out, workers);
-    stock.close_rooms(&mut home, rooms);
+    let ended = run_in(rt, plans, &mut feed, &mut stock, out, workers);
     if let Err(RunFault::Print(Stop::Out)) = ended {
         return ended;
     }

@@ -1,14 +1,13 @@
 // The buffers of a run.
-ghost use Rattle.std.specs.Prelude.{◌≡◌, ◌+◌, ◌<◌, ◌≤◌, [], vec_len, vec_capacity, IfOk, OnOk, OnErr};
-ghost use Rattle.edition_plans.specs.Params.{param_slices};
-ghost use Rattle.fold_state.specs.Boards.{memory_of, plan_names};
-ghost use Rattle.decode_session.specs.Finishing.{AreDemandsIn};
+ghost use Rattle.std.specs.Prelude.{◌≡◌, ◌+◌, ◌<◌, ◌≤◌, vec_len, vec_capacity, IfOk, OnOk, OnErr};
+ghost use Rattle.std.specs.List.{All};
+ghost use Rattle.decode_session.specs.Ahead.{IsUnused};
+ghost use Rattle.decode_session.specs.Stocks.{IsStockOf};
+ghost use Rattle.fold_state.specs.Boards.{memory_of};
 ghost use Rattle.mib_model.specs.Kept.{empty_memory};
 ghost use Rattle.decode_session.specs.Homes.{AreOutOf};
-ghost use Rattle.decode_session.specs.Run.{most_in_flight};
 
-use crate::cell::Cell;
-use crate::finishing::free_rooms;
+use crate::ahead::Ahead;
 use crate::room::{Buffers, Room};
 use bit_field::{MOST_VALUES, shape_of};
 use decode_one::Half;
@@ -20,17 +19,6 @@ use packet_feed::PACKET_SIZE;
 use record_text::Lines;
 use std::alloc::{AllocError, Global};
 
-// The packets of a batch for several workers.
-const BATCH: u16 = 64;
-
-/// How many packets a run by one edition has room for: one with one worker, which prints each before it reads the next.
-pub(crate) fn rooms_at_once(workers: u8) -> u16
-    ensures some { 0 < result }
-    ensures few { result ≤ most_in_flight }
-{
-    if workers == 1 { 1 } else { BATCH }
-}
-
 /// Where the buffers of packets are at home.
 #[derive(Drop)]
 pub struct Home {
@@ -38,25 +26,25 @@ pub struct Home {
     slots: Region<Value>,
 }
 
-/// What a run needs: rooms that are free, and cells; what is kept from packet to packet, and what is demanded of values; and the
-/// text of a record.
-pub struct Stock {
-    pub rooms: Vec<Room>,
-    pub cells: Vec<Cell>,
+/// What a run needs: a room for the packet that is read; what is kept from packet to packet, and what is demanded of values; the text of
+/// records; and what is drawn ahead.
+pub(crate) struct Stock {
+    pub room: Room,
     pub board: Board,
     pub demands: Vec<Demand>,
     pub lines: Lines,
+    pub ahead: Ahead,
 }
 
 /// By hand, so that whoever lets one go proves one call.
 impl Drop for Stock {
     fn drop(self) {
         let Stock {
-            rooms: _rooms,
-            cells: _cells,
+            room: _room,
             board: _board,
             demands: _demands,
             lines: _lines,
+            ahead: _ahead,
         } = self;
     }
 }
@@ -79,7 +67,7 @@ fn name() -> Name {
 }
 
 // What stands in a slot that isn't in use.
-fn unused() -> Value {
+pub(crate) fn unused() -> Value {
     Value {
         name: name(),
         at: 0,
@@ -89,7 +77,7 @@ fn unused() -> Value {
 }
 
 // What stands in buffers before a packet is decoded.
-fn unheard() -> Half {
+pub(crate) fn unheard() -> Half {
     Half {
         header: Header::read(&[0; 6]),
         found: Found::Idle,
@@ -183,49 +171,25 @@ impl Home {
     }
 }
 
+// The one room of a home that was made for it. An error is want of memory.
+fn one_room(alloc: Global) -> Result<Room, AllocError> {
+    let mut home = Home::with_rooms(alloc, 1)?;
+    home.take_room(alloc, 1, 0)
+}
+
 impl Stock {
-    /// What a run needs that begins by these plans and reads so many packets ahead, which keeps nothing yet. An error is want
-    /// of memory, and leaves all rooms at home.
-    pub fn with_rooms<P: Plans>(
-        alloc: Global,
-        plans: &P,
-        home: &mut Home,
-        rooms: u16,
-    ) -> Result<Stock, AllocError>
-        requires { AreOutOf rooms 0 home.old }
-        ensures out { OnOk result (AreOutOf rooms rooms home.new) }
-        ensures kept { OnErr result (AreOutOf rooms 0 home.new) }
-        ensures free { IfOk result (λ stock. vec_len stock.rooms ≡ rooms) }
-        ensures rooms { IfOk result (λ stock. rooms ≤ vec_capacity stock.rooms) }
-        ensures empty { IfOk result (λ stock. stock.cells.items ≡ []) }
-        ensures cells { IfOk result (λ stock. rooms ≤ vec_capacity stock.cells) }
-        ensures demands { IfOk result (λ stock. AreDemandsIn (P.tables plans.now) stock.demands.items) }
-        ensures names { IfOk result (λ stock. stock.board.names ≡ plan_names (param_slices (P.tables plans.now))) }
+    /// What a run of so many workers needs that begins by these plans, which keeps nothing yet. An error is want of memory.
+    pub(crate) fn new<P: Plans>(alloc: Global, plans: &P, workers: u8) -> Result<Stock, AllocError>
+        ensures stock { IfOk result (λ stock. IsStockOf (P.tables plans.now) stock) }
+        ensures unused { IfOk result (λ stock. All IsUnused stock.ahead.jobs.items) }
         ensures memory { IfOk result (λ stock. memory_of stock.board ≡ empty_memory) }
     {
         Ok(Stock {
-            cells: Vec::with_capacity(alloc, usize::from(rooms))?,
+            room: one_room(alloc)?,
             board: Board::new(alloc, plans.params())?,
             demands: demands_of(alloc, plans.params())?,
             lines: Lines::new(alloc)?,
-            rooms: home.take_rooms(alloc, rooms)?,
+            ahead: Ahead::new(alloc, plans, workers)?,
         })
-    }
-
-    /// Gives all rooms back, those of cells too, to the home of so many.
-    pub fn close_rooms(self, home: &mut Home, all: u16)
-        requires out { AreOutOf all (vec_len self.rooms + vec_len self.cells) home.old }
-        requires rooms { vec_len self.rooms + vec_len self.cells ≤ vec_capacity self.rooms }
-        ensures { AreOutOf all 0 home.new }
-    {
-        let Stock {
-            mut rooms,
-            mut cells,
-            board: _,
-            demands: _,
-            lines: _,
-        } = self;
-        free_rooms(&mut cells, &mut rooms);
-        home.give_rooms(rooms, all);
     }
 }

@@ -14,7 +14,7 @@ length_field-packet packet rest is =
     rw (get_or_append_left packet rest 0 4 four, get_or_append_left packet rest 0 5 five) refl
 
 -- of two packets that begin the same octets each is the other
-same_packet : (p q x y : List ℕ) → IsPacket p → IsPacket q → p ++ x ≡ q ++ y → (p ≡ q) × (x ≡ y)
+pub same_packet : (p q x y : List ℕ) → IsPacket p → IsPacket q → p ++ x ≡ q ++ y → (p ≡ q) × (x ≡ y)
 same_packet p q x y is_p is_q same =
     let fields : (header_of p).length ≡ (header_of q).length =
     sym (length_field-packet p x is_p) ∙ ap (λ octets. (header_of octets).length) same ∙ length_field-packet q y is_q in

@@ -1,8 +1,9 @@
 ghost use Rattle.std.specs.Prelude.{◌≡◌, ◌≤◌, ◌<◌, ◌+◌, ℕ, List, Option, length, take, IfOk, IfSome, IsTrue, OnErr};
+ghost use Rattle.std.specs.Io.{StartsWith};
 ghost use Rattle.std.specs.Io.KnownBytes.{Consumes, IsAtEnd};
 ghost use Rattle.tm_io.specs.Causes.{HasCause};
 ghost use Rattle.mib_model.specs.Headers.{header_of};
-ghost use Rattle.mib_model.specs.Packets.{IsCut};
+ghost use Rattle.mib_model.specs.Packets.{IsCut, IsPacket};
 ghost use Rattle.packet_feed.specs.Feed.{BeginsWithPacket, Gives, HasNextCause, source_of};
 ghost use Rattle.packet_feed.specs.declared.feed.TheConstants.{HEADER_SIZE, PACKET_SIZE};
 
@@ -43,8 +44,9 @@ fn fill<S: Source>(source: &mut S, buf: &mut [u8]) -> Result<usize, Failed>
     Ok(at)
 }
 
-// The header that octets begin with.
-fn header_at(octets: &[u8]) -> Header
+/// The header that octets begin with.
+#[inline(always)]
+pub fn header_at(octets: &[u8]) -> Header
     requires { HEADER_SIZE ≤ length octets.now }
     ensures { result ≡ header_of octets.now }
 {
@@ -59,6 +61,23 @@ fn packet_size(length: u16) -> usize
     ensures fits { result ≤ PACKET_SIZE }
 {
     HEADER_SIZE + 1 + usize::from(length)
+}
+
+/// The packet that octets begin with, where it is there whole.
+#[inline(always)]
+pub fn packet_at(octets: &[u8]) -> Option<&[u8]>
+    ensures whole { IfSome result (λ packet. IsPacket packet.now) }
+    ensures front { IfSome result (λ packet. StartsWith octets.now packet.now) }
+    ensures short { IfSome result (λ packet. length packet.now ≤ PACKET_SIZE) }
+{
+    if octets.len() < HEADER_SIZE {
+        return None;
+    }
+    let size = packet_size(header_at(octets).length);
+    if octets.len() < size {
+        return None;
+    }
+    Some(&octets[..size])
 }
 
 impl<S> Feed<S> {
@@ -148,6 +167,13 @@ impl<S: Source> Feed<S> {
             };
         }
         self.rest(front, into)
+    }
+
+    /// The next octets that are known to be there: none where nothing is known.
+    pub fn at_hand(&self) -> &[u8]
+        ensures { IfSome (S.left (source_of self.now)) (λ octets. StartsWith octets result.now) }
+    {
+        self.source.at_hand()
     }
 
     /// Whether the next packet is known to be there whole, so that giving it doesn't wait.

@@ -9,6 +9,6 @@
 mod feed;
 mod next;
 
-pub use feed::{Feed, PACKET_SIZE, cut_is_unique};
+pub use feed::{Feed, PACKET_SIZE, cut_is_unique, header_at, packet_at};
 pub use mib_model::Header;
 pub use next::Next;

@@ -1,4 +1,5 @@
 use Rattle.std.proofs.Common.{◌≡◌, ◌+◌, ◌<◌, ℕ, List, [], ◌∷◌, ◌++◌, length, refl, sym, subst, ap, ◌∙◌, arith, length-append}
+use Rattle.decode_session.specs.Batches.{EndsFeed}
 use Rattle.decode_session.specs.Finishing.{Serves}
 use Rattle.decode_session.proofs.BatchFacts.{batch-ends}
 use Rattle.decode_session.proofs.TurnFacts.{adds-none, adds-more, adds-same}
@@ -12,7 +13,8 @@ loop-next-init g c =
       board = refl;
       adds = λ m serves. (m, serves, ([], adds-none db c.args.number (g.S.Source.left (source_of c.args.feed.now)) m _ c.clear.ensures, omega arith));
       limit = c.requires.number;
-      few = omega arith;
+      order = omega arith;
+      few = let begun = c.requires.some in omega arith;
       ahead = λ some. absurd (omega (arith, some));
       room = omega (arith, ap (λ (l : List ℕ). length l) c.clear.ensures);
       faults = refl;
@@ -31,7 +33,7 @@ returns-in-Some-clause-adds g c = λ m serves.
         g.S.Source.left (source_of c.loop-next.feed),
         adds-same db c.args.number packets _ _ m middle middle [] _ _ refl same adds,
         is,
-        batch-ends {A = List ℕ} c.in-Some.why packets _ _ ends (λ some. c.loop-next.invariant.ahead (omega (arith, some, is))),
+        batch-ends c.in-Some.why packets _ _ ends (λ some. c.loop-next.invariant.ahead (omega (arith, some, is))),
       ),
     )
 
@@ -72,6 +74,7 @@ loop-next-preserved g c =
             ),
           );
       limit = let n = c.if-next-gt-MOST_PACKETS.false in omega arith;
+      order = let n = inv.order in omega arith;
       few = let n = c.loop-next-test.true in omega arith;
       ahead = λ some. c.is_next_at_hand.ensures c.if-not-is_next_at_hand.false;
       room = let n = c.if-bytes-gt-TEXT_BEFORE.false in omega (arith, ap (λ (l : List ℕ). length l) c.bytes.ensures);
@@ -83,6 +86,7 @@ pub returns-clause-adds : goal.returns-clause-adds
 returns-clause-adds g c = λ m serves.
     let (after, still, (packets, adds, is)) = c.loop-next.invariant.adds m serves in
     let last = c.loop-next-test.false in
+    let begun = c.requires.some in
     let some : 0 < length packets = omega (arith, is, last) in (
       after,
       still,
@@ -94,3 +98,6 @@ returns-clause-adds g c = λ m serves.
         (refl {a = g.S.Source.left (source_of c.loop-next.feed)}, some),
       ),
     )
+
+pub returns-in-Some-clause-some : goal.returns-in-Some-clause-some
+returns-in-Some-clause-some g c = λ paused. absurd (subst (λ f. EndsFeed f (g.S.Source.left (source_of c.loop-next.feed)) (g.S.Source.left (source_of c.add_next.new.feed))) paused c.in-Some.ensures.adds.0)

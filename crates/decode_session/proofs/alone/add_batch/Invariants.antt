@@ -13,7 +13,8 @@ invariant-loop-next g l = record {
   board : l.board.names ≡ l.initial.board.names;
   adds : Leads (g.P.Structures.tables l.plans) (memory_of l.initial.board) (memory_of l.board) (λ m after. (packets : List (List ℕ)) × Adds (g.P.Structures.tables l.plans) l.number packets (g.S.Source.left (source_of l.initial.feed)) (g.S.Source.left (source_of l.feed)) m after [] l.lines × (l.next ≡ l.number + length packets));
   limit : l.next ≤ most_packets;
-  few : l.next ≤ l.number + 16;
+  order : l.number ≤ l.next;
+  few : l.next ≤ l.end;
   ahead : l.number < l.next → IfSome (g.S.Source.left (source_of l.feed)) BeginsWithPacket;
   room : length l.lines ≤ TEXT_BEFORE;
   faults : g.S.Source.faults (source_of l.feed) ≡ g.S.Source.faults (source_of l.initial.feed);
@@ -21,4 +22,4 @@ invariant-loop-next g l = record {
 }
 
 abbrev pub decreases-loop-next : goal.decreases-loop-next
-decreases-loop-next g l = l.number + 16 - l.next
+decreases-loop-next g l = l.end - l.next

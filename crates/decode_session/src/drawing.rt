@@ -1,0 +1,86 @@
+// Packets are drawn.
+ghost use Rattle.std.specs.Prelude.{◌≡◌, vec_len};
+ghost use Rattle.decode_session.specs.Ahead.{IsDrawn};
+ghost use Rattle.decode_session.specs.Finishing.{AreDemandsIn};
+ghost use Rattle.mib_model.specs.Fixed.{most_values};
+
+use crate::job::Job;
+use crate::stock::{unheard, unused};
+use bit_field::MOST_VALUES;
+use decode_one::Half;
+use decode_pool::Work;
+use edition_plans::Plans;
+use fold_state::{Demand, Places};
+use mib_model::Value;
+use packet_sheets::draw_stretch;
+use param_plan::Params;
+use std::alloc::{AllocError, Global};
+use std::sync::{Mutex, MutexGuard};
+
+/// What one thread draws with: slots for the values of a packet, its half, and what finds plans.
+#[derive(Drop)]
+pub(crate) struct Tool {
+    slots: Vec<Value>,
+    half: Half,
+    places: Places,
+    ghost slot_count: { vec_len slots ≡ most_values },
+}
+
+impl Tool {
+    /// What draws by these plans. An error is want of memory.
+    pub fn new(alloc: Global, params: &Params) -> Result<Tool, AllocError> {
+        Ok(Tool {
+            slots: Vec::from_elem(alloc, unused(), MOST_VALUES as usize)?,
+            half: unheard(),
+            places: Places::new(alloc, params)?,
+        })
+    }
+}
+
+/// What a worker does: it draws the packets of a job by these plans and demands, with a tool that no other has.
+#[derive(Drop)]
+pub(crate) struct Drawing<'a, P> {
+    pub plans: &'a P,
+    pub demands: &'a [Demand],
+    pub tools: &'a [Mutex<Tool>],
+}
+
+// A tool that no other thread has. There are as many as threads.
+fn free_tool(tools: &[Mutex<Tool>]) -> Option<MutexGuard<'_, Tool>> {
+    for tool in tools {
+        if let Some(tool) = tool.try_lock() {
+            return Some(tool);
+        }
+    }
+    None
+}
+
+// Draws the packets of a job.
+fn draw_job<P: Plans>(plans: &P, demands: &[Demand], tool: &mut Tool, job: &mut Job)
+    ensures { AreDemandsIn (P.tables plans.now) demands.now → IsDrawn (P.tables plans.now) job.old job.new }
+{
+    job.drawn = draw_stretch(
+        plans,
+        demands,
+        job.number,
+        &job.stretch,
+        &mut tool.slots,
+        &mut tool.half,
+        &mut tool.places,
+        &mut job.sheet,
+    );
+}
+
+impl<P: Plans + Sync> Work for Drawing<'_, P> {
+    type Cell = Job;
+
+    ghost made = { λ work before after. AreDemandsIn (P.tables work.plans.now) work.demands.now → IsDrawn (P.tables work.plans.now) before after };
+
+    #[tactic(auto, using(crate::proofs::AheadFacts::drawn_same))]
+    fn work(&self, job: &mut Job) {
+        let Some(mut tool) = free_tool(self.tools) else {
+            return;
+        };
+        draw_job(self.plans, self.demands, &mut tool, job);
+    }
+}
