@@ -208,7 +208,7 @@ fn run_opened<
 
 impl<W: Watch + Drop> LiveRun<W> {
     /// The lines of the desk up to the first `go` are handled before a packet is read; then the packets of the feed are printed, and the
-    /// watch is told of each whose record was written whole, while the other lines are handled in another thread. It reads at most 32
+    /// watch is told of each whose record was written whole, while the other lines are handled in another thread. It reads at most 64
     /// packets ahead of what it has printed, and waits for its turn at the register; a worker calls the gate before it works on a packet.
     pub fn run<
         R: Threads + Wait + Sync,
@@ -237,7 +237,7 @@ impl<W: Watch + Drop> LiveRun<W> {
 
 /// A live run from this edition on. The lines of the desk up to the first `go` are handled before a packet is read; then the
 /// packets of the feed are printed, decoded by so many workers, while the other lines are handled in another thread. It reads at
-/// most 32 packets ahead of what it has printed, and waits for its turn at the register; a worker calls the gate before it works on
+/// most 64 packets ahead of what it has printed, and waits for its turn at the register; a worker calls the gate before it works on
 /// a packet. An error is want of memory, before anything is read or written.
 pub fn live_run<
     R: Threads + Wait + Sync,

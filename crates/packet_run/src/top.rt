@@ -147,7 +147,7 @@ fn run_beside<
 }
 
 /// Runs over the packets of a feed: each is stamped as soon as it is read and decoded by one of so many workers, and its record
-/// is written by the tables of its edition, in the order of the stamps, of which the watch is told. It reads at most 32 packets
+/// is written by the tables of its edition, in the order of the stamps, of which the watch is told. It reads at most 64 packets
 /// ahead of what it has written, hands on what it wrote before it may wait for the feed, and at its end. It takes no memory, and waits
 /// for its turn at the register. A worker calls the gate before it works on a packet.
 pub fn run_packets<

@@ -107,7 +107,7 @@ impl PanelRun {
 
 /// A run of one to four desks from this edition on. The lines of each up to its first `go` are handled before a packet is read, one desk
 /// after the other; then the packets of the feed are printed, decoded by so many workers, while each desk's other lines are handled in a
-/// thread of its own. It reads at most 32 packets ahead of what it has printed, and waits for its turn at the register; a worker calls the
+/// thread of its own. It reads at most 64 packets ahead of what it has printed, and waits for its turn at the register; a worker calls the
 /// gate before it works on a packet. An error is want of memory, before anything is read or written.
 pub fn panel_run<
     R: Threads + Wait + Sync,
