@@ -1,4 +1,3 @@
 pub mod Codes
-pub mod Opening
 pub mod Board
 pub mod Whole

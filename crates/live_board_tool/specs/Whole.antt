@@ -1,9 +1,8 @@
 -- What a board comes to where nothing hinders it, and where its page is refused. [This profile.]
 use Rattle.std.specs.Prelude.{◌≡◌, ◌⊎◌, ◌==◌, ℕ, List, [], false, length, Option, None, Some, Ok}
-use Rattle.live_board_tool.specs.Board.{LivesShown}
+use Rattle.live_board_tool.specs.Board.{LivesShown, from, written_to}
 use Rattle.live_board_tool.specs.Codes.{code_of_live}
 use Rattle.live_desk.specs.DeskEnds.{is_desk_fault, is_reply_fault}
-use Rattle.live_session.specs.Live.{from, written_to}
 use Rattle.mib_model.specs.declared.code.Code.{Code}
 use Rattle.mib_model.specs.declared.database.Database.{Database}
 use Rattle.mib_model.specs.Endings.{code_of_rest}

@@ -9,7 +9,8 @@ mod board;
 mod codes;
 mod command;
 mod laws;
-mod opening;
+mod run;
+mod shown;
 
 pub use command::{BoardStatus, board_tool};
 pub use laws::{a_bad_page_is_refused, boarding_is_complete};

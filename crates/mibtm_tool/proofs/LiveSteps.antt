@@ -8,11 +8,11 @@ use Rattle.mib_model.specs.declared.database.Database.{Database}
 use Rattle.mib_model.specs.RegisterHistories.{RegisterHistory}
 use Rattle.mib_model.specs.Soundness.{IsSound}
 use Rattle.session.specs.Sources.{Files}
-use Rattle.live_session.specs.Live.{Lives, from, object, written_to}
+use Rattle.live_session.specs.Live.{Lives, object}
 use Rattle.mibtm_tool.proofs.DecodeSteps.{fed}
 use Rattle.mibtm_tool.proofs.StatementSteps.{each_told, missing_decoded}
 use Rattle.mibtm_tool.specs.Live.{LivedBeside, RanBeside}
-use Rattle.mibtm_tool.specs.Statement.{LivedBy, StoppedBeside, Unopened, Lived, names, shelves, Decoded, OfFile}
+use Rattle.mibtm_tool.specs.Statement.{LivedBy, StoppedBeside, Unopened, Lived, names, shelves, from, written_to, Decoded, OfFile}
 use Rattle.tool_objects.specs.Objects.{ShelfView, SinkView, HasStood, IsUncalled, IsUnwritten, shelf}
 use Rattle.tool_objects.specs.Sources.{sound_in}
 

@@ -5,7 +5,7 @@ use Rattle.std.specs.Io.KnownBytes.{Appends}
 use Rattle.decode_session.specs.Run.{most_packets}
 use Rattle.session.specs.Sources.{Files}
 use Rattle.live_desk.specs.DeskEnds.{is_desk_fault, is_reply_fault, limit_line}
-use Rattle.live_session.specs.Live.{Lives, StaysHandedOn, Object, from, read_of, written_to}
+use Rattle.live_session.specs.Live.{Lives, StaysHandedOn, Object}
 use Rattle.mib_model.specs.declared.code.Code.{Code}
 use Rattle.mib_model.specs.declared.code.Code.TheVariants as code
 use Rattle.mib_model.specs.declared.database.Database.{Database}
@@ -21,7 +21,7 @@ use Rattle.mib_model.specs.Script.{reaches_limit}
 use Rattle.mib_model.specs.Texts.{rest_text, rest_unless}
 use Rattle.tool_objects.specs.Objects.{ShelfView, SinkView, IsUnwritten, Took}
 use Rattle.tool_objects.specs.Sources.{sound_in}
-use Rattle.mibtm_tool.specs.Statement.{Names, Shelves, StoodAt, HasTurned, StoppedBeside, opened}
+use Rattle.mibtm_tool.specs.Statement.{Names, Shelves, StoodAt, HasTurned, StoppedBeside, from, opened, read_of, written_to}
 use Rattle.mibtm_tool.specs.Tool.{Held, IsSteady, IsSteadySink}
 
 -- ---- a live run that nothing hinders

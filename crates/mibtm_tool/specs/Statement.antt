@@ -11,7 +11,7 @@ use Rattle.mib_model.specs.RegisterHistories.{RegisterHistory}
 use Rattle.mib_model.specs.Soundness.{IsSound}
 use Rattle.mib_model.specs.Summaries.{summary}
 use Rattle.edition_register.specs.declared.outcome.Closed.{Closed}
-use Rattle.live_session.specs.Live.{EndsAs, Object, Lives, StaysHandedOn, from, written_to}
+use Rattle.live_session.specs.Live.{EndsAs, Object, object, Lives, StaysHandedOn}
 use Rattle.mib_model.specs.declared.meaning.MadeFor as MadeFor
 use Rattle.mib_model.specs.declared.meaning.Rows as Rows
 use Rattle.tm_io.specs.Causes.{HasRisen}
@@ -115,9 +115,21 @@ pub record Shelves (T F D : Type 0) : Type 0 where
 abbrev pub shelves : {T F D : Type 0} → ShelfView T → ShelfView F → ShelfView D → Shelves T F D
 shelves tables feed desk = record { tables = tables; feed = feed; desk = desk }
 
+-- a shelf that had this left as a run opened, where it tells that
+abbrev pub from : {S : Type 0} → ShelfView S → Option (List ℕ) → Object
+from s start = object start (s.left s.now) (s.faults s.before) (s.faults s.now)
+
 -- a shelf that stands at the start of a file of these octets as a run opens
 abbrev pub opened : {S : Type 0} → ShelfView S → List ℕ → Object
 opened s octets = from s (Some octets)
+
+-- a shelf that a run reads from where it stands
+abbrev pub read_of : {S : Type 0} → ShelfView S → Object
+read_of s = object (s.left s.before) (s.left s.now) (s.faults s.before) (s.faults s.now)
+
+-- a sink that a run writes to
+abbrev pub written_to : {O : Type 0} → SinkView O → Object
+written_to o = object (o.written o.before) (o.written o.now) (o.faults o.before) (o.faults o.now)
 
 -- no turn to a file failed
 abbrev pub HasTurned : {S : Type 0} → ShelfView S → Type 0

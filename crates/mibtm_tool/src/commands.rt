@@ -15,11 +15,10 @@ ghost use Rattle.session.specs.Sources.{Files};
 use crate::check::check;
 use crate::decode::decode;
 use crate::drill::drill;
-use crate::live::{LiveRequest, live};
+use crate::live::live;
 use edition::Edition;
 use edition_register::Closed;
 use fold_state::BoardRoom;
-use live_session::Host;
 use mib_model::{Code, Input};
 use std::alloc::Global;
 use std::sync::Wait;
@@ -121,14 +120,9 @@ pub fn tool<
                 workers,
             },
         ) => {
-            let asked = LiveRequest {
-                folder,
-                feed: name,
-                desk: desk_name,
-                workers,
-            };
-            let host = Host { rt, alloc, gate };
-            return live(&host, &asked, tables, feed, desk, out, replies);
+            return live(
+                rt, alloc, folder, name, desk_name, workers, tables, feed, desk, out, replies, gate,
+            );
         }
         Ok(Request::Drill { seed }) => drill(rt, alloc, seed, out),
         Err(WordsFault::Misuse(misuse)) => Code::Usage(misuse),
