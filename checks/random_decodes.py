@@ -14,6 +14,9 @@ import tempfile
 import random_missions
 import reference
 
+# So many packets has a feed; of the long ones several workers draw many ahead.
+PACKETS = (40, 40, 40, 40, 800)
+
 
 def run(program, seed, folder):
     """A word of what came of a run: equal, refused or differs."""
@@ -21,7 +24,7 @@ def run(program, seed, folder):
     mission = random_missions.Mission(rng)
     tables, feed = os.path.join(folder, "tables"), os.path.join(folder, "feed")
     random_missions.write_folder(tables, mission.tables)
-    octets = mission.feed(40)
+    octets = mission.feed(rng.choice(PACKETS))
     with open(feed, "wb") as file:
         file.write(octets)
     workers = str(rng.choice([1, 1, 2, 4, 16]))
