@@ -90,7 +90,7 @@ impl Params {
         Ok(Params { blocks, plain })
     }
 
-    /// The same plans in the same blocks. An error is want of memory.
+    /// Plans equal to these, by handles to these blocks. An error is want of memory.
     pub fn copy(&self, alloc: Global) -> Result<Params, AllocError>
         ensures { IfOk result (λ params. params ≡ self.now) }
     {

@@ -7,8 +7,8 @@ use std::fs;
 use std::io::{BufRead, BufReader, ErrorKind, Read};
 use std::rt::Files;
 
-// How many octets are asked of the system at once.
-const READ_AHEAD: usize = 65_536;
+// How many octets are asked of the system at once: those of some thousand packets, which workers share.
+const READ_AHEAD: usize = 262_144;
 
 // What is read.
 #[derive(Drop)]
@@ -28,7 +28,7 @@ impl<F: Read, I: Read> Read for Opened<F, I> {
     }
 }
 
-/// Files by their paths, and standard input under the name `-`, read ahead by 64 KiB. A file that isn't found, or whose
+/// Files by their paths, and standard input under the name `-`, read ahead by 256 KiB. A file that isn't found, or whose
 /// path has a part that isn't a folder, isn't held. A folder in place of a file is a fault of the first read. A file is
 /// closed at the next turn to a file, and at the end.
 #[derive(Drop)]
