@@ -20,17 +20,16 @@ def octets(text):
     return text.replace("|", "\t").encode("latin-1")
 
 
-def packets(digits):
-    """Octets of hexadecimal digits; those in brackets are repeated as often as the number behind them says."""
-    whole = re.sub(r"\((\w+)\)(\d+)", lambda it: it[1] * int(it[2]), digits)
-    return bytes.fromhex(whole)
+def repeated(text):
+    """What stands in brackets is repeated as often as the number behind them says."""
+    return re.sub(r"\(([^()]+)\)(\d+)", lambda it: it[1] * int(it[2]), text)
 
 
 def differs(case, folder, more):
     words = [str(PROGRAM), *case["words"].split(), *more]
     ran = subprocess.run(words, cwd=folder, stdin=subprocess.DEVNULL, capture_output=True, timeout=60)
     said = case.get("says", "").lstrip("\n")
-    wanted = case.get("prints", "").lstrip("\n").encode("latin-1"), (said + "\n" * bool(said)).encode(), STATUS.get(said.split(" ")[0], 0)
+    wanted = repeated(case.get("prints", "").lstrip("\n")).encode("latin-1"), (said + "\n" * bool(said)).encode(), STATUS.get(said.split(" ")[0], 0)
     came = ran.stdout, ran.stderr, ran.returncode
     return [f"{case['name']}, {' '.join(words[1:])}: {a!r}, wanted {b!r}" for a, b in zip(came, wanted) if a != b]
 
@@ -40,8 +39,8 @@ def faults(case):
         folder = pathlib.Path(room)
         (folder / "mib").mkdir()
         for name, text in (TABLES | case.get("tables", {})).items():
-            (folder / "mib" / f"{name}.dat").write_bytes(octets(text))
-        (folder / "feed").write_bytes(packets(case.get("feed", "")))
+            (folder / "mib" / f"{name}.dat").write_bytes(octets(repeated(text)))
+        (folder / "feed").write_bytes(bytes.fromhex(repeated(case.get("feed", ""))))
         (folder / "desk").write_bytes(octets(case.get("desk", "").lstrip("\n")))
         options = [["--workers", number] for number in "124"] if case.get("desk") else [[]]
         return [it for more in options for it in differs(case, folder, more)]

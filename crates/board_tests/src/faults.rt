@@ -9,11 +9,11 @@ const RECORDS: &[u8] =
 
 const WORDS: [&str; 5] = ["board", "mib", "feed", "desk", "page"];
 
-// Two packets and a piece of a third, whose pages come to a screen that fails here.
-fn cut(alloc: Global, place: u64) -> Result<Objects, Fail> {
+// So many octets of three packets, whose pages come to a screen that fails here.
+fn cut(alloc: Global, length: usize, place: u64) -> Result<Objects, Fail> {
     let mut run = Objects::new(alloc, &[])?;
     let mut octets = packets(alloc, &[500, 500, 500])?;
-    octets.truncate(31);
+    octets.truncate(length);
     run.feed = shelf(alloc, "feed", &octets, &[])?;
     run.screen = sink(alloc, &[place])?;
     Ok(run)
@@ -22,16 +22,17 @@ fn cut(alloc: Global, place: u64) -> Result<Objects, Fail> {
 #[test]
 fn a_screen_that_fails_leaves_the_records_whole(rt: HostRuntime) -> Result<(), Fail> {
     let alloc = rt.alloc();
-    for place in [0, 17] {
-        let mut run = cut(alloc, place)?;
+    let whole = &RECORDS[..104];
+    for (length, place, records) in [(24, 0, whole), (31, 0, RECORDS), (31, 17, RECORDS)] {
+        let mut run = cut(alloc, length, place)?;
         assert_eq!(rt;
             run.board(&rt, alloc, &WORDS)?,
             (BoardCode::ScreenFault, true)
         );
-        assert_eq!(rt; run.out.handed(), RECORDS);
+        assert_eq!(rt; run.out.handed(), records);
         assert_eq!(rt; run.screen.bytes().len() as u64, place);
     }
-    let mut run = cut(alloc, 1000)?;
+    let mut run = cut(alloc, 31, 1000)?;
     assert_eq!(rt; run.board(&rt, alloc, &WORDS)?, (BoardCode::Cut(7), true));
     assert!(rt;
         run.screen
@@ -44,7 +45,7 @@ fn a_screen_that_fails_leaves_the_records_whole(rt: HostRuntime) -> Result<(), F
 #[test]
 fn a_fault_of_the_output_goes_before_one_of_the_screen(rt: HostRuntime) -> Result<(), Fail> {
     let alloc = rt.alloc();
-    let mut run = cut(alloc, 0)?;
+    let mut run = cut(alloc, 31, 0)?;
     run.out = sink(alloc, &[60])?;
     assert_eq!(rt; run.board(&rt, alloc, &WORDS)?, (BoardCode::OutFault, true));
     assert_eq!(rt; run.out.bytes(), &RECORDS[..60]);

@@ -127,11 +127,12 @@ fn each_job_of_two_producers_comes_once_to_two_consumers(rt: HostRuntime) -> Res
 #[test]
 fn a_put_into_an_empty_queue_succeeds_and_a_get_gives_it_back(rt: HostRuntime) -> Result<(), Fail> {
     let (queue, mut pass) = Queue::new(rt.alloc(), 1)?;
-    assert_eq!(rt; queue.get(&rt, &mut pass).is_none(), true);
-    assert_eq!(rt; queue.put(&rt, &mut pass, Job { number: 5 }).is_ok(), true);
+    assert!(rt; queue.get(&rt, &mut pass).is_none());
+    assert!(rt; queue.put(&rt, &mut pass, Job { number: 5 }).is_ok());
     let back = queue.put(&rt, &mut pass, Job { number: 9 });
-    assert_eq!(rt; back.err().map(|job| job.number), Some(9), "full");
-    assert_eq!(rt; queue.get(&rt, &mut pass).map(|job| job.number), Some(5));
+    assert!(rt; matches!(&back, Err(job) if job.number == 9), "full");
+    let job = queue.get(&rt, &mut pass);
+    assert!(rt; matches!(&job, Some(job) if job.number == 5));
     let other = queue.split(&mut pass);
     queue.join(&mut pass, other);
     Ok(())

@@ -1,11 +1,11 @@
 // An intake and a desk on two threads.
-ghost use Rattle.std.specs.Prelude.{◌≡◌, ◌≤◌, ◌<◌, ◌+◌, ◌^◌, ◌∷◌, [], length};
+ghost use Rattle.std.specs.Prelude.{◌≡◌, ◌≤◌, ◌<◌, ◌+◌, ◌^◌, ◌∷◌, true, [], length};
 ghost use Rattle.mib_model.specs.Database.{no_rows};
 ghost use Rattle.turn_cell.specs.Seats.{own_moves};
 ghost use Rattle.edition_register.specs.Seats.{IsSeat, first_of, shown_in};
 
-use crate::registers::{Bare, Blank, plain_edition};
 use edition_register::{Editions, Register, Start};
+use mib_model::{MadeFor, Rows};
 use std::alloc::{AllocError, Global};
 use std::sync::{Arc, Wait};
 use std::test::Fail;
@@ -16,6 +16,30 @@ use turn_cell::Seat;
 const PACKETS: u32 = 10_000;
 
 const USES: u32 = 100;
+
+// An edition without tables.
+#[derive(Drop)]
+struct Bare {
+    _letter: u8,
+}
+
+impl Rows for Bare {
+    ghost tables = { λ edition. no_rows };
+
+    ghost plans = { λ edition. [] };
+}
+
+// A board that serves all tables.
+#[derive(Drop)]
+struct Blank;
+
+impl MadeFor for Blank {
+    ghost made_for = { λ tables board. true };
+}
+
+fn plain_edition(alloc: Global, letter: u8) -> Result<Arc<Bare>, AllocError> {
+    Ok(Arc::new(alloc, Bare { _letter: letter })?)
+}
 
 // What the intake saw of a packet: its edition, and whether an activation begins with it.
 #[derive(Clone, Copy, Drop)]

@@ -1,8 +1,7 @@
 // A sum that callers add to in turn.
-ghost use Rattle.std.specs.Prelude.{◌≡◌, ◌≢◌, ℕ, ◌+◌, ◌^◌, ◌<◌, ◌≤◌, true, not, is_some, is_ok, [], ◌∷◌, ◌++◌, length, IfErr};
-ghost use Rattle.histories.specs.History.{move, IsOfSeatsBelow};
+ghost use Rattle.std.specs.Prelude.{◌≡◌, ℕ, ◌+◌, ◌^◌, ◌<◌, ◌≤◌, length};
 ghost use Rattle.turn_cell.specs.Views.{times};
-ghost use Rattle.turn_cell.specs.Seats.{callers_of, holdings_of, number_of, own_moves, seen_by, IsIdle, IsSeatOf};
+ghost use Rattle.turn_cell.specs.Seats.{callers_of, holdings_of, number_of, own_moves, IsIdle, IsSeatOf};
 
 use std::mem::size_of;
 use std::sync::Wait;
@@ -50,85 +49,6 @@ fn add<R: Wait>(rt: &R, turn: &Turn<Sum>, mut seat: Seat<Sum>, amount: u64, turn
         take_turn(rt, turn, &mut seat, amount);
     }
     seat
-}
-
-// One place, and the item that lies there. An item that finds the place taken is handed back.
-#[derive(Drop)]
-struct Shelf {
-    item: Option<u64>,
-}
-
-impl Machine for Shelf {
-    type Entry = u64;
-
-    type Reply = Result<(), u64>;
-
-    type State = bool;
-
-    type Event = ();
-
-    type Answer = bool;
-
-    ghost state = { λ shelf. is_some shelf.item };
-
-    ghost event = { λ item. tt };
-
-    ghost answer = { λ reply. is_ok reply };
-
-    ghost reply = { λ taken event. not taken };
-
-    ghost after = { λ taken event. true };
-
-    ghost fits = { λ taken item. 0 < item };
-
-    ghost gives = { λ taken item reply. IfErr reply (λ back. back ≡ item) };
-
-    ghost may = { λ number event. Unit {0} };
-
-    fn act(&mut self, item: u64) -> Result<(), u64> {
-        if self.item.is_some() {
-            return Err(item);
-        }
-        self.item = Some(item);
-        Ok(())
-    }
-}
-
-// Puts an item on the shelf. The history tells only whether it was taken; the item that comes back is the one put.
-fn put<R: Wait>(rt: &R, turn: &Turn<Shelf>, seat: &mut Seat<Shelf>, item: u64) -> Result<(), u64>
-    requires seat { IsSeatOf (λ shelf. is_some shelf.item) turn.now seat.old }
-    requires idle { IsIdle seat.old }
-    requires number { 1 ≤ length (holdings_of seat.old) }
-    requires room { length (own_moves seat.old) < 2 ^ 32 }
-    requires item { 0 < item }
-    ensures seat { IsSeatOf (λ shelf. is_some shelf.item) turn.now seat.new }
-    ensures idle { IsIdle seat.new }
-    ensures number { 1 ≤ length (holdings_of seat.new) }
-    ensures room { length (own_moves seat.new) ≡ length (own_moves seat.old) + 1 }
-    ensures back { IfErr result (λ back. back ≡ item) }
-    ensures callers { (before : _) × (seen_by seat.new ≡ before ++ move (number_of seat.old) tt (is_ok result) ∷ [])
-        × IsOfSeatsBelow (callers_of turn.now) before }
-{
-    let mut held = turn.enter(rt, seat);
-    let reply = turn.append(seat, &mut held, item);
-    turn.leave(seat, held);
-    reply
-}
-
-fn is_shared<S: Machine + Drop>(_turn: &Turn<S>, _seat: &mut Seat<S>) {}
-
-// A turn of any machine is shared by threads, and its seats go to them.
-fn share<S: Machine + Drop + Send, R: Threads + Sync>(
-    rt: &R,
-    turn: &Turn<S>,
-    one: &mut Seat<S>,
-    two: &mut Seat<S>,
-) {
-    thread::join_mut(
-        rt,
-        &mut || is_shared(turn, one),
-        &mut || is_shared(turn, two),
-    );
 }
 
 // Joins two seats that hold all numbers, and closes.
@@ -190,31 +110,6 @@ fn two_threads_close_to_the_exact_sum(rt: HostRuntime) -> Result<(), Fail> {
     let two = turn.split(&mut one);
     let (one, two) = add_at_once(&rt, &turn, one, two, 1000);
     assert_eq!(rt; total(turn, one, two), 4005);
-    Ok(())
-}
-
-#[test]
-fn three_callers_split_join_and_carry_notes(rt: HostRuntime) -> Result<(), Fail> {
-    let (turn, mut one) = Turn::new(rt.alloc(), Sum { total: 0 }, 3)?;
-    let mut three = turn.split(&mut one);
-    let mut two = turn.split(&mut one);
-    let note = turn.split(&mut one);
-    assert_eq!(rt; take_turn(&rt, &turn, &mut one, 7), 0);
-    assert_eq!(rt; take_turn(&rt, &turn, &mut three, 20), 7);
-    assert_eq!(rt; take_turn(&rt, &turn, &mut two, 300), 27);
-    turn.join(&mut two, note);
-    turn.join(&mut one, three);
-    let note = turn.split(&mut one);
-    turn.join(&mut two, note);
-    assert_eq!(rt; total(turn, one, two), 327);
-    Ok(())
-}
-
-#[test]
-fn what_is_refused_comes_back(rt: HostRuntime) -> Result<(), Fail> {
-    let (turn, mut seat) = Turn::new(rt.alloc(), Shelf { item: None }, 1)?;
-    assert_eq!(rt; put(&rt, &turn, &mut seat, 7), Ok(()));
-    assert_eq!(rt; put(&rt, &turn, &mut seat, 8), Err(8));
     Ok(())
 }
 

@@ -25,28 +25,6 @@ fn results_in_reverse_are_taken_in_order(rt: HostRuntime) -> Result<(), Fail> {
 }
 
 #[test]
-fn results_in_a_random_order_are_taken_in_order(rt: HostRuntime) -> Result<(), Fail> {
-    let mut window = Window::new(rt.alloc(), 16)?;
-    let mut state = 1u64;
-    let mut taken = 0u64;
-    for _ in 0..40_000 {
-        state = state.wrapping_mul(69_069).wrapping_add(1) % 4_294_967_296;
-        let n = taken
-            .saturating_add(1)
-            .saturating_add((state / 65_536) % 20);
-        let _ = window.place(n, n);
-        for _ in 0..16 {
-            if let Some(result) = window.take_next() {
-                taken = taken.saturating_add(1);
-                assert_eq!(rt; result, taken);
-            }
-        }
-    }
-    assert!(rt; taken > 1000, "{taken} results were taken");
-    Ok(())
-}
-
-#[test]
 fn a_stranger_comes_back(rt: HostRuntime) -> Result<(), Fail> {
     let mut window = Window::new(rt.alloc(), 2)?;
     let cases = [

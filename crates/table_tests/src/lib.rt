@@ -1,4 +1,4 @@
-//! Tests of what reads and writes: files and folders in memory and real ones, and the limits of tables.
+//! Tests of what reads and writes: files and folders in memory and real ones.
 //!
 //! It has tests alone, and nothing rests on it. In a crate of their own they are proved without the functions that they try.
 #![tactic(auto)]
