@@ -1,5 +1,5 @@
 -- Packets that are drawn ahead.
-use Rattle.std.proofs.Common.{◌≡◌, ◌<◌, ◌≤◌, ◌+◌, ◌-◌, ℕ, zero, suc, List, [], ◌∷◌, ◌++◌, Option, Some, None, length, take, drop, get_or, refl, sym, subst, ap, ◌∙◌, append_assoc, append-nil, length-append, length-take, length-drop, take_at, drop_at, take-append-drop, drop-drop, arith}
+use Rattle.std.proofs.Common.{◌≡◌, ◌≢◌, ◌<◌, ◌≤◌, ◌+◌, ◌-◌, ℕ, zero, suc, List, [], ◌∷◌, ◌++◌, Option, Some, None, length, take, drop, get_or, refl, sym, subst, ap, ◌∙◌, append_assoc, append-nil, length-append, length-take, length-drop, take_at, drop_at, take-append-drop, drop-drop, arith}
 use Rattle.std.specs.Prelude.{IfSome}
 use Rattle.std.specs.List.{All, AllZip, concat}
 use Rattle.std.specs.Io.{StartsWith}
@@ -87,15 +87,16 @@ under (Some octets) P Q then holds = then holds
 
 -- so many packets were read, and it ended so
 pub reads-so : (f : Filled) (start : Option (List ℕ)) (number k : ℕ) (packets : List (List ℕ)) (old left new : Option (List ℕ)) → All IsPacket packets → k ≤ length packets
-    → (Come packets old → HasRead packets k old left) → (Come packets old → EndsBatch f (take k packets) left new) → IfSome start (λ octets. Come packets old)
-    → Reads f start number (number + k) (take k packets) old new
-reads-so f start number k packets old left new each few read ends come =
+    → (Come packets old → HasRead packets k old left) → (Come packets old → EndsBatch f (take k packets) left new) → (f ≢ filled.Paused → EndsFeed f left new)
+    → IfSome start (λ octets. Come packets old) → Reads f start number (number + k) (take k packets) old new
+reads-so f start number k packets old left new each few read ends of_feed come =
     record {
       middle = left;
       are_packets = All-take IsPacket k packets each;
       taken = under start (Come packets old) (Consumes old left (concat (take k packets))) (λ told. (read told).0) come;
       count = omega (arith, few, length-take k packets);
       ends = under start (Come packets old) (EndsBatch f (take k packets) left new) ends come;
+      of_feed = of_feed;
     }
 
 -- the feed ends before all of them were read

@@ -1,5 +1,5 @@
 -- Packets as they are read.
-use Rattle.std.proofs.Common.{◌≡◌, ◌<◌, ◌+◌, ◌≤◌, ℕ, suc, List, [], ◌∷◌, ◌++◌, Option, Some, None, length, take, refl, ap, ◌∙◌, append-nil, arith, subst}
+use Rattle.std.proofs.Common.{◌≡◌, ◌≢◌, ◌<◌, ◌+◌, ◌≤◌, ℕ, suc, List, [], ◌∷◌, ◌++◌, Option, Some, None, length, take, refl, ap, ◌∙◌, append-nil, arith, subst}
 use Rattle.std.specs.Prelude.{IfSome}
 use Rattle.packet_feed.specs.Feed.{BeginsWithPacket, TookLast}
 use Rattle.decode_session.specs.declared.batch.Filled.{Filled}
@@ -44,3 +44,15 @@ batch-ends filled.Paused packets old new ends ahead = absurd ends
 batch-ends filled.End packets old new ends ahead = ends
 batch-ends (filled.Cut count) packets old new ends ahead = (ends, rest-alone count packets old new ends ahead)
 batch-ends filled.Failed packets old new ends ahead = ends
+
+-- a batch that doesn't end with a packet ends as the feed does
+pub ends-of_feed : (f : Filled) (packets : List (List ℕ)) (old new : Option (List ℕ)) → EndsBatch f packets old new → f ≢ filled.Paused → EndsFeed f old new
+ends-of_feed filled.Paused packets old new ends some = absurd (some refl)
+ends-of_feed filled.End packets old new ends some = ends
+ends-of_feed (filled.Cut count) packets old new ends some = ends.0
+ends-of_feed filled.Failed packets old new ends some = ends
+
+-- what holds, holds where something is told
+pub guarded : (start : Option (List ℕ)) (P : Type 0) → P → IfSome start (λ octets. P)
+guarded None P holds = tt
+guarded (Some octets) P holds = holds

@@ -1,6 +1,6 @@
 -- Packets that are read and printed.
-use Rattle.std.proofs.Common.{◌≡◌, ◌<◌, ◌≤◌, ◌+◌, ℕ, List, [], ◌∷◌, ◌++◌, Option, Some, None, Result, Ok, Err, length, take, drop, get_or, take-append-drop, length-take, sym, ap, ◌∙◌, append-nil, append_assoc, arith, subst}
-use Rattle.std.specs.Prelude.{IfSome, OnErr, OnOk, is_err, true, false}
+use Rattle.std.proofs.Common.{◌≡◌, ◌<◌, ◌≤◌, ◌+◌, ℕ, List, [], ◌∷◌, ◌++◌, Option, Result, Ok, Err, length, take, drop, get_or, take-append-drop, length-take, sym, ap, ◌∙◌, append-nil, append_assoc, arith, subst}
+use Rattle.std.specs.Prelude.{OnErr, OnOk, is_err, true, false}
 use Rattle.std.specs.List.{concat}
 use Rattle.std.specs.Io.KnownBytes.{Appends, Consumes}
 use Rattle.tm_io.specs.Octets.{AppendsPrefix}
@@ -15,7 +15,7 @@ use Rattle.decode_session.specs.Causes.{HasFillCause}
 use Rattle.decode_session.specs.Finishing.{standing, batch_text, Finishes, LeavesAfter, Going}
 use Rattle.decode_session.specs.Run.{Ran, EndsUnwritten}
 use Rattle.decode_session.specs.Turns.{Adds, AddsBatch, Prints, PrintsNext, PrintsPart, StopsNext}
-use Rattle.decode_session.proofs.BatchFacts.{stamped-append, stamped-one, stamped-none}
+use Rattle.decode_session.proofs.BatchFacts.{ends-of_feed, guarded, stamped-append, stamped-one, stamped-none}
 use Rattle.decode_session.proofs.FinishFacts.{text-none, leaves-none, text-one, leaves-one, text-append, leaves-append, leaves-run, part-behind, part-longer, step-text, step-leaves}
 use Rattle.decode_session.proofs.RunSteps.{going-more, ran-stopped_within}
 use Rattle.mib_model.specs.declared.database.Database.{Database}
@@ -158,11 +158,6 @@ pub err-of : {T E : Type 0} (r : Result T E) (P : Type 0) → is_err r ≡ true 
 err-of (Ok v) P is holds = absurd (cc is)
 err-of (Err e) P is holds = holds
 
--- what holds, holds where something is told
-guarded : (start : Option (List ℕ)) (P : Type 0) → P → IfSome start (λ octets. P)
-guarded None P holds = tt
-guarded (Some octets) P holds = holds
-
 module _ (f : Filled) (db : Database) (number next : ℕ) (start left behind old new : Option (List ℕ)) (memory after : Memory) (text : List ℕ) (batch : AddsBatch f db number next left behind memory after text) where
   batch-reads : Reads f start number next batch.0 left behind
   batch-reads =
@@ -172,6 +167,7 @@ module _ (f : Filled) (db : Database) (number next : ℕ) (start left behind old
         taken = guarded start (Consumes left batch.1 (concat batch.0)) batch.2.taken;
         count = batch.3;
         ends = guarded start (EndsBatch f batch.0 batch.1 behind) batch.4;
+        of_feed = ends-of_feed f batch.0 batch.1 behind batch.4;
       }
 
   -- the text of packets that were read one by one was written

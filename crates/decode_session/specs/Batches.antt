@@ -1,5 +1,5 @@
 -- What is read. [This project's own.]
-use Rattle.std.specs.Prelude.{◌≡◌, ℕ, ◌<◌, ◌+◌, List, [], length, Option, IfSome}
+use Rattle.std.specs.Prelude.{◌≡◌, ◌≢◌, ℕ, ◌<◌, ◌+◌, List, [], length, Option, IfSome}
 use Rattle.std.specs.List.{All, concat}
 use Rattle.std.specs.Io.KnownBytes.{Consumes, IsAtEnd}
 use Rattle.packet_feed.specs.Feed.{TookRest, TookLast}
@@ -30,10 +30,11 @@ EndsBatch (filled.Cut count) packets old new = EndsFeed (filled.Cut count) old n
 EndsBatch filled.Failed packets old new = EndsFeed filled.Failed old new
 
 -- in a run that began with these octets, if they were told, these packets were read, from a number on up to the one of the next
--- number, and then it ended so
+-- number, and then it ended so, as the feed does where it isn't by a packet
 pub record Reads (f : Filled) (start : Option (List ℕ)) (number next : ℕ) (packets : List (List ℕ)) (old new : Option (List ℕ)) : Type 0 where
   pub middle : Option (List ℕ)
   pub are_packets : All IsPacket packets
   pub taken : IfSome start (λ octets. Consumes old middle (concat packets))
   pub count : next ≡ number + length packets
   pub ends : IfSome start (λ octets. EndsBatch f packets middle new)
+  pub of_feed : f ≢ filled.Paused → EndsFeed f middle new

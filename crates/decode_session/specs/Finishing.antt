@@ -1,14 +1,15 @@
 -- Packets of one edition on the way to their records. [This project's own.]
-use Rattle.std.specs.Prelude.{◌≡◌, ℕ, ◌+◌, List, [], ◌++◌, length, Option, Some, None, ⊤}
+use Rattle.std.specs.Prelude.{◌≡◌, ℕ, ◌+◌, List, [], ◌++◌, length, Option}
 use Rattle.std.specs.List.{All, concat}
+use Rattle.std.specs.Io.KnownBytes.{Consumes}
 use Rattle.decode_session.specs.Run.{Writes}
 use Rattle.edition_plans.specs.Params.{param_slices}
 use Rattle.fold_state.specs.declared.demands.Demand.{Demand}
 use Rattle.fold_state.specs.Demands.{AreDemandsOf, asked_in}
 use Rattle.memory_laws.specs.Alike.{AreAlike}
 use Rattle.mib_model.specs.declared.database.Database.{Database}
-use Rattle.mib_model.specs.Interpreter.{Course, StampedPacket, start, record_for, course_after, interpret, course_after_all, records_text}
-use Rattle.mib_model.specs.Kept.{Memory}
+use Rattle.mib_model.specs.Interpreter.{Course, StampedPacket, record_for, course_after, interpret, course_after_all, records_text}
+use Rattle.mib_model.specs.Kept.{Memory, empty_memory}
 use Rattle.mib_model.specs.Output.{stamped_from}
 use Rattle.mib_model.specs.Packets.{IsPacket}
 use Rattle.mib_model.specs.Texts.{record_text}
@@ -52,9 +53,7 @@ pub record Finishes (edition : ℕ) (db : Database) (s : StampedPacket) (old new
 
 -- in a run of edition 1 the packets before the one of this number were read and printed, and this is kept after them
 abbrev pub Going : Database → ℕ → Memory → Option (List ℕ) → Option (List ℕ) → Option (List ℕ) → Option (List ℕ) → Type 0
-Going db number memory None left old new = ⊤
-Going db number memory (Some octets) None old new = ⊥
-Going db number memory (Some octets) (Some left) old new =
+Going db number memory start left old new =
     (packets : List (List ℕ))
-    × (octets ≡ concat packets ++ left) × All IsPacket packets × (length packets + 1 ≡ number) × Writes db packets [] old new
-    × (standing 1 db memory ≡ course_after_all (start db) (stamped_from db 1 packets))
+    × Consumes start left (concat packets) × All IsPacket packets × (length packets + 1 ≡ number) × Writes db packets [] old new
+    × LeavesAfter 1 db empty_memory (stamped_from db 1 packets) memory

@@ -1,6 +1,6 @@
 -- What a run reads and writes. [This profile.]
-use Rattle.std.specs.Prelude.{◌≡◌, ℕ, ◌<◌, ◌≤◌, List, [], ◌++◌, length, Option, Some, None, Result, Ok, Err, ⊤, ◌⊎◌}
-use Rattle.std.specs.Io.KnownBytes.{Appends}
+use Rattle.std.specs.Prelude.{◌≡◌, ℕ, ◌<◌, ◌≤◌, List, [], ◌++◌, length, Option, IfSome, Result, Ok, Err, ◌⊎◌}
+use Rattle.std.specs.Io.KnownBytes.{Appends, Consumes, IsAtEnd}
 use Rattle.tm_io.specs.Causes.{Rose}
 use Rattle.tm_io.specs.Octets.{AppendsPrefix}
 use Rattle.mib_model.specs.declared.database.Database.{Database}
@@ -49,36 +49,39 @@ pub record StopsWriting (db : Database) (packets : List (List ℕ)) (rest : List
   pub reads : ReadsNoFurther packets printed rest before now
   pub least : WritesOver db printed old new
 
--- ---- what a run leaves: the packets and the rest that were read, what is left of the feed, and what was written before and now
+-- ---- what a run leaves
+
+-- what is said of a database, the packets and the rest that were read, what the feed had and has left, and what was written before and now
+abbrev pub Says : Type 1
+Says = Database → List (List ℕ) → List ℕ → Option (List ℕ) → Option (List ℕ) → Option (List ℕ) → Option (List ℕ) → Type 0
 
 -- the feed was read to its end, and all packets were printed
-abbrev pub EndsWhole : Database → List (List ℕ) → List ℕ → List ℕ → Option (List ℕ) → Option (List ℕ) → Type 0
-EndsWhole db packets rest left old new = (rest ≡ []) × (left ≡ []) × (length packets < most_packets) × Writes db packets [] old new
+abbrev pub EndsWhole : Says
+EndsWhole db packets rest start left old new =
+    (rest ≡ []) × IfSome start (λ octets. IsAtEnd left) × (length packets < most_packets) × Writes db packets [] old new
 
 -- the feed was read to its end, which is a rest of so many octets, and all packets and the line of the rest were printed
-abbrev pub EndsCut : ℕ → Database → List (List ℕ) → List ℕ → List ℕ → Option (List ℕ) → Option (List ℕ) → Type 0
-EndsCut count db packets rest left old new =
-    (length rest ≡ count) × (0 < count) × (left ≡ []) × (length packets < most_packets) × Writes db packets (cut_text count) old new
+abbrev pub EndsCut : ℕ → Says
+EndsCut count db packets rest start left old new =
+    (length rest ≡ count) × (0 < count) × IfSome start (λ octets. IsAtEnd left) × (length packets < most_packets)
+    × Writes db packets (cut_text count) old new
 
 -- the most packets were read and printed
-abbrev pub EndsAtLimit : Database → List (List ℕ) → List ℕ → List ℕ → Option (List ℕ) → Option (List ℕ) → Type 0
-EndsAtLimit db packets rest left old new = (rest ≡ []) × (length packets ≡ most_packets) × Writes db packets [] old new
+abbrev pub EndsAtLimit : Says
+EndsAtLimit db packets rest start left old new = (rest ≡ []) × (length packets ≡ most_packets) × Writes db packets [] old new
 
 -- the feed failed behind the packets that were read, which were printed
-abbrev pub EndsUnread : Database → List (List ℕ) → List ℕ → List ℕ → Option (List ℕ) → Option (List ℕ) → Type 0
-EndsUnread db packets rest left old new = (length packets < most_packets) × Writes db packets [] old new
+abbrev pub EndsUnread : Says
+EndsUnread db packets rest start left old new = (length packets < most_packets) × Writes db packets [] old new
 
 -- the output failed, with these counts of faults of the feed
-abbrev pub EndsUnwritten : ℕ → ℕ → Database → List (List ℕ) → List ℕ → List ℕ → Option (List ℕ) → Option (List ℕ) → Type 0
-EndsUnwritten before now db packets rest left old new = (length packets ≤ most_packets) × StopsWriting db packets rest before now old new
+abbrev pub EndsUnwritten : ℕ → ℕ → Says
+EndsUnwritten before now db packets rest start left old new =
+    (length packets ≤ most_packets) × StopsWriting db packets rest before now old new
 
 -- memory ran out before anything was read or written
-abbrev pub EndsWanting : Database → List (List ℕ) → List ℕ → List ℕ → Option (List ℕ) → Option (List ℕ) → Type 0
-EndsWanting db packets rest left old new = (packets ≡ []) × (rest ≡ []) × (new ≡ old)
-
--- what is said of a database, the packets and the rest that were read, what is left, and what was written before and now
-abbrev pub Says : Type 1
-Says = Database → List (List ℕ) → List ℕ → List ℕ → Option (List ℕ) → Option (List ℕ) → Type 0
+abbrev pub EndsWanting : Says
+EndsWanting db packets rest start left old new = (packets ≡ []) × (rest ≡ []) × (new ≡ old)
 
 -- what a run leaves by its answer, with these counts of faults of the feed
 abbrev pub EndsBy : Result RunEnd RunFault → ℕ → ℕ → Says
@@ -89,11 +92,8 @@ EndsBy (Err fault.Feed) before now = EndsUnread
 EndsBy (Err (fault.Print stop.Out)) before now = EndsUnwritten before now
 EndsBy (Err (fault.Print stop.Memory)) before now = EndsWanting
 
--- what a run did with the octets that the feed had, if they are told: what was read of them is cut into packets and a rest, of
--- which this is said
+-- what a run did: what it read, which stood in front of the feed where that told its octets, is cut into packets and a rest, of which this is said
 abbrev pub Ran : Says → Database → Option (List ℕ) → Option (List ℕ) → Option (List ℕ) → Option (List ℕ) → Type 0
-Ran says db None left old new = ⊤
-Ran says db (Some octets) None old new = ⊥
-Ran says db (Some octets) (Some left) old new =
+Ran says db start left old new =
     (read : List ℕ) × (packets : List (List ℕ)) × (rest : List ℕ)
-    × (octets ≡ read ++ left) × IsCut read packets rest × says db packets rest left old new
+    × Consumes start left read × IsCut read packets rest × says db packets rest start left old new

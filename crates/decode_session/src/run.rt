@@ -146,7 +146,7 @@ fn run_in<P: Plans + Sync, S: Source, O: Sink, R: Threads + Sync>(
 
 /// Decodes the packets of a feed by one edition, with so many workers, and hands on what was written. It ends at the end of the
 /// feed, at a rest, at a fault, or after 1,000,000,000 packets, and waits for nobody beyond its feed and its output.
-#[tactic(auto, using(crate::proofs::RunSteps::ran_unflushed, crate::proofs::RunSteps::ran_nothing))]
+#[tactic(auto, using(crate::proofs::RunSteps::ran_nothing))]
 pub fn decode_run<P: Plans + Sync, S: Source, O: Sink, R: Threads + Sync>(
     rt: &R,
     alloc: Global,

@@ -25,7 +25,7 @@ returns-in-End-clause-reads g c start number packets each few come =
     let below = c.loop-k-test.true in
     let short : c.loop-k.k < length packets = omega (arith, below, few) in
     let read = c.loop-k.invariant.read packets each few in
-    reads-so filled.End start number c.loop-k.k packets _ _ _ each (omega (arith, short)) read (λ told. read-ends filled.End packets c.loop-k.k _ _ _ short each c.in-End.ensures.gives (read told)) come
+    reads-so filled.End start number c.loop-k.k packets _ _ _ each (omega (arith, short)) read (λ told. read-ends filled.End packets c.loop-k.k _ _ _ short each c.in-End.ensures.gives (read told)) (λ some. c.in-End.ensures.gives) come
 
 pub returns-in-Cut-clause-reads : goal.returns-in-Cut-clause-reads
 returns-in-Cut-clause-reads g c start number packets each few come =
@@ -33,18 +33,18 @@ returns-in-Cut-clause-reads g c start number packets each few come =
     let short : c.loop-k.k < length packets = omega (arith, below, few) in
     let read = c.loop-k.invariant.read packets each few in
     let cut = filled.Cut c.in-Cut.octets in
-    reads-so cut start number c.loop-k.k packets _ _ _ each (omega (arith, short)) read (λ told. read-ends cut packets c.loop-k.k _ _ _ short each c.in-Cut.ensures.gives (read told)) come
+    reads-so cut start number c.loop-k.k packets _ _ _ each (omega (arith, short)) read (λ told. read-ends cut packets c.loop-k.k _ _ _ short each c.in-Cut.ensures.gives (read told)) (λ some. c.in-Cut.ensures.gives) come
 
 pub returns-in-Failed-clause-reads : goal.returns-in-Failed-clause-reads
 returns-in-Failed-clause-reads g c start number packets each few come =
     let below = c.loop-k-test.true in
     let short : c.loop-k.k < length packets = omega (arith, below, few) in
     let read = c.loop-k.invariant.read packets each few in
-    reads-so filled.Failed start number c.loop-k.k packets _ _ _ each (omega (arith, short)) read (λ told. read-ends filled.Failed packets c.loop-k.k _ _ _ short each c.in-Failed.ensures.gives (read told)) come
+    reads-so filled.Failed start number c.loop-k.k packets _ _ _ each (omega (arith, short)) read (λ told. read-ends filled.Failed packets c.loop-k.k _ _ _ short each c.in-Failed.ensures.gives (read told)) (λ some. c.in-Failed.ensures.gives) come
 
 pub returns-clause-reads : goal.returns-clause-reads
 returns-clause-reads g c start number packets each few come =
     let some = c.requires in
     let end : c.loop-k.k ≡ c.args.count = let over = c.loop-k-test.false in let within = c.loop-k.auto.k-end in omega arith in
     rw end at (reads-so filled.Paused start number c.loop-k.k packets _ _ _ each (omega (arith, end, few)) (c.loop-k.invariant.read packets each few)
-    (λ told. (refl, omega (arith, end, few, some, length-take c.loop-k.k packets))) come)
+    (λ told. (refl, omega (arith, end, few, some, length-take c.loop-k.k packets))) (λ more. absurd (more refl)) come)

@@ -88,7 +88,7 @@ returns-in-End-clause-ran g c =
     let done = ok-of c.print_next-next.result.2 _ (sym c.is_err.ensures.value ∙ c.if-is_err.false) c.print_next-next.ensures.done in
     let (after, still, (packets, reads, prints)) = done start come m c.loop-number.invariant.going.1 in
     let ended = subst (λ f. Reads f start n c.print_next-next.result.0 packets (g.S.Source.left (source_of c.loop-number.feed)) (g.S.Source.left (source_of c.print_next-next.new.feed))) c.in-End.is reads in
-    ran-whole db c.print_next-next.result.0 after start ended.middle _ _ _ (subst (λ f. f ≢ filled.Paused → c.print_next-next.result.0 ≤ 1000000000) c.in-End.is c.print_next-next.ensures.below (λ e. cc)) ended.ends
+    ran-whole db c.print_next-next.result.0 after start ended.middle _ _ _ (subst (λ f. f ≢ filled.Paused → c.print_next-next.result.0 ≤ 1000000000) c.in-End.is c.print_next-next.ensures.below (λ e. cc)) (ended.of_feed (λ e. cc))
     (going-next db n filled.End c.print_next-next.result.0 m packets start _ _ _ _ _ ended so_far after prints)
 
 pub returns-in-Ok-write_cut-clause-ran : goal.returns-in-Ok-write_cut-clause-ran
@@ -103,7 +103,7 @@ returns-in-Ok-write_cut-clause-ran g c =
     let (after, still, (packets, reads, prints)) = done start come m c.loop-number.invariant.going.1 in
     let ended = subst (λ f. Reads f start n c.print_next-next.result.0 packets (g.S.Source.left (source_of c.loop-number.feed)) (g.S.Source.left (source_of c.print_next-next.new.feed))) c.in-Cut.is reads in
     ran-cut db c.print_next-next.result.0 c.in-Cut.octets after start ended.middle _ _ _ _ (subst (λ f. f ≢ filled.Paused → c.print_next-next.result.0 ≤ 1000000000) c.in-Cut.is c.print_next-next.ensures.below (λ e. cc))
-    (under start _ _ (λ ends. ends.0) ended.ends) c.in-Ok-write_cut.ensures.all
+    (ended.of_feed (λ e. cc)) c.in-Ok-write_cut.ensures.all
     (going-next db n (filled.Cut c.in-Cut.octets) c.print_next-next.result.0 m packets start _ _ _ _ _ ended so_far after prints)
 
 pub returns-in-Err-clause-ran : goal.returns-in-Err-clause-ran
@@ -118,7 +118,7 @@ returns-in-Err-clause-ran g c =
     let (after, still, (packets, reads, prints)) = done start come m c.loop-number.invariant.going.1 in
     let ended = subst (λ f. Reads f start n c.print_next-next.result.0 packets (g.S.Source.left (source_of c.loop-number.feed)) (g.S.Source.left (source_of c.print_next-next.new.feed))) c.in-Cut.is reads in
     ran-stopped_at_rest db c.print_next-next.result.0 c.in-Cut.octets _ _ after start ended.middle _ _ _ _ (subst (λ f. f ≢ filled.Paused → c.print_next-next.result.0 ≤ 1000000000) c.in-Cut.is c.print_next-next.ensures.below (λ e. cc))
-    (under start _ _ (λ ends. ends.0) ended.ends)
+    (ended.of_feed (λ e. cc))
     (subst (λ f. HasFillCause f (g.S.Source.faults (source_of c.loop-number.feed)) (g.S.Source.faults (source_of c.print_next-next.new.feed))) c.in-Cut.is c.print_next-next.ensures.cause ∙ c.loop-number.invariant.feed) c.in-Err.ensures.part
     (going-next db n (filled.Cut c.in-Cut.octets) c.print_next-next.result.0 m packets start _ _ _ _ _ ended so_far after prints)
 
@@ -133,7 +133,7 @@ returns-in-Failed-clause-ran g c =
     let done = ok-of c.print_next-next.result.2 _ (sym c.is_err.ensures.value ∙ c.if-is_err.false) c.print_next-next.ensures.done in
     let (after, still, (packets, reads, prints)) = done start come m c.loop-number.invariant.going.1 in
     let ended = subst (λ f. Reads f start n c.print_next-next.result.0 packets (g.S.Source.left (source_of c.loop-number.feed)) (g.S.Source.left (source_of c.print_next-next.new.feed))) c.in-Failed.is reads in
-    ran-fault db c.print_next-next.result.0 after start ended.middle _ _ _ (subst (λ f. f ≢ filled.Paused → c.print_next-next.result.0 ≤ 1000000000) c.in-Failed.is c.print_next-next.ensures.below (λ e. cc)) ended.ends
+    ran-fault db c.print_next-next.result.0 after start ended.middle _ _ _ (subst (λ f. f ≢ filled.Paused → c.print_next-next.result.0 ≤ 1000000000) c.in-Failed.is c.print_next-next.ensures.below (λ e. cc)) (ended.of_feed (λ e. cc))
     (going-next db n filled.Failed c.print_next-next.result.0 m packets start _ _ _ _ _ ended so_far after prints)
 
 pub returns-clause-ran : goal.returns-clause-ran
