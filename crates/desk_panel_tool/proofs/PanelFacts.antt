@@ -4,9 +4,9 @@ use Rattle.std.proofs.Math.Nat.{suc_inj}
 use Rattle.std.specs.List.{AllByRecursion, AllZip}
 use Rattle.desk_panel_tool.proofs.StationFacts.{idle}
 use Rattle.desk_panel_tool.specs.Inputs.{AreNotTurned, AreOpened, AreRefused, AreTurned}
-use Rattle.desk_panel_tool.specs.Panel.{AreOf, Paneled, Ran, RanBy, StaysReplied, StoodAtEach, lines_before, written_to}
+use Rattle.desk_panel_tool.specs.Panel.{AreOf, Paneled, Ran, RanBy, StaysReplied, StoodAtEach, lines_before}
 use Rattle.desk_panel_tool.specs.Stations.{AreIdle, IsIdle, StationView, stations}
-use Rattle.live_session.specs.Live.{object}
+use Rattle.live_session.specs.Live.{object, written_to}
 use Rattle.mib_model.specs.declared.code.Code.{Code}
 use Rattle.mib_model.specs.declared.code.Code.TheVariants as code
 use Rattle.mib_model.specs.declared.database.Database.{Database}

@@ -4,9 +4,10 @@ use Rattle.std.specs.Prelude.{suc, ⊤}
 use Rattle.std.specs.List.{AllByRecursion, list_any}
 use Rattle.decode_session.specs.Run.{most_packets}
 use Rattle.desk_panel_tool.specs.Inputs.{AreNotTurned, AreRefused}
-use Rattle.desk_panel_tool.specs.Panel.{AreOf, IsWanting, Paneled, Ran, StoodAtEach, from, written_to}
+use Rattle.desk_panel_tool.specs.Panel.{AreOf, IsWanting, Paneled, Ran, StoodAtEach}
 use Rattle.desk_panel_tool.specs.Stations.{StationView}
 use Rattle.desk_panel_tool.specs.Whole.{AreCalm, AreHeld, AreThere, CompletesPanel, OneIsMissing, RefusesPanel, RunsWhole, SomeStation, TellsFaults}
+use Rattle.live_session.specs.Live.{from, written_to}
 use Rattle.folder_tables.specs.Refusals.{HasRefusalCause, Refuses, code_of_refusal}
 use Rattle.folder_tables.specs.declared.folder.Refusal.{Refusal}
 use Rattle.folder_tables.specs.declared.folder.Refusal.TheVariants as refusal

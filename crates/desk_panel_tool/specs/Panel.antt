@@ -3,7 +3,7 @@ use Rattle.std.specs.Prelude.{◌≡◌, ◌≢◌, ◌⊎◌, ℕ, List, [], �
 use Rattle.std.specs.List.{AllByRecursion}
 use Rattle.desk_panel_tool.specs.Inputs.{AreRefused}
 use Rattle.desk_panel_tool.specs.Stations.{AreIdle, StationView}
-use Rattle.live_session.specs.Live.{Object, StaysHandedOn, object}
+use Rattle.live_session.specs.Live.{StaysHandedOn, from, written_to}
 use Rattle.mib_model.specs.declared.code.Code.{Code}
 use Rattle.mib_model.specs.declared.code.Code.TheVariants as code
 use Rattle.mib_model.specs.declared.database.Database.{Database}
@@ -13,14 +13,6 @@ use Rattle.tool_objects.specs.Objects.{HasStood, IsUncalled, IsUnwritten, ShelfV
 use Rattle.tool_objects.specs.Opened.{AreSound}
 use Rattle.tool_objects.specs.Told.{HasTurned, StoodAt}
 use Rattle.tool_words.specs.Panels.{PanelWords}
-
--- a shelf that had this left as a run opened, where it tells that
-abbrev pub from : {S : Type 0} → ShelfView S → Option (List ℕ) → Object
-from s start = object start (s.left s.now) (s.faults s.before) (s.faults s.now)
-
--- a sink that a run writes to
-abbrev pub written_to : {O : Type 0} → SinkView O → Object
-written_to o = object (o.written o.before) (o.written o.now) (o.faults o.before) (o.faults o.now)
 
 -- what is left of each desk before a call
 abbrev pub lines_before : {D R : Type 0} → List (StationView D R) → List (Option (List ℕ))
@@ -76,7 +68,8 @@ pub record Lived {T F D R O : Type 0} (c : Code) (history : RegisterHistory) (w 
 
 -- what a panel says of its objects: where it closed a register, by the register's history; and else an input was not to be had or memory ran out,
 -- and nothing was written
-abbrev pub Paneled : {T F D R O : Type 0} → Code → Option RegisterHistory → PanelWords → ShelfView T → ShelfView F → List (StationView D R) → SinkView O → Type 0
+abbrev pub Paneled : {T F D R O : Type 0} → Code → Option RegisterHistory → PanelWords → ShelfView T → ShelfView F → List (StationView D R)
+    → SinkView O → Type 0
 Paneled c None w tables feed stations out =
     (AreRefused c w tables feed stations ⊎ IsWanting c tables feed stations) × IsUnwritten out × AllByRecursion (λ s. IsUnwritten s.replies) stations
 Paneled c (Some history) w tables feed stations out = Lived c history w tables feed stations out

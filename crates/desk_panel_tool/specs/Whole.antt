@@ -2,9 +2,10 @@
 use Rattle.std.specs.Prelude.{◌≡◌, ◌⊎◌, ◌<◌, ◌==◌, ℕ, List, [], ◌∷◌, false, length, map, Option, None, Some, Ok, ⊤}
 use Rattle.std.specs.List.{AllByRecursion, AllZip, list_any}
 use Rattle.decode_session.specs.Run.{most_packets}
-use Rattle.desk_panel_tool.specs.Panel.{AreOf, from, written_to}
+use Rattle.desk_panel_tool.specs.Panel.{AreOf}
 use Rattle.desk_panel_tool.specs.Stations.{StationView}
 use Rattle.live_desk.specs.DeskEnds.{is_desk_fault, is_reply_fault}
+use Rattle.live_session.specs.Live.{from, written_to}
 use Rattle.mib_model.specs.declared.code.Code.{Code}
 use Rattle.mib_model.specs.declared.code.Code.TheVariants as code
 use Rattle.mib_model.specs.declared.database.Database.{Database}

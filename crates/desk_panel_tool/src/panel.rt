@@ -1,6 +1,6 @@
 // The run of a panel from its inputs on.
-ghost use Rattle.std.specs.Prelude.{◌≡◌, ◌≤◌, IfSome, length, option_map};
-ghost use Rattle.desk_panel_tool.specs.Panel.{Paneled, RanBy};
+ghost use Rattle.std.specs.Prelude.{◌≡◌, IfSome, length, option_map};
+ghost use Rattle.desk_panel_tool.specs.Panel.{Paneled};
 ghost use Rattle.desk_panel_tool.specs.Stations.{stations};
 ghost use Rattle.edition_register.specs.Seats.{history_of};
 ghost use Rattle.live_session.specs.Live.{EndsAs};
@@ -10,50 +10,14 @@ ghost use Rattle.tool_words.specs.Panels.{words_by};
 
 use crate::command::Status;
 use crate::inputs::open_inputs;
-use edition::Edition;
 use mib_model::Code;
 use packet_run::MOST_WORKERS;
-use panel_session::{PanelLived, Station, panel_run};
+use panel_session::{Station, panel_run};
 use std::alloc::Global;
 use std::sync::Wait;
 use std::thread::Threads;
 use tm_io::{Gate, Shelf, Sink};
 use tool_words::PanelRequest;
-
-// A run from an edition on, where feed and desks are turned to.
-fn panel_with<
-    X: Threads + Wait + Sync,
-    F: Shelf,
-    D: Shelf + Send,
-    O: Sink,
-    R: Sink + Send,
-    G: Gate + Sync,
->(
-    rt: &X,
-    alloc: Global,
-    first: Edition,
-    workers: u8,
-    feed: &mut F,
-    desks: &mut [Station<D, R>],
-    out: &mut O,
-    gate: &G,
-) -> Status
-    requires desks { (1 ≤ length desks.old) × (length desks.old ≤ 4) }
-    ensures ran { RanBy result.code (option_map history_of result.closed) first
-        (shelf feed.old feed.new F.holds F.left F.faults F.missed)
-        (stations desks.old desks.new D.holds D.left D.faults D.missed R.written R.handed R.faults)
-        (sink out.old out.new O.written O.handed O.faults) }
-    ensures numbers { IfSome result.closed (λ closed. EndsAs first closed) }
-{
-    let workers = workers.clamp(1, MOST_WORKERS);
-    match panel_run(rt, alloc, first, feed, desks, out, gate, workers) {
-        Ok(PanelLived { code, closed }) => Status {
-            code,
-            closed: Some(closed),
-        },
-        Err(_) => Status::unopened(Code::Want),
-    }
-}
 
 /// Does what the words of a panel ask for: prints the feed by the tables of the folder and by the editions that the desks make of them.
 pub(crate) fn panel<
@@ -83,7 +47,16 @@ pub(crate) fn panel<
     ensures numbers { IfSome result.closed (λ closed. (first : Database) × EndsAs first closed) }
 {
     match open_inputs(alloc, request, tables, feed, desks) {
-        Ok(first) => panel_with(rt, alloc, first, request.workers, feed, desks, out, gate),
+        Ok(first) => {
+            let workers = request.workers.clamp(1, MOST_WORKERS);
+            match panel_run(rt, alloc, first, feed, desks, out, gate, workers) {
+                Ok(lived) => Status {
+                    code: lived.code,
+                    closed: Some(lived.closed),
+                },
+                Err(_) => Status::unopened(Code::Want),
+            }
+        }
         Err(code) => Status::unopened(code),
     }
 }

@@ -1,14 +1,14 @@
 -- What a board says of its objects, from what its run says of them.
 use Rattle.std.proofs.Common.{◌∙◌, ℕ, List, Option, None, Some, inr, ap, subst}
 use Rattle.board_inputs.specs.Inputs.{AreOpened}
-use Rattle.live_session.specs.Live.{object}
+use Rattle.live_session.specs.Live.{object, written_to}
 use Rattle.mib_model.specs.declared.database.Database.{Database}
 use Rattle.mib_model.specs.RegisterHistories.{RegisterHistory}
 use Rattle.page_texts.specs.declared.code.BoardCode.{BoardCode}
 use Rattle.session.specs.Sources.{Files}
 use Rattle.tool_objects.specs.Objects.{ShelfView, SinkView, shelf}
 use Rattle.tool_words.specs.Boards.{BoardWords}
-use Rattle.live_board_tool.specs.Board.{Boarded, LivesShown, Ran, RanBy, written_to}
+use Rattle.live_board_tool.specs.Board.{Boarded, LivesShown, Ran, RanBy}
 
 -- feed and desk before a call, where its run opened, and at its end
 module _ {T F D P O R S : Type 0} (f0 f1 f2 : F) (d0 d1 d2 : D) (fholds : F → Option Files) (fleft : F → Option (List ℕ)) (ffaults fmissed : F → ℕ)

@@ -8,7 +8,7 @@ use Rattle.folder_tables.specs.declared.folder.Refusal.TheVariants as refusal
 use Rattle.board_inputs.specs.Inputs.{code_of_refusal}
 use Rattle.live_desk.specs.declared.desk_end.DeskEnd.{DeskEnd}
 use Rattle.live_desk.specs.DeskEnds.{is_desk_fault, is_reply_fault}
-use Rattle.live_session.specs.Live.{ending_of}
+use Rattle.live_session.specs.Live.{ending_of, from, written_to}
 use Rattle.mib_model.specs.declared.code.Code.{Code}
 use Rattle.mib_model.specs.declared.code.Code.TheVariants as live
 use Rattle.mib_model.specs.declared.database.Database.{Database}
@@ -27,7 +27,7 @@ use Rattle.tool_objects.specs.Objects.{ShelfView, SinkView}
 use Rattle.tool_objects.specs.Sources.{sound_in}
 use Rattle.tool_objects.specs.Told.{OfFile}
 use Rattle.tool_words.specs.Boards.{BoardWords}
-use Rattle.live_board_tool.specs.Board.{Boarded, IsWanting, Lived, LivesShown, from, written_to}
+use Rattle.live_board_tool.specs.Board.{Boarded, IsWanting, Lived, LivesShown}
 use Rattle.live_board_tool.specs.Codes.{code_by, code_of_live}
 use Rattle.live_board_tool.specs.Whole.{AreThere, CompletesBoard, RefusesBoard, ShowsWhole}
 

@@ -2,7 +2,7 @@
 use Rattle.std.specs.Prelude.{◌≡◌, ◌≢◌, ◌⊎◌, ℕ, Bool, false, List, [], Option, None, Some}
 use Rattle.board_inputs.specs.Inputs.{AreRefused, IsPaged}
 use Rattle.live_board_tool.specs.Codes.{code_by}
-use Rattle.live_session.specs.Live.{Lives, Object, StaysHandedOn, members_by, object}
+use Rattle.live_session.specs.Live.{Lives, Object, StaysHandedOn, from, members_by, written_to}
 use Rattle.mib_model.specs.declared.code.Code.{Code}
 use Rattle.mib_model.specs.declared.database.Database.{Database}
 use Rattle.mib_model.specs.RegisterHistories.{RegisterHistory}
@@ -23,14 +23,6 @@ pub record LivesShown (c : Code) (failed : Bool) (first : Database) (names : Lis
   pub all : lives.prints.out_failed ≡ false → lives.prints.ahead.others ≡ []
   pub shows : ShowsRun names (members_by first history lives.prints.ahead.printed) failed screen.old screen.new
   pub count : RisesWhere failed screen.before screen.now
-
--- a shelf that had this left as a run opened, where it tells that
-abbrev pub from : {S : Type 0} → ShelfView S → Option (List ℕ) → Object
-from s start = object start (s.left s.now) (s.faults s.before) (s.faults s.now)
-
--- a sink that a run writes to
-abbrev pub written_to : {O : Type 0} → SinkView O → Object
-written_to o = object (o.written o.before) (o.written o.now) (o.faults o.before) (o.faults o.now)
 
 -- where all that was written to a sink was handed on before, and it didn't fail and still could, all that is written now is
 abbrev pub StaysHanded : {O : Type 0} → SinkView O → Type 0

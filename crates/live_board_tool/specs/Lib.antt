@@ -1,3 +1,4 @@
 pub mod Codes
+pub mod Opening
 pub mod Board
 pub mod Whole

@@ -1,8 +1,9 @@
 -- What a board comes to where nothing hinders it, and where its page is refused. [This profile.]
 use Rattle.std.specs.Prelude.{◌≡◌, ◌⊎◌, ◌==◌, ℕ, List, [], false, length, Option, None, Some, Ok}
-use Rattle.live_board_tool.specs.Board.{LivesShown, from, written_to}
+use Rattle.live_board_tool.specs.Board.{LivesShown}
 use Rattle.live_board_tool.specs.Codes.{code_of_live}
 use Rattle.live_desk.specs.DeskEnds.{is_desk_fault, is_reply_fault}
+use Rattle.live_session.specs.Live.{from, written_to}
 use Rattle.mib_model.specs.declared.code.Code.{Code}
 use Rattle.mib_model.specs.declared.database.Database.{Database}
 use Rattle.mib_model.specs.Endings.{code_of_rest}
@@ -26,7 +27,8 @@ pub record AreThere (files feeds desks : Files) (w : BoardWords) (db : Database)
 pub record ShowsWhole {F D O R S : Type 0} (c : BoardCode) (history : RegisterHistory) (db : Database) (names : List (List ℕ)) (octets script : List ℕ)
     (feed : ShelfView F) (desk : ShelfView D) (out : SinkView O) (replies : SinkView R) (screen : SinkView S) : Type 0 where
   pub code : Code
-  pub shows : LivesShown code false db names history (from feed (Some octets)) (from desk (Some script)) (written_to out) (written_to replies) (written_to screen)
+  pub shows : LivesShown code false db names history (from feed (Some octets)) (from desk (Some script)) (written_to out) (written_to replies)
+      (written_to screen)
   pub prints : shows.lives.prints.out_failed ≡ false
   pub reads : shows.lives.prints.feed_failed ≡ false
   pub asks : is_desk_fault shows.lives.desk_end ≡ false

@@ -6,10 +6,11 @@ ghost use Rattle.mib_model.specs.declared.database.Database.{Database};
 ghost use Rattle.tool_objects.specs.Objects.{shelf, sink};
 ghost use Rattle.tool_words.specs.Boards.{board_in};
 
-use crate::board::board;
+use crate::board::{BoardCall, board};
 use edition::Edition;
 use edition_register::Closed;
 use fold_state::BoardRoom;
+use live_session::Host;
 use page_texts::BoardCode;
 use std::alloc::Global;
 use std::sync::Wait;
@@ -81,9 +82,13 @@ pub fn board_tool<
     ensures numbers { IfSome result.closed (λ closed. (first : Database) × EndsAs first closed) }
 {
     match board_request_in(alloc, words) {
-        Ok(request) => board(
-            rt, alloc, &request, tables, feed, desk, page, out, replies, screen, gate,
-        ),
+        Ok(request) => {
+            let call = BoardCall {
+                host: Host { rt, alloc, gate },
+                request,
+            };
+            board(&call, tables, feed, desk, page, out, replies, screen)
+        }
         Err(WordsFault::Misuse(misuse)) => BoardStatus::unopened(BoardCode::Usage(misuse)),
         Err(WordsFault::Memory) => BoardStatus::unopened(BoardCode::Want),
     }

@@ -9,8 +9,7 @@ mod board;
 mod codes;
 mod command;
 mod laws;
-mod run;
-mod shown;
+mod opening;
 
 pub use command::{BoardStatus, board_tool};
 pub use laws::{a_bad_page_is_refused, boarding_is_complete};

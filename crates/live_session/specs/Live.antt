@@ -1,5 +1,5 @@
 -- What a live run leaves. [This profile.]
-use Rattle.std.specs.Prelude.{◌≡◌, ◌⊎◌, ℕ, ◌≤◌, ◌<◌, ◌+◌, ◌^◌, ◌==◌, Bool, false, List, [], ◌++◌, length, Option, IfSome}
+use Rattle.std.specs.Prelude.{◌≡◌, ◌≢◌, ◌⊎◌, ℕ, ◌≤◌, ◌<◌, ◌+◌, ◌^◌, ◌==◌, Bool, false, List, [], ◌++◌, length, Option, IfSome}
 use Rattle.std.specs.Io.KnownBytes.{Appends, Consumes, IsAtEnd}
 use Rattle.decode_session.specs.Run.{most_in_flight, most_packets}
 use Rattle.histories.specs.History.{IsOfSeatsBelow, Permits, calls_of, moves_of}
@@ -9,7 +9,10 @@ use Rattle.live_desk.specs.Scripts.{Desked}
 use Rattle.mib_model.specs.Texts.{rest_unless}
 use Rattle.tm_io.specs.Octets.{WritesUnless}
 use Rattle.tm_io.specs.Causes.{RisesWhere}
+use Rattle.tool_objects.specs.Objects.{ShelfView, SinkView}
+use Rattle.tool_objects.specs.Told.{HasTurned}
 use Rattle.mib_model.specs.declared.code.Code.{Code}
+use Rattle.mib_model.specs.declared.code.Code.TheVariants.{OutFault}
 use Rattle.mib_model.specs.declared.database.Database.{Database}
 use Rattle.mib_model.specs.Endings.{Ending, code_of_ending}
 use Rattle.mib_model.specs.Interpreter.{start}
@@ -33,6 +36,18 @@ pub record Object : Type 0 where
 -- an object of these octets before and behind a call, and of these counts of failures
 abbrev pub object : Option (List ℕ) → Option (List ℕ) → ℕ → ℕ → Object
 object old new before now = record { old = old; new = new; before = before; now = now }
+
+-- a source that a run reads
+abbrev pub read_of : {S : Type 0} → ShelfView S → Object
+read_of s = object (s.left s.before) (s.left s.now) (s.faults s.before) (s.faults s.now)
+
+-- a source that had this left as a run opened, where it tells that
+abbrev pub from : {S : Type 0} → ShelfView S → Option (List ℕ) → Object
+from s start = object start (s.left s.now) (s.faults s.before) (s.faults s.now)
+
+-- a sink that a run writes to
+abbrev pub written_to : {O : Type 0} → SinkView O → Object
+written_to o = object (o.written o.before) (o.written o.now) (o.faults o.before) (o.faults o.now)
 
 -- a history is the register's, of an intake and a desk, and each edition that it adds has the plans of its tables
 pub record IsLiveHistory (first : Database) (history : RegisterHistory) : Type 0 where
@@ -120,3 +135,17 @@ module _ {W : Type 0} (stands : W → List Member → Type 0) where
     pub lives : Lives code first history feed desk out replies
     pub all : lives.prints.out_failed ≡ false → lives.prints.ahead.others ≡ []
     pub told : (told : List Member) → stands watch told → stands watched (told ++ members_by first history lives.prints.ahead.printed)
+
+module _ {E B : Type 0} {rows : Rows.Ghosts E} {boards : MadeFor.Ghosts B} {W : Type 0} (stands : W → List Member → Type 0) where
+  -- a live run with a watch that left these objects so: all that was written is handed on unless the output failed, and what was replied unless the
+  -- replies did; the closed register tells what the history comes to; the sources keep their files, and no turn to one failed
+  pub record Leaves {F D O P : Type 0} (code : Code) (first : Database) (closed : Closed E B rows boards) (feed : ShelfView F) (desk : ShelfView D)
+      (out : SinkView O) (replies : SinkView P) (watch told : W) : Type 0 where
+    pub watched : IsWatched stands code first (history_of closed) (read_of feed) (read_of desk) (written_to out) (written_to replies) watch told
+    pub handed : code ≢ OutFault → out.handed out.now ≡ out.written out.now
+    pub replied : StaysHandedOn (replies.faults replies.before) (replies.faults replies.now) replies.written replies.handed replies.before replies.now
+    pub numbers : EndsAs first closed
+    pub feed_holds : feed.holds feed.now ≡ feed.holds feed.before
+    pub feed_turned : HasTurned feed
+    pub desk_holds : desk.holds desk.now ≡ desk.holds desk.before
+    pub desk_turned : HasTurned desk

@@ -8,12 +8,13 @@
 #![tactic(auto)]
 
 mod code;
+mod host;
 mod live;
 mod opening;
-mod run;
 mod sides;
 
 pub use code::{code_of_end, merged};
+pub use host::Host;
 pub use live::{Lived, Watched, live_run};
 pub use opening::{LiveRun, at_first};
 pub use sides::{IntakeSide, run_intake};

@@ -4,24 +4,22 @@ ghost use Rattle.edition_register.specs.Starts.{IsStart};
 ghost use Rattle.fold_state.specs.Boards.{is_made_for, memory_of};
 ghost use Rattle.mib_model.specs.Kept.{empty_memory};
 
-use crate::sides::IntakeSide;
+use crate::sides::{IntakeSide, SeatedDesk};
 use desk::Desk;
 use edition::Edition;
 use edition_plans::Plans;
-use edition_register::{Editions, Register, Start};
+use edition_register::{Register, Start};
 use fold_state::{Board, BoardRoom};
 use packet_run::Stock;
 use std::alloc::{AllocError, Global};
 use std::sync::Arc;
-use turn_cell::Seat;
 
 /// A live run that was opened: its register, what its intake owns, and its desk with its seat. Nothing was read or entered yet.
 #[derive(Drop)]
 pub struct LiveRun<W> {
     pub(crate) register: Register<Edition, BoardRoom>,
     pub(crate) intake: IntakeSide<W>,
-    pub(crate) seat: Seat<Editions<Edition, BoardRoom>>,
-    pub(crate) desk: Desk,
+    pub(crate) desk: SeatedDesk,
 }
 
 /// An edition with a board that keeps nothing. An error is want of memory.
@@ -62,8 +60,7 @@ impl<W: Drop> LiveRun<W> {
                 workers,
                 watch,
             },
-            seat,
-            desk,
+            desk: SeatedDesk { seat, desk },
         })
     }
 }

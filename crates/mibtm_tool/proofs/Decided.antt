@@ -74,10 +74,10 @@ module _ (script : List ℕ) (ends : EndsWithFirstGo script) {c : Code} {db : Da
   alone = IsLegal-front after answer_to (opening db) (moves_by run.desked.early) (moves_of 0 history)
       (subst (λ h. IsLegal answer_to after (opening db) h) (goes-first history run.desked.early desk-first) run.is_history.legal)
 
--- what happened in a run that nothing but its feed hindered
-abbrev ending_calm : Bool → List ℕ → List (List ℕ) → Ending
-ending_calm feed_failed rest packets = record {
-  out_failed = false;
+-- what happened in a run that nothing but its output and its feed hindered
+abbrev ending_calm : Bool → Bool → List ℕ → List (List ℕ) → Ending
+ending_calm out_failed feed_failed rest packets = record {
+  out_failed = out_failed;
   replies_failed = false;
   feed_failed = feed_failed;
   desk_failed = false;
@@ -85,9 +85,9 @@ ending_calm feed_failed rest packets = record {
   is_limit = length packets == most_packets;
 }
 
-code-calm : (out_failed feed_failed : Bool) (e : DeskEnd) (rest : List ℕ) (packets : List (List ℕ)) → out_failed ≡ false → is_desk_fault e ≡ false → is_reply_fault e ≡ false
-    → code_of_ending (ending_of out_failed feed_failed e rest packets) ≡ code_of_ending (ending_calm feed_failed rest packets)
-code-calm out_failed feed_failed e rest packets prints asks answers = rw (prints, asks, answers) refl
+code-calm : (out_failed feed_failed : Bool) (e : DeskEnd) (rest : List ℕ) (packets : List (List ℕ)) → is_desk_fault e ≡ false → is_reply_fault e ≡ false
+    → code_of_ending (ending_of out_failed feed_failed e rest packets) ≡ code_of_ending (ending_calm out_failed feed_failed rest packets)
+code-calm out_failed feed_failed e rest packets asks answers = rw (asks, answers) refl
 
 pub script-decides : ScriptDecides
 script-decides script c d db history other feed desk out replies source lines sink told one two ends calm quiet read failed =
@@ -104,7 +104,7 @@ script-decides script c d db history other feed desk out replies source lines si
       histories = histories;
       texts = (λ i. output db (packets i) (histories i) (rest_unless (failed i) (rests i)));
       replied = replies-early script ends one calm ∙ replied ∙ sym (replies-early script ends two quiet);
-      codes = one.is_code ∙ code-calm one.prints.out_failed one.prints.feed_failed one.desk_end one.prints.rest one.prints.packets calm.prints calm.asks calm.answers
-          ∙ (λ i. code_of_ending (ending_calm (failed i) (rests i) (packets i)))
-          ∙ sym (code-calm two.prints.out_failed two.prints.feed_failed two.desk_end two.prints.rest two.prints.packets quiet.prints quiet.asks quiet.answers) ∙ sym two.is_code;
+      codes = λ alike. one.is_code ∙ code-calm one.prints.out_failed one.prints.feed_failed one.desk_end one.prints.rest one.prints.packets calm.asks calm.answers
+          ∙ (λ i. code_of_ending (ending_calm (alike i) (failed i) (rests i) (packets i)))
+          ∙ sym (code-calm two.prints.out_failed two.prints.feed_failed two.desk_end two.prints.rest two.prints.packets quiet.asks quiet.answers) ∙ sym two.is_code;
     }

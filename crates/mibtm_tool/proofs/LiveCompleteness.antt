@@ -13,7 +13,7 @@ use Rattle.live_desk.specs.Scripts.{IsHandled}
 use Rattle.mib_model.specs.Texts.{rest_unless}
 use Rattle.tm_io.specs.Octets.{WritesUnless}
 use Rattle.tm_io.specs.Causes.{RisesWhere}
-use Rattle.live_session.specs.Live.{Lives, ending_of}
+use Rattle.live_session.specs.Live.{Lives, ending_of, from, written_to}
 use Rattle.mib_model.specs.declared.code.Code.{Code}
 use Rattle.mib_model.specs.declared.code.Code.TheVariants as code
 use Rattle.mib_model.specs.declared.code.Input.TheVariants as input
@@ -27,7 +27,7 @@ use Rattle.mib_model.specs.Script.{reaches_limit}
 use Rattle.session.specs.Sources.{Files}
 use Rattle.mibtm_tool.proofs.Completeness.{held, not_failed, told}
 use Rattle.mibtm_tool.specs.Live.{AreFound, AreRead, AreSteady, CompletesLive, HoldFiles, LivesWhole, limit_of}
-use Rattle.mibtm_tool.specs.Statement.{Lived, LivedBy, Names, Shelves, Unopened, from, opened, written_to, OfFile}
+use Rattle.mibtm_tool.specs.Statement.{Lived, LivedBy, Names, Shelves, Unopened, opened, OfFile}
 use Rattle.tool_objects.specs.Objects.{SinkView}
 use Rattle.tool_objects.specs.Sources.{sound_in}
 use Rattle.mibtm_tool.specs.Tool.{IsUnfailed}

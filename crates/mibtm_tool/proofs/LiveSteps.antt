@@ -1,5 +1,5 @@
 -- What a live run says of its objects, from what its part behind the feed says of them.
-use Rattle.std.proofs.Common.{◌≡◌, ℕ, Bool, true, false, List, Option, Some, None, Ok, IfSome, IsOkAnd, IsSomeAnd, is_some, ap, refl, ◌∙◌, subst}
+use Rattle.std.proofs.Common.{◌≡◌, ℕ, Bool, true, false, List, Option, Some, None, Ok, IfSome, IsOkAnd, IsSomeAnd, is_some, ap, ◌∙◌, subst}
 use Rattle.std.specs.Prelude.{⊤}
 use Rattle.mib_model.specs.declared.code.Code.{Code}
 use Rattle.mib_model.specs.declared.code.Code.TheVariants as code
@@ -8,18 +8,13 @@ use Rattle.mib_model.specs.declared.database.Database.{Database}
 use Rattle.mib_model.specs.RegisterHistories.{RegisterHistory}
 use Rattle.mib_model.specs.Soundness.{IsSound}
 use Rattle.session.specs.Sources.{Files}
-use Rattle.live_session.specs.Live.{Lives, object}
-use Rattle.mibtm_tool.proofs.DecodeSteps.{fed}
+use Rattle.live_session.specs.Live.{Lives, from, object, written_to}
+use Rattle.mibtm_tool.proofs.DecodeSteps.{fed, stood_at}
 use Rattle.mibtm_tool.proofs.StatementSteps.{each_told, missing_decoded}
 use Rattle.mibtm_tool.specs.Live.{LivedBeside, RanBeside}
-use Rattle.mibtm_tool.specs.Statement.{LivedBy, StoppedBeside, Unopened, Lived, names, shelves, from, written_to, Decoded, OfFile}
+use Rattle.mibtm_tool.specs.Statement.{LivedBy, StoppedBeside, Unopened, Lived, names, shelves, Decoded, OfFile}
 use Rattle.tool_objects.specs.Objects.{ShelfView, SinkView, HasStood, IsUncalled, IsUnwritten, shelf}
 use Rattle.tool_objects.specs.Sources.{sound_in}
-
--- what a shelf has left that was turned to a file is that file, where it tells it
-stood_at : (holds : Option Files) (name : List ℕ) (held : Bool) (start : Option (List ℕ)) → held ≡ true → IfSome holds (λ files. held ≡ is_some (files name))
-    → IfSome holds (λ files. IfSome (files name) (λ octets. start ≡ Some octets)) → IfSome holds (λ files. IsSomeAnd (files name) (λ octets. start ≡ Some octets))
-stood_at holds name held start is told left = fed (λ at. start ≡ at) holds name held start is told left refl
 
 module _ {T F D O P : Type 0} (folder name desk_name : List ℕ) (tables : ShelfView T) (before mid now : F) (holds : F → Option Files)
     (left : F → Option (List ℕ)) (faults missed : F → ℕ) (desk : ShelfView D) (out : SinkView O) (replies : SinkView P) (db : Database) (held : Bool)

@@ -1,5 +1,5 @@
 -- What the parts of a call say, as the statement of `tool` puts it together.
-use Rattle.std.proofs.Common.{◌≡◌, ◌≢◌, ℕ, Bool, true, false, is_some, List, Option, Some, None, Result, Ok, Err, IfSome, IsOkAnd, IsSomeAnd, ◌⊎◌, inr, ap, sym, refl, ◌∙◌}
+use Rattle.std.proofs.Common.{◌≡◌, ◌≢◌, ℕ, Bool, true, false, is_some, List, Option, Some, None, Result, Ok, Err, IfSome, IsOkAnd, inr, ap, sym, refl, ◌∙◌}
 use Rattle.mib_model.specs.declared.database.Database.{Database}
 use Rattle.mib_model.specs.declared.fault.MibFault.{MibFault}
 use Rattle.session.specs.Sources.{Files}
@@ -8,10 +8,11 @@ use Rattle.mib_model.specs.declared.code.Code.TheVariants as code
 use Rattle.mib_model.specs.declared.code.Input.TheVariants as input
 use Rattle.tool_objects.specs.Objects.{ShelfView, SinkView, HasStood, IsUncalled, IsUnwritten}
 use Rattle.mibtm_tool.specs.Codes.{code_of_run}
-use Rattle.decode_session.specs.Run.{EndsBy, EndsUnread}
+use Rattle.decode_session.specs.Run.{EndsBy}
 use Rattle.folder_tables.specs.Refusals.{HasRefusalCause, Refuses, code_of_refusal}
+use Rattle.tool_objects.specs.Opened.{AreSound}
 use Rattle.tool_objects.specs.Sources.{sound_in}
-use Rattle.mibtm_tool.specs.Statement.{Decoded, OfFile, RanBy, MissedFeed, Printed}
+use Rattle.mibtm_tool.specs.Statement.{Decoded, OfFile, RanBy}
 use Rattle.folder_tables.specs.declared.folder.Refusal.{Refusal}
 use Rattle.folder_tables.specs.declared.folder.Refusal.TheVariants as refusal
 use Rattle.decode_session.specs.declared.ending.Stop.TheVariants as stop
@@ -26,11 +27,6 @@ pub refused_decoded : {T F O : Type 0} (r : Refusal) (folder name : List ℕ) (t
 refused_decoded (refusal.Mib fault) folder name tables feed out cause refused uncalled same = (cause, uncalled, same, refused)
 refused_decoded refusal.Failed folder name tables feed out cause refused uncalled same = (cause, uncalled, same)
 refused_decoded refusal.Memory folder name tables feed out cause refused uncalled same = (cause, ap feed.faults uncalled, same)
-
--- a turn of what is said of the file of a name
-found-of : (feeds : Option Files) (name : List ℕ) (P Q : Option (List ℕ) → Type 0) → ((found : Option (List ℕ)) → P found → Q found) → IfSome feeds (λ f. P (f name)) → IfSome feeds (λ f. Q (f name))
-found-of None name P Q turn said = tt
-found-of (Some f) name P Q turn said = turn (f name) said
 
 -- what is said of the database that the tables are
 pub each_told : (S : Result Database MibFault → Type 0) (holds : Option Files) (read : Files → Result Database MibFault) (db : Database) → IfSome holds (λ files. read files ≡ Ok db)
@@ -59,29 +55,14 @@ missing_decoded folder name tables feed out db held stood told read same is said
       (missing (feed.holds feed.before) name held is said),
 )
 
-module _ {T F O : Type 0} (folder name : List ℕ) (tables : ShelfView T) (feed : ShelfView F) (out : SinkView O) (db : Database)
-    (stood : HasStood tables) (told : IfSome (tables.holds tables.before) (λ files. sound_in files folder ≡ Ok db)) where
-  abbrev Fed : Result RunEnd RunFault → Database → Type 0
-  Fed r d = OfFile feed name (λ found. IsSomeAnd found (RanBy (EndsBy r (feed.faults feed.before) (feed.faults feed.now)) feed out d))
-
-  printed : (r : Result RunEnd RunFault) → Fed r db → Printed (EndsBy r (feed.faults feed.before) (feed.faults feed.now)) folder name tables feed out
-  printed r said = each_told (λ read. IsOkAnd read (Fed r)) (tables.holds tables.before) (λ files. sound_in files folder) db told said
-
-  abbrev Unread : Database → Option (List ℕ) → Type 0
-  Unread d found = MissedFeed feed out ⊎ IsSomeAnd found (RanBy EndsUnread feed out d)
-
-  pub ran_decoded : (r : Result RunEnd RunFault) → Fed r db → HasFeedCause r (feed.faults feed.before) (feed.faults feed.now) → HasOutCause r (out.faults out.before) (out.faults out.now)
+module _ {T F O : Type 0} (folder name : List ℕ) (tables : ShelfView T) (feed : ShelfView F) (out : SinkView O) (db : Database) (sound : AreSound db folder tables) where
+  pub ran_decoded : (r : Result RunEnd RunFault) → RanBy (EndsBy r (feed.faults feed.before) (feed.faults feed.now)) db name feed out
+      → HasFeedCause r (feed.faults feed.before) (feed.faults feed.now) → HasOutCause r (out.faults out.before) (out.faults out.now)
       → (r ≢ Err (fault.Print stop.Out) → out.handed out.before ≡ out.written out.before → out.handed out.now ≡ out.written out.now)
       → (r ≡ Err (fault.Print stop.Memory) → IsUnwritten out) → Decoded (code_of_run r) folder name tables feed out
-  ran_decoded (Ok end.Whole) said read wrote handed untouched = (stood, read, record { stood = wrote; handed = handed (λ is. cc is) }, printed (Ok end.Whole) said)
-  ran_decoded (Ok (end.Cut count)) said read wrote handed untouched = (stood, read, record { stood = wrote; handed = handed (λ is. cc is) }, printed (Ok (end.Cut count)) said)
-  ran_decoded (Ok end.Limit) said read wrote handed untouched = (stood, read, record { stood = wrote; handed = handed (λ is. cc is) }, printed (Ok end.Limit) said)
-  ran_decoded (Err fault.Feed) said read wrote handed untouched = (
-    stood,
-    read,
-    record { stood = wrote; handed = handed (λ is. cc is) },
-    each_told (λ r. IsOkAnd r (λ d. OfFile feed name (Unread d))) (tables.holds tables.before) (λ files. sound_in files folder) db told
-        (found-of (feed.holds feed.before) name _ (Unread db) (λ found ran. inr ran) said),
-  )
-  ran_decoded (Err (fault.Print stop.Out)) said read wrote handed untouched = (stood, read, wrote, printed (Err (fault.Print stop.Out)) said)
-  ran_decoded (Err (fault.Print stop.Memory)) said read wrote handed untouched = (stood, read, untouched refl)
+  ran_decoded (Ok end.Whole) ran read wrote handed untouched = (read, record { stood = wrote; handed = handed (λ is. cc is) }, (db, sound, ran))
+  ran_decoded (Ok (end.Cut count)) ran read wrote handed untouched = (read, record { stood = wrote; handed = handed (λ is. cc is) }, (db, sound, ran))
+  ran_decoded (Ok end.Limit) ran read wrote handed untouched = (read, record { stood = wrote; handed = handed (λ is. cc is) }, (db, sound, ran))
+  ran_decoded (Err fault.Feed) ran read wrote handed untouched = (read, record { stood = wrote; handed = handed (λ is. cc is) }, (db, sound, inr ran))
+  ran_decoded (Err (fault.Print stop.Out)) ran read wrote handed untouched = (read, wrote, (db, sound, ran))
+  ran_decoded (Err (fault.Print stop.Memory)) ran read wrote handed untouched = (sound.stood, read, untouched refl)

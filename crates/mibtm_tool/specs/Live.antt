@@ -5,7 +5,7 @@ use Rattle.std.specs.Io.KnownBytes.{Appends}
 use Rattle.decode_session.specs.Run.{most_packets}
 use Rattle.session.specs.Sources.{Files}
 use Rattle.live_desk.specs.DeskEnds.{is_desk_fault, is_reply_fault, limit_line}
-use Rattle.live_session.specs.Live.{Lives, StaysHandedOn, Object}
+use Rattle.live_session.specs.Live.{Lives, StaysHandedOn, Object, from, read_of, written_to}
 use Rattle.mib_model.specs.declared.code.Code.{Code}
 use Rattle.mib_model.specs.declared.code.Code.TheVariants as code
 use Rattle.mib_model.specs.declared.database.Database.{Database}
@@ -21,7 +21,7 @@ use Rattle.mib_model.specs.Script.{reaches_limit}
 use Rattle.mib_model.specs.Texts.{rest_text, rest_unless}
 use Rattle.tool_objects.specs.Objects.{ShelfView, SinkView, IsUnwritten, Took}
 use Rattle.tool_objects.specs.Sources.{sound_in}
-use Rattle.mibtm_tool.specs.Statement.{Names, Shelves, StoodAt, HasTurned, StoppedBeside, from, opened, read_of, written_to}
+use Rattle.mibtm_tool.specs.Statement.{Names, Shelves, StoodAt, HasTurned, StoppedBeside, opened}
 use Rattle.mibtm_tool.specs.Tool.{Held, IsSteady, IsSteadySink}
 
 -- ---- a live run that nothing hinders
@@ -116,15 +116,14 @@ module _ {c : Code} {db : Database} {history : RegisterHistory} {feed desk out r
   abbrev pub replies_of : Lives c db history feed desk out replies → List DeskReply
   replies_of run = run.desked.early_replies ++ run.desked.late_replies
 
-  -- a run over this script whose output, desk and replies didn't fail, and that memory refused nothing
+  -- a run over this script whose desk and replies didn't fail, and that memory refused nothing
   pub record IsUnhindered (script : List ℕ) (run : Lives c db history feed desk out replies) : Type 0 where
     pub reads : desk.old ≡ Some script
-    pub prints : run.prints.out_failed ≡ false
     pub asks : is_desk_fault run.desk_end ≡ false
     pub answers : is_reply_fault run.desk_end ≡ false
     pub no_want : list_any is_want (replies_of run) ≡ false
 
--- two runs came to one history, one text, one list of replies and one code
+-- two runs came to one history, one text and one list of replies, and to one code unless one output failed alone
 pub record ComeToTheSame {c d : Code} {db : Database} {history other : RegisterHistory} {feed desk out replies source lines sink told : Object}
     (one : Lives c db history feed desk out replies) (two : Lives d db other source lines sink told) : Type 0 where
   pub histories : history ≡ other
@@ -132,7 +131,7 @@ pub record ComeToTheSame {c d : Code} {db : Database} {history other : RegisterH
       output db one.prints.packets history (rest_unless one.prints.feed_failed one.prints.rest)
       ≡ output db two.prints.packets other (rest_unless two.prints.feed_failed two.prints.rest)
   pub replied : replies_of one ≡ replies_of two
-  pub codes : c ≡ d
+  pub codes : one.prints.out_failed ≡ two.prints.out_failed → c ≡ d
 
 -- runs from one database on, over a script that ends with its first `go`, to which their feeds gave the same and failed alike, come to the
 -- same, however their sides took turns

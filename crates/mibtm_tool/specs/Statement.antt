@@ -11,19 +11,20 @@ use Rattle.mib_model.specs.RegisterHistories.{RegisterHistory}
 use Rattle.mib_model.specs.Soundness.{IsSound}
 use Rattle.mib_model.specs.Summaries.{summary}
 use Rattle.edition_register.specs.declared.outcome.Closed.{Closed}
-use Rattle.live_session.specs.Live.{EndsAs, Object, object, Lives, StaysHandedOn}
+use Rattle.live_session.specs.Live.{EndsAs, Object, Lives, StaysHandedOn, from, written_to}
 use Rattle.mib_model.specs.declared.meaning.MadeFor as MadeFor
 use Rattle.mib_model.specs.declared.meaning.Rows as Rows
 use Rattle.tm_io.specs.Causes.{HasRisen}
 use Rattle.mibtm_tool.specs.Drill.{drill_summary}
 use Rattle.tool_objects.specs.Objects.{ShelfView, SinkView, HasStood, HasFailed, IsUncalled, IsUnwritten, HasBroken, Took, IsHandedOn, TookNothing}
 use Rattle.session.specs.Sources.{Files}
+use Rattle.tool_objects.specs.Opened.{AreSound}
 use Rattle.tool_objects.specs.Sources.{sound_in}
 use Rattle.decode_session.specs.Run.{Ran, Says, EndsWhole, EndsCut, EndsAtLimit, EndsUnread, EndsUnwritten}
 
 -- The objects of a call are views of what they show before and now. A further command has its equations below, one for each status.
 
--- ---- what is said where the tables and the feed are told
+-- ---- what is said of the tables and the feed
 
 -- the tables, read so, are a database of which this is said
 abbrev pub ByTables : {T : Type 0} → ShelfView T → (Files → Result Database MibFault) → (Database → Type 0) → Type 0
@@ -37,14 +38,25 @@ IsRefused t read fault = IfSome (t.holds t.before) (λ files. read files ≡ Err
 abbrev pub OfFile : {S : Type 0} → ShelfView S → List ℕ → (Option (List ℕ) → Type 0) → Type 0
 OfFile s name says = IfSome (s.holds s.before) (λ files. says (files name))
 
--- a feed that has these octets was read and printed by a database, and this is said of the run
-abbrev pub RanBy : {F O : Type 0} → Says → ShelfView F → SinkView O → Database → List ℕ → Type 0
-RanBy says feed out db octets = Took out (Ran says db (Some octets) (feed.left feed.now))
+-- no turn to a file failed
+abbrev pub HasTurned : {S : Type 0} → ShelfView S → Type 0
+HasTurned s = s.missed s.now ≡ s.missed s.before
 
--- the tables are sound, and the feed is held and was read and printed, of which this is said
-abbrev pub Printed : {T F O : Type 0} → Says → List ℕ → List ℕ → ShelfView T → ShelfView F → SinkView O → Type 0
-Printed says folder name tables feed out =
-    ByTables tables (λ files. sound_in files folder) (λ db. OfFile feed name (λ found. IsSomeAnd found (RanBy says feed out db)))
+-- where the shelf tells, the file of that name is held, and this is what it had left as a run opened
+abbrev pub StoodAt : {S : Type 0} → ShelfView S → List ℕ → Option (List ℕ) → Type 0
+StoodAt s name start = OfFile s name (λ found. IsSomeAnd found (λ octets. start ≡ Some octets))
+
+-- the tables didn't fail and are a sound database, that of the folder where they are told, of which this is said
+abbrev pub BySound : {T : Type 0} → List ℕ → ShelfView T → (Database → Type 0) → Type 0
+BySound folder tables says = (db : Database) × AreSound db folder tables × says db
+
+-- the feed was turned to its file, and a run by a database, of which this is said, began with what it had left: the file's octets, where it
+-- tells them
+pub record RanBy {F O : Type 0} (says : Says) (db : Database) (name : List ℕ) (feed : ShelfView F) (out : SinkView O) : Type 0 where
+  pub turned : HasTurned feed
+  pub octets : Option (List ℕ)
+  pub of_feed : StoodAt feed name octets
+  pub ran : Took out (Ran says db octets (feed.left feed.now))
 
 -- the turn to the feed failed, and nothing was written
 abbrev pub MissedFeed : {F O : Type 0} → ShelfView F → SinkView O → Type 0
@@ -52,37 +64,32 @@ MissedFeed feed out = HasRisen (feed.missed feed.before) (feed.missed feed.now) 
 
 -- what each status of `check` says, in the order of the statuses; no other comes
 abbrev pub Checked : {T O : Type 0} → Code → List ℕ → ShelfView T → SinkView O → Type 0
-Checked code.Ok folder tables out =
-    HasStood tables × IsHandedOn out × ByTables tables (λ files. sound_in files folder) (λ db. Took out (λ old new. Appends old new (summary db)))
+Checked code.Ok folder tables out = IsHandedOn out × BySound folder tables (λ db. Took out (λ old new. Appends old new (summary db)))
 Checked (code.BadMib fault) folder tables out = HasStood tables × IsUnwritten out × IsRefused tables (λ files. sound_in files folder) fault
 Checked code.TablesFault folder tables out = HasFailed tables × IsUnwritten out
-Checked code.OutFault folder tables out =
-    HasStood tables × HasBroken out
-    × ByTables tables (λ files. sound_in files folder) (λ db. Took out (λ old new. AppendsPrefix old new (summary db)))
+Checked code.OutFault folder tables out = HasBroken out × BySound folder tables (λ db. Took out (λ old new. AppendsPrefix old new (summary db)))
 Checked code.Want folder tables out = HasStood tables × IsUnwritten out
 Checked other folder tables out = ⊥
 
 -- what each status of `decode` says, in the order of the statuses; no other comes
 abbrev pub Decoded : {T F O : Type 0} → Code → List ℕ → List ℕ → ShelfView T → ShelfView F → SinkView O → Type 0
 Decoded code.Ok folder name tables feed out =
-    HasStood tables × HasStood feed × IsHandedOn out × Printed EndsWhole folder name tables feed out
+    HasStood feed × IsHandedOn out × BySound folder tables (λ db. RanBy EndsWhole db name feed out)
 Decoded (code.BadMib fault) folder name tables feed out =
     HasStood tables × IsUncalled feed × IsUnwritten out × IsRefused tables (λ files. sound_in files folder) fault
 Decoded (code.NoFile input.Feed) folder name tables feed out =
     HasStood tables × HasStood feed × IsUnwritten out
     × ByTables tables (λ files. sound_in files folder) (λ db. OfFile feed name (λ found. found ≡ None))
 Decoded (code.Cut count) folder name tables feed out =
-    HasStood tables × HasStood feed × IsHandedOn out × Printed (EndsCut count) folder name tables feed out
+    HasStood feed × IsHandedOn out × BySound folder tables (λ db. RanBy (EndsCut count) db name feed out)
 Decoded code.TablesFault folder name tables feed out = HasFailed tables × IsUncalled feed × IsUnwritten out
 Decoded code.FeedFault folder name tables feed out =
-    HasStood tables × HasFailed feed × IsHandedOn out
-    × ByTables tables (λ files. sound_in files folder)
-    (λ db. OfFile feed name (λ found. MissedFeed feed out ⊎ IsSomeAnd found (RanBy EndsUnread feed out db)))
+    HasFailed feed × IsHandedOn out × BySound folder tables (λ db. MissedFeed feed out ⊎ RanBy EndsUnread db name feed out)
 Decoded code.OutFault folder name tables feed out =
-    HasStood tables × (feed.faults feed.before ≤ feed.faults feed.now) × HasBroken out
-    × Printed (EndsUnwritten (feed.faults feed.before) (feed.faults feed.now)) folder name tables feed out
+    (feed.faults feed.before ≤ feed.faults feed.now) × HasBroken out
+    × BySound folder tables (λ db. RanBy (EndsUnwritten (feed.faults feed.before) (feed.faults feed.now)) db name feed out)
 Decoded code.Limit folder name tables feed out =
-    HasStood tables × HasStood feed × IsHandedOn out × Printed EndsAtLimit folder name tables feed out
+    HasStood feed × IsHandedOn out × BySound folder tables (λ db. RanBy EndsAtLimit db name feed out)
 Decoded code.Want folder name tables feed out = HasStood tables × HasStood feed × IsUnwritten out
 Decoded other folder name tables feed out = ⊥
 
@@ -115,29 +122,9 @@ pub record Shelves (T F D : Type 0) : Type 0 where
 abbrev pub shelves : {T F D : Type 0} → ShelfView T → ShelfView F → ShelfView D → Shelves T F D
 shelves tables feed desk = record { tables = tables; feed = feed; desk = desk }
 
--- a shelf that had this left as a run opened, where it tells that
-abbrev pub from : {S : Type 0} → ShelfView S → Option (List ℕ) → Object
-from s start = object start (s.left s.now) (s.faults s.before) (s.faults s.now)
-
 -- a shelf that stands at the start of a file of these octets as a run opens
 abbrev pub opened : {S : Type 0} → ShelfView S → List ℕ → Object
 opened s octets = from s (Some octets)
-
--- a shelf that a run reads from where it stands
-abbrev pub read_of : {S : Type 0} → ShelfView S → Object
-read_of s = object (s.left s.before) (s.left s.now) (s.faults s.before) (s.faults s.now)
-
--- a sink that a run writes to
-abbrev pub written_to : {O : Type 0} → SinkView O → Object
-written_to o = object (o.written o.before) (o.written o.now) (o.faults o.before) (o.faults o.now)
-
--- no turn to a file failed
-abbrev pub HasTurned : {S : Type 0} → ShelfView S → Type 0
-HasTurned s = s.missed s.now ≡ s.missed s.before
-
--- where the shelf tells, the file of that name is held, and this is what it had left as a run opened
-abbrev pub StoodAt : {S : Type 0} → ShelfView S → List ℕ → Option (List ℕ) → Type 0
-StoodAt s name start = OfFile s name (λ found. IsSomeAnd found (λ octets. start ≡ Some octets))
 
 -- a live run with this history left its objects so; the code and what it printed and replied are those of the definitions. It began with
 -- one sound edition and with what feed and desk had left: those of the folder and of the files, where the shelves tell them. The code and the

@@ -15,10 +15,11 @@ ghost use Rattle.session.specs.Sources.{Files};
 use crate::check::check;
 use crate::decode::decode;
 use crate::drill::drill;
-use crate::live::live;
+use crate::live::{LiveRequest, live};
 use edition::Edition;
 use edition_register::Closed;
 use fold_state::BoardRoom;
+use live_session::Host;
 use mib_model::{Code, Input};
 use std::alloc::Global;
 use std::sync::Wait;
@@ -120,9 +121,14 @@ pub fn tool<
                 workers,
             },
         ) => {
-            return live(
-                rt, alloc, folder, name, desk_name, workers, tables, feed, desk, out, replies, gate,
-            );
+            let asked = LiveRequest {
+                folder,
+                feed: name,
+                desk: desk_name,
+                workers,
+            };
+            let host = Host { rt, alloc, gate };
+            return live(&host, &asked, tables, feed, desk, out, replies);
         }
         Ok(Request::Drill { seed }) => drill(rt, alloc, seed, out),
         Err(WordsFault::Misuse(misuse)) => Code::Usage(misuse),

@@ -8,13 +8,21 @@ ghost use Rattle.tool_objects.specs.Objects.{shelf, sink};
 use crate::commands::Status;
 use edition::Edition;
 use folder_edition::{folder_edition, let_go};
-use live_session::{Lived, live_run};
+use live_session::{Host, Lived, live_run};
 use mib_model::{Code, Input};
 use packet_run::MOST_WORKERS;
-use std::alloc::Global;
 use std::sync::Wait;
 use std::thread::Threads;
 use tm_io::{Gate, Shelf, Sink};
+
+/// What a live run is asked for: the folder of its tables, the files of its feed and its desk, and how many workers decode.
+#[derive(Clone, Copy)]
+pub(crate) struct LiveRequest<'a> {
+    pub folder: &'a str,
+    pub feed: &'a str,
+    pub desk: &'a str,
+    pub workers: u8,
+}
 
 // The run from an edition on, where the feed is turned to.
 fn live_beside<
@@ -25,25 +33,22 @@ fn live_beside<
     G: Gate + Sync,
     X: Threads + Wait + Sync,
 >(
-    rt: &X,
-    alloc: Global,
+    host: &Host<'_, X, G>,
     edition: Edition,
-    desk_name: &str,
-    workers: u8,
+    asked: &LiveRequest<'_>,
     feed: &mut F,
     desk: &mut D,
     out: &mut O,
     replies: &mut P,
-    gate: &G,
 ) -> Status
-    ensures lives { LivedBeside result.code (option_map history_of result.closed) edition desk_name.now
+    ensures lives { LivedBeside result.code (option_map history_of result.closed) edition asked.now.desk.now
         (shelf feed.old feed.new F.holds F.left F.faults F.missed)
         (shelf desk.old desk.new D.holds D.left D.faults D.missed)
         (sink out.old out.new O.written O.handed O.faults)
         (sink replies.old replies.new P.written P.handed P.faults) }
     ensures numbers { TellsItsEnd result.closed }
 {
-    match desk.aim(desk_name) {
+    match desk.aim(asked.desk) {
         Ok(true) => (),
         Ok(false) => {
             let_go(edition);
@@ -54,9 +59,9 @@ fn live_beside<
             return Status::unopened(Code::DeskFault);
         }
     }
-    let workers = workers.clamp(1, MOST_WORKERS);
-    let lived = live_run(rt, alloc, edition, feed, desk, out, replies, gate, workers);
-    match lived {
+    let Host { rt, alloc, gate } = *host;
+    let workers = asked.workers.clamp(1, MOST_WORKERS);
+    match live_run(rt, alloc, edition, feed, desk, out, replies, gate, workers) {
         Ok(Lived { code, closed }) => Status {
             code,
             closed: Some(closed),
@@ -65,8 +70,8 @@ fn live_beside<
     }
 }
 
-/// Prints the feed of a name by the tables of a folder and by the editions that the desk of another name makes of them,
-/// decoded by so many workers, and by one at least. The replies to the desk's lines go to `replies`.
+/// Prints the feed that is asked for by the tables of the folder and by the editions that the desk makes of them, decoded by one worker at
+/// least. The replies to the desk's lines go to `replies`.
 pub(crate) fn live<
     T: Shelf,
     F: Shelf,
@@ -76,20 +81,15 @@ pub(crate) fn live<
     G: Gate + Sync,
     X: Threads + Wait + Sync,
 >(
-    rt: &X,
-    alloc: Global,
-    folder: &str,
-    name: &str,
-    desk_name: &str,
-    workers: u8,
+    host: &Host<'_, X, G>,
+    asked: &LiveRequest<'_>,
     tables: &mut T,
     feed: &mut F,
     desk: &mut D,
     out: &mut O,
     replies: &mut P,
-    gate: &G,
 ) -> Status
-    ensures lives { LivedBy result.code (option_map history_of result.closed) (names folder.now name.now desk_name.now)
+    ensures lives { LivedBy result.code (option_map history_of result.closed) (names asked.now.folder.now asked.now.feed.now asked.now.desk.now)
         (shelves (shelf tables.old tables.new T.holds T.left T.faults T.missed)
         (shelf feed.old feed.new F.holds F.left F.faults F.missed)
         (shelf desk.old desk.new D.holds D.left D.faults D.missed))
@@ -97,14 +97,12 @@ pub(crate) fn live<
         (sink replies.old replies.new P.written P.handed P.faults) }
     ensures numbers { TellsItsEnd result.closed }
 {
-    let edition = match folder_edition(alloc, folder, tables) {
+    let edition = match folder_edition(host.alloc, asked.folder, tables) {
         Ok(edition) => edition,
         Err(refusal) => return Status::unopened(Code::from(refusal)),
     };
-    match feed.aim(name) {
-        Ok(true) => live_beside(
-            rt, alloc, edition, desk_name, workers, feed, desk, out, replies, gate,
-        ),
+    match feed.aim(asked.feed) {
+        Ok(true) => live_beside(host, edition, asked, feed, desk, out, replies),
         Ok(false) => {
             let_go(edition);
             Status::unopened(Code::NoFile(Input::Feed))

@@ -130,7 +130,7 @@ pub record Parts (first : Database) (history : RegisterHistory) : Type 0 where
   pub last : RegisterHistory
   pub unmoved : AllByRecursion (λ seat. own_moves seat ≡ []) (map (λ side. side.seat) sides)
   pub new : AllByRecursion (IsNewSide first) sides
-  pub ran : Ran (lanes sides seens) (lanes end_sides end_seens) before last
+  pub ran : Ran 1 (lanes sides seens) (lanes end_sides end_seens) before last
   pub listed : ListFrom 1 history (map (λ side. side.seat) end_sides)
   pub whole : StartsWith history last
   pub same : length sides ≡ length seens

@@ -94,10 +94,10 @@ AllGoOn number [] [] = Unit {0}
 AllGoOn number (old ∷ olds) (new ∷ news) = GoesOn number old new × AllGoOn (suc number) olds news
 AllGoOn number olds news = ⊥
 
--- all desks began and went on, by what was seen of the history before they began and what was seen last
-pub record Ran (olds news : List Lane) (before last : RegisterHistory) : Type 0 where
+-- all desks from this number on began and went on, by what was seen of the history before they began and what was seen last
+pub record Ran (number : ℕ) (olds news : List Lane) (before last : RegisterHistory) : Type 0 where
   pub begun : List Lane
   pub now : RegisterHistory
-  pub begin : AllBegin 1 olds begun before now
-  pub go_on : AllGoOn 1 begun news
+  pub begin : AllBegin number olds begun before now
+  pub go_on : AllGoOn number begun news
   pub later : StartsWith last now

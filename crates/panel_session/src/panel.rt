@@ -1,7 +1,6 @@
 //! A run of a panel.
-ghost use Rattle.std.specs.Prelude.{◌≡◌, ◌≢◌, ◌≤◌, ◌+◌, [], Err, IfOk, OnErr, length, map, vec_capacity};
-ghost use Rattle.std.specs.List.{AllByRecursion, AllZip};
-ghost use Rattle.decode_session.specs.Causes.{HasOutCause};
+ghost use Rattle.std.specs.Prelude.{◌≡◌, ◌≢◌, ◌≤◌, ◌+◌, [], IfOk, OnErr, length, map, vec_capacity};
+ghost use Rattle.std.specs.List.{AllZip};
 ghost use Rattle.edition_register.specs.Panels.{AreDesksFrom, ListFrom};
 ghost use Rattle.histories.specs.History.{IsOfSeatsBelow, Permits, StartsWith, moves_of};
 ghost use Rattle.live_session.specs.Codes.{code_by};
@@ -9,26 +8,23 @@ ghost use Rattle.mib_model.specs.RegisterHistories.{IsRegisterHistory, MayEnter}
 ghost use Rattle.panel_session.specs.Codes.{gravest};
 ghost use Rattle.edition_register.specs.Seats.{IsSeat, first_of, history_of};
 ghost use Rattle.live_session.specs.Live.{EndsAs, StaysHandedOn, object};
-ghost use Rattle.live_session.specs.Sides.{Intakes, IsReady};
-ghost use Rattle.panel_session.specs.Lanes.{Ran, lanes};
 ghost use Rattle.panel_session.specs.Opened.{IsOpened, first_in};
 ghost use Rattle.panel_session.specs.Panel.{LivesAt};
 ghost use Rattle.turn_cell.specs.Seats.{own_moves, seen_by};
 
-use crate::beginning::begin_all;
 use crate::code::code_of;
 use crate::opening::PanelRun;
 use crate::side::{DeskSide, take_seats};
 use crate::station::{Post, Station};
-use crate::work::run_beside;
-use decode_session::{RunEnd, RunFault, Stop};
+use crate::work::run_desks;
+use decode_session::{RunEnd, RunFault};
 use edition::Edition;
 use edition_register::{Closed, Editions, Register};
 use fold_state::BoardRoom;
 use live_desk::Place;
 use live_session::IntakeSide;
 use mib_model::Code;
-use packet_run::{NoWatch, Watch};
+use packet_run::NoWatch;
 use std::alloc::{AllocError, Global};
 use std::sync::Wait;
 use std::thread::Threads;
@@ -40,52 +36,6 @@ use turn_cell::Seat;
 pub struct PanelLived {
     pub code: Code,
     pub closed: Closed<Edition, BoardRoom>,
-}
-
-// The lines of each desk up to its first `go`, one desk after the other, and then the packets of the feed beside the other lines.
-fn run_desks<
-    R: Threads + Wait + Sync,
-    F: Source,
-    S: Post + Send,
-    O: Sink,
-    G: Gate + Sync,
-    W: Watch,
->(
-    rt: &R,
-    alloc: &Global,
-    register: &Register<Edition, BoardRoom>,
-    gate: &G,
-    intake: &mut IntakeSide<W>,
-    feed: &mut F,
-    out: &mut O,
-    sides: &mut [DeskSide],
-    stations: &mut [S],
-) -> Result<RunEnd, RunFault>
-    requires intake { IsSeat 0 register.now intake.old.seat × (own_moves intake.old.seat ≡ []) }
-    requires ready { IsReady (first_of register.now) intake.old.first intake.old.stock }
-    requires desks { AreDesksFrom 1 register.now (map (λ side. side.seat) sides.old) × (length sides.old ≤ 4) }
-    requires unmoved { AllByRecursion (λ seat. own_moves seat ≡ []) (map (λ side. side.seat) sides.old) }
-    requires same { length stations.old ≡ length sides.old }
-    ensures intake { IsSeat 0 register.now intake.new.seat }
-    ensures intakes { Intakes W.stands result (first_of register.now) (own_moves intake.new.seat) (F.faults feed.old) (F.faults feed.new)
-        (F.left feed.old) (F.left feed.new) (O.written out.old) (O.written out.new) intake.old.watch intake.new.watch }
-    ensures out { HasOutCause result (O.faults out.old) (O.faults out.new) }
-    ensures handed { result ≢ Err (RunFault.Print Stop.Out) → O.handed out.new ≡ O.written out.new }
-    ensures kept { (F.holds feed.new ≡ F.holds feed.old) × (F.missed feed.new ≡ F.missed feed.old) }
-    ensures desks { AreDesksFrom 1 register.now (map (λ side. side.seat) sides.new) }
-    ensures ran { Ran (lanes sides.old (map S.seen stations.old)) (lanes sides.new (map S.seen stations.new))
-        (seen_by intake.old.seat) (seen_by intake.new.seat) }
-{
-    let place = Place {
-        rt,
-        alloc: *alloc,
-        register,
-        desk: 1,
-    };
-    begin_all(&place, &mut intake.seat, sides, stations);
-    run_beside(
-        rt, alloc, register, gate, intake, feed, out, sides, stations,
-    )
 }
 
 // Ends a run: its code, and its register closed.
@@ -142,17 +92,15 @@ impl PanelRun {
             mut sides,
             room,
         } = self;
-        let ended = run_desks(
-            rt,
-            &alloc,
-            &register,
-            gate,
-            &mut intake,
-            feed,
-            out,
-            &mut sides,
-            stations,
-        );
+        let ended = {
+            let place = Place {
+                rt,
+                alloc,
+                register: &register,
+                desk: 1,
+            };
+            run_desks(&place, gate, &mut intake, feed, out, &mut sides, stations)
+        };
         finish(register, intake, sides, room, ended)
     }
 }

@@ -1,18 +1,18 @@
-// The packets of a feed beside the other lines of all desks.
-ghost use Rattle.std.specs.Prelude.{◌≡◌, ◌≢◌, ◌≤◌, ◌+◌, [], Err, length, map};
+// The lines of all desks, those behind their first `go` beside the packets of a feed.
+ghost use Rattle.std.specs.Prelude.{◌≡◌, ◌≤◌, ◌+◌, [], length, map};
 ghost use Rattle.std.specs.List.{AllByRecursion};
 ghost use Rattle.std.specs.Thread.{IsSend, IsSync};
-ghost use Rattle.decode_session.specs.Causes.{HasOutCause};
 ghost use Rattle.edition_register.specs.Panels.{AreDesksFrom, IsDeskSeat};
 ghost use Rattle.edition_register.specs.Seats.{IsSeat, first_of};
-ghost use Rattle.histories.specs.History.{StartsWith};
-ghost use Rattle.live_session.specs.Sides.{Intakes, IsReady};
-ghost use Rattle.panel_session.specs.Lanes.{AllGoOn, GoesOn, HasRoom, lane_of, lanes};
+ghost use Rattle.live_session.specs.Sides.{IsIntakeReady, TakesIn};
+ghost use Rattle.panel_session.specs.Lanes.{AllGoOn, GoesOn, HasRoom, Ran, lane_of, lanes};
+ghost use Rattle.tool_objects.specs.Objects.{shelf, sink};
 ghost use Rattle.turn_cell.specs.Seats.{own_moves, seen_by};
 
+use crate::beginning::begin_all;
 use crate::side::DeskSide;
 use crate::station::Post;
-use decode_session::{RunEnd, RunFault, Stop};
+use decode_session::{RunEnd, RunFault};
 use edition::Edition;
 use edition_register::Register;
 use fold_state::BoardRoom;
@@ -100,8 +100,9 @@ fn all_go_on<R: Threads + Wait + Sync, S: Post + Send>(
     );
 }
 
-/// Prints the packets of a feed in this thread beside those lines of all desks in others.
-pub(crate) fn run_beside<
+/// The first lines of each desk from that of the place on, in their order; and then the packets of a feed in this thread beside the other lines of all
+/// those desks in others.
+pub(crate) fn run_desks<
     R: Threads + Wait + Sync,
     F: Source,
     S: Post + Send,
@@ -109,9 +110,7 @@ pub(crate) fn run_beside<
     G: Gate + Sync,
     W: Watch,
 >(
-    rt: &R,
-    alloc: &Global,
-    register: &Register<Edition, BoardRoom>,
+    place: &Place<'_, R>,
     gate: &G,
     intake: &mut IntakeSide<W>,
     feed: &mut F,
@@ -119,34 +118,40 @@ pub(crate) fn run_beside<
     sides: &mut [DeskSide],
     stations: &mut [S],
 ) -> Result<RunEnd, RunFault>
-    requires intake { IsSeat 0 register.now intake.old.seat × (own_moves intake.old.seat ≡ []) }
-    requires ready { IsReady (first_of register.now) intake.old.first intake.old.stock }
-    requires desks { AreDesksFrom 1 register.now (map (λ side. side.seat) sides.old) × (length sides.old ≤ 4) }
-    requires room { AllByRecursion HasRoom (lanes sides.old (map S.seen stations.old)) }
+    requires ready { IsIntakeReady place.now.register.now intake.old.seat intake.old.first intake.old.stock }
+    requires desks { AreDesksFrom place.now.desk place.now.register.now (map (λ side. side.seat) sides.old) }
+    requires unmoved { AllByRecursion (λ seat. own_moves seat ≡ []) (map (λ side. side.seat) sides.old) }
     requires same { length stations.old ≡ length sides.old }
-    ensures intake { IsSeat 0 register.now intake.new.seat × StartsWith (seen_by intake.new.seat) (seen_by intake.old.seat) }
-    ensures intakes { Intakes W.stands result (first_of register.now) (own_moves intake.new.seat) (F.faults feed.old) (F.faults feed.new)
-        (F.left feed.old) (F.left feed.new) (O.written out.old) (O.written out.new) intake.old.watch intake.new.watch }
-    ensures out { HasOutCause result (O.faults out.old) (O.faults out.new) }
-    ensures handed { result ≢ Err (RunFault.Print Stop.Out) → O.handed out.new ≡ O.written out.new }
-    ensures kept { (F.holds feed.new ≡ F.holds feed.old) × (F.missed feed.new ≡ F.missed feed.old) }
-    ensures desks { AreDesksFrom 1 register.now (map (λ side. side.seat) sides.new) }
-    ensures go_on { AllGoOn 1 (lanes sides.old (map S.seen stations.old)) (lanes sides.new (map S.seen stations.new)) }
+    requires number { place.now.desk + length sides.old ≤ 5 }
+    ensures intake { IsSeat 0 place.now.register.now intake.new.seat }
+    ensures takes { TakesIn W.stands result (first_of place.now.register.now) (own_moves intake.new.seat)
+        (shelf feed.old feed.new F.holds F.left F.faults F.missed) (sink out.old out.new O.written O.handed O.faults) intake.old.watch intake.new.watch }
+    ensures desks { AreDesksFrom place.now.desk place.now.register.now (map (λ side. side.seat) sides.new) }
+    ensures ran { Ran place.now.desk (lanes sides.old (map S.seen stations.old)) (lanes sides.new (map S.seen stations.new))
+        (seen_by intake.old.seat) (seen_by intake.new.seat) }
 {
+    begin_all(place, &mut intake.seat, sides, stations);
     let (_, ended) = thread::join_mut(
-        rt,
+        place.rt,
         &mut ||
             requires crosses { IsSend S.row × IsSync R.row }
-            requires desks { AreDesksFrom 1 register.now (map (λ side. side.seat) sides.now) }
+            requires desks { AreDesksFrom place.now.desk place.now.register.now (map (λ side. side.seat) sides.now) }
             requires room { AllByRecursion HasRoom (lanes sides.now (map S.seen stations.now)) }
             requires same { length stations.now ≡ length sides.now }
-            requires number { 1 + length sides.now ≤ 5 }
-        { all_go_on(rt, alloc, register, &1, sides, stations) },
+            requires number { place.now.desk + length sides.now ≤ 5 }
+        {
+            all_go_on(
+                place.rt,
+                &place.alloc,
+                place.register,
+                &place.desk,
+                sides,
+                stations,
+            )
+        },
         &mut || -> Result<RunEnd, RunFault>
-            requires seat { IsSeat 0 register.now intake.now.seat }
-            requires unused { own_moves intake.now.seat ≡ [] }
-            requires ready { IsReady (first_of register.now) intake.now.first intake.now.stock }
-        { run_intake(rt, register, intake, feed, out, gate) },
+            requires ready { IsIntakeReady place.now.register.now intake.now.seat intake.now.first intake.now.stock }
+        { run_intake(place.rt, place.register, intake, feed, out, gate) },
     );
     ended
 }

@@ -6,7 +6,7 @@ use Rattle.mibtm_tool.proofs.live.live.Goals as goal
 
 pub returns-in-Ok-true-clause-lives : goal.returns-in-Ok-true-clause-lives
 returns-in-Ok-true-clause-lives g c =
-    lived c.args.folder.now c.args.name.now c.args.desk_name.now
+    lived c.args.asked.now.folder.now c.args.asked.now.feed.now c.args.asked.now.desk.now
     (shelf c.args.tables.now c.folder_edition.new.tables g.T.Source.holds g.T.Source.left g.T.Source.faults g.T.Source.missed)
     c.args.feed.now c.aim.new.self c.live_beside.new.feed g.F.Source.holds g.F.Source.left g.F.Source.faults g.F.Source.missed
     (shelf c.args.desk.now c.live_beside.new.desk g.D.Source.holds g.D.Source.left g.D.Source.faults g.D.Source.missed)
@@ -19,7 +19,7 @@ returns-in-Ok-true-clause-lives g c =
 pub returns-in-Ok-false-clause-lives : goal.returns-in-Ok-false-clause-lives
 returns-in-Ok-false-clause-lives g c =
     rw (c.unopened-in-Ok-false.ensures.code, c.unopened-in-Ok-false.ensures.closed)
-    (missing_lived c.args.folder.now c.args.name.now c.args.desk_name.now
+    (missing_lived c.args.asked.now.folder.now c.args.asked.now.feed.now c.args.asked.now.desk.now
     (shelf c.args.tables.now c.folder_edition.new.tables g.T.Source.holds g.T.Source.left g.T.Source.faults g.T.Source.missed)
     (shelf c.args.feed.now c.aim.new.self g.F.Source.holds g.F.Source.left g.F.Source.faults g.F.Source.missed)
     (shelf c.args.desk.now c.args.desk.now g.D.Source.holds g.D.Source.left g.D.Source.faults g.D.Source.missed)

@@ -28,7 +28,7 @@ returns-clause-lives g c =
       last = seen_by new.intake.seat;
       unmoved = opened.unmoved;
       new = opened.new;
-      ran = subst (λ (l : List DeskSide). Ran (lanes l (map seen c.args.stations.now)) (lanes new.sides (map seen new.stations)) (seen_by c.args.self.intake.seat) (seen_by new.intake.seat)) c.deref_mut.ensures.value ran.ran;
+      ran = subst (λ (l : List DeskSide). Ran 1 (lanes l (map seen c.args.stations.now)) (lanes new.sides (map seen new.stations)) (seen_by c.args.self.intake.seat) (seen_by new.intake.seat)) c.deref_mut.ensures.value ran.ran;
       listed = subst (λ (l : List DeskSide). ListFrom 1 history (map (λ side. side.seat) l)) same fin.desks;
       whole = fin.seen;
       same = opened.many ∙ sym (length-map c.args.stations.now seen);
@@ -37,4 +37,4 @@ returns-clause-lives g c =
     lives-of first history r _ c.args.self.intake.watch new.intake.watch c.run_desks-ended.result (own_moves new.intake.seat) fin.legal.0 fin.legal.1 fin.intake c.finish.result.code
     (g.F.Source.faults c.args.feed.now) (g.F.Source.faults new.feed) (g.O.Sink.faults c.args.out.now) (g.O.Sink.faults new.out)
     (g.F.Source.left c.args.feed.now) (g.F.Source.left new.feed) (g.O.Sink.written c.args.out.now) (g.O.Sink.written new.out) (subst (λ (l : List DeskSide). c.finish.result.code ≡ code_by c.run_desks-ended.result (gravest l)) same fin.code)
-    (subst (λ (l : List DeskSide). IsOfSeatsBelow (length l + 1) history) same fin.seats) ran.out ran.intakes
+    (subst (λ (l : List DeskSide). IsOfSeatsBelow (length l + 1) history) same fin.seats) ran.takes.out_cause ran.takes.runs

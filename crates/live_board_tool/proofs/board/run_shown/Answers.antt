@@ -8,10 +8,10 @@ use Rattle.mib_model.specs.declared.database.Database.{Database}
 use Rattle.mib_model.specs.RegisterHistories.{RegisterHistory}
 use Rattle.packet_run.specs.Told.{Member}
 use Rattle.page_screen.proofs.display.Display.TheSendSync as display
-use Rattle.live_board_tool.proofs.shown.run_shown.Given.{Over}
-use Rattle.live_board_tool.proofs.shown.run_shown.Goals as goal
-use Rattle.live_board_tool.proofs.shown.run_shown.Lts.{arg-1-1}
-use Rattle.live_board_tool.specs.contracts.shown.run_shown.{S-row, X-row}
+use Rattle.live_board_tool.proofs.board.run_shown.Given.{Over}
+use Rattle.live_board_tool.proofs.board.run_shown.Goals as goal
+use Rattle.live_board_tool.proofs.board.run_shown.Lts.{arg-1-1}
+use Rattle.live_board_tool.specs.contracts.board.run_shown.{S-row, X-row}
 
 -- what the closure of the display captures may go to another thread
 captured-send : (g : Over) (κs : _) → IsSend (S-row g.row.X g.row.F g.row.D g.row.O g.row.R g.row.S g.row.G g.row.W) → IsSync (X-row g.row.X g.row.F g.row.D g.row.O g.row.R g.row.S g.row.G g.row.W)
@@ -27,11 +27,21 @@ watched-as : {W : Type 0} {stands : W → List Member → Type 0} {code : Code} 
 watched-as {stands = stands} {code = code} {first = first} {history = history} {watch = watch} {end = end} feed desk out replies watched is_feed is_desk is_out is_replies =
     subst (λ (x : Object × Object × Object × Object). IsWatched stands code first history x.0 x.1 x.2 x.3 watch end) (λ i. (is_feed i, is_desk i, is_out i, is_replies i)) watched
 
-pub returns-clause-watched : goal.returns-clause-watched
-returns-clause-watched g c =
+pub returns-clause-leaves : goal.returns-clause-leaves
+returns-clause-leaves g c =
     let at = c.join_mut-shown.new.g in
-    watched-as (object (g.F.Source.left c.args.feed.now) (g.F.Source.left at.4.now) (g.F.Source.faults c.args.feed.now) (g.F.Source.faults at.4.now))
-    (object (g.D.Source.left c.args.desk.now) (g.D.Source.left at.5.now) (g.D.Source.faults c.args.desk.now) (g.D.Source.faults at.5.now))
-    (object (g.O.Sink.written c.args.out.now) (g.O.Sink.written at.6.now) (g.O.Sink.faults c.args.out.now) (g.O.Sink.faults at.6.now))
-    (object (g.R.Sink.written c.args.replies.now) (g.R.Sink.written at.7.now) (g.R.Sink.faults c.args.replies.now) (g.R.Sink.faults at.7.now))
-    (search rules) (search rules) (search rules) (search rules) (search rules)
+    record {
+      watched =
+          watched-as (object (g.F.Source.left c.args.feed.now) (g.F.Source.left at.3.now) (g.F.Source.faults c.args.feed.now) (g.F.Source.faults at.3.now))
+          (object (g.D.Source.left c.args.desk.now) (g.D.Source.left at.4.now) (g.D.Source.faults c.args.desk.now) (g.D.Source.faults at.4.now))
+          (object (g.O.Sink.written c.args.out.now) (g.O.Sink.written at.5.now) (g.O.Sink.faults c.args.out.now) (g.O.Sink.faults at.5.now))
+          (object (g.R.Sink.written c.args.replies.now) (g.R.Sink.written at.6.now) (g.R.Sink.faults c.args.replies.now) (g.R.Sink.faults at.6.now))
+          (search rules) (search rules) (search rules) (search rules) (search rules);
+      handed = search rules;
+      replied = search rules;
+      numbers = search rules;
+      feed_holds = search rules;
+      feed_turned = search rules;
+      desk_holds = search rules;
+      desk_turned = search rules;
+    }
