@@ -3,12 +3,20 @@ use crate::checks::folder;
 use crate::folders::{PACKET, sink, words};
 use mib_model::Code;
 use mibtm_tool::tool;
+use std::alloc::Global;
+use std::sync::Wait;
 use std::sync::atomic::{AtomicU64, Ordering};
 use std::test::Fail;
 use std::thread;
+use std::thread::Threads;
 use tm_io::{Failed, MemSink, NoGate, Shelf, Sink, Source};
 
 const MOST_TURNS: u32 = 1_000_000;
+
+const REPLIES: &[u8] = b"GO\nUSED 1 FROM 2\n";
+
+const RECORDS: &[u8] =
+    b"PKT 1 APID 100 COUNT 0 TYPE 3/25 SPID 4001\n  T1 2000\nPKT 2 APID 100 COUNT 0 TYPE 3/25 SPID 4001\n  T1 2000\n";
 
 // Waits until a count has come so far, and tells whether it has within a million turns.
 fn has_come(count: &AtomicU64, wanted: u64) -> bool {
@@ -31,6 +39,27 @@ struct Parts<'a> {
     wanted: u64,
     has_waited: bool,
     is_late: bool,
+}
+
+impl<'a> Parts<'a> {
+    // Two parts, of which the second comes once so much was counted.
+    fn new(
+        first: &'a [u8],
+        second: &'a [u8],
+        asked: &'a AtomicU64,
+        awaited: &'a AtomicU64,
+        wanted: u64,
+    ) -> Parts<'a> {
+        Parts {
+            first,
+            second,
+            asked,
+            awaited,
+            wanted,
+            has_waited: false,
+            is_late: false,
+        }
+    }
 }
 
 impl Parts<'_> {
@@ -99,63 +128,62 @@ impl Sink for Counted<'_> {
     }
 }
 
-// The desk gives its second line once the feed is asked for its second packet, which comes once that line is replied to.
+// What a run came to, whether a side waited in vain, and what was printed and replied.
+#[derive(Drop)]
+struct Answered {
+    code: Code,
+    is_late: bool,
+    out: MemSink,
+    replies: MemSink,
+}
+
+// A live run by so many workers, whose desk gives its second line once the feed is asked for its second packet, which comes once that line is
+// replied to.
+fn run_waiting<X: Threads + Wait + Sync>(
+    rt: &X,
+    alloc: Global,
+    workers: &str,
+) -> Result<Answered, Fail> {
+    let (asked, told, replied) = (AtomicU64::new(0), AtomicU64::new(0), AtomicU64::new(0));
+    let mut feed = Parts::new(PACKET, PACKET, &asked, &replied, REPLIES.len() as u64);
+    let mut desk = Parts::new(b"go\n", b"use 1\n", &told, &asked, 1);
+    let mut out = sink(alloc, &[], 50)?;
+    let mut replies = Counted {
+        sink: sink(alloc, &[], 50)?,
+        count: &replied,
+    };
+    let given = words(
+        alloc,
+        &["live", "mib", "feed", "desk", "--workers", workers],
+    )?;
+    let mut tables = folder(alloc, &[])?;
+    let status = tool(
+        rt,
+        alloc,
+        &given,
+        &mut tables,
+        &mut feed,
+        &mut desk,
+        &mut out,
+        &mut replies,
+        &NoGate,
+    );
+    Ok(Answered {
+        code: status.code,
+        is_late: feed.is_late || desk.is_late,
+        out,
+        replies: replies.sink,
+    })
+}
+
 #[test]
 fn a_desk_is_answered_while_the_feed_waits(rt: HostRuntime) -> Result<(), Fail> {
-    let alloc = rt.alloc();
     for workers in ["1", "2", "4"] {
-        let replies_text = b"GO\nUSED 1 FROM 2\n";
-        let (asked, told, replied) = (AtomicU64::new(0), AtomicU64::new(0), AtomicU64::new(0));
-        let mut feed = Parts {
-            first: PACKET,
-            second: PACKET,
-            asked: &asked,
-            awaited: &replied,
-            wanted: replies_text.len() as u64,
-            has_waited: false,
-            is_late: false,
-        };
-        let mut desk = Parts {
-            first: b"go\n",
-            second: b"use 1\n",
-            asked: &told,
-            awaited: &asked,
-            wanted: 1,
-            has_waited: false,
-            is_late: false,
-        };
-        let mut out = sink(alloc, &[], 50)?;
-        let mut replies = Counted {
-            sink: sink(alloc, &[], 50)?,
-            count: &replied,
-        };
-        let given = words(
-            alloc,
-            &["live", "mib", "feed", "desk", "--workers", workers],
-        )?;
-        let status = tool(
-            &rt,
-            alloc,
-            &given,
-            &mut folder(alloc, &[])?,
-            &mut feed,
-            &mut desk,
-            &mut out,
-            &mut replies,
-            &NoGate,
-        );
-        assert_eq!(rt; status.code, Code::Ok, "by {workers}");
-        assert!(rt; !feed.is_late && !desk.is_late, "by {workers}");
-        assert_eq!(rt;
-            replies.sink.handed(),
-            replies_text.as_slice(),
-            "by {workers}"
-        );
-        assert_eq!(rt;
-            out.handed(),
-            b"PKT 1 APID 100 COUNT 0 TYPE 3/25 SPID 4001\n  T1 2000\nPKT 2 APID 100 COUNT 0 TYPE 3/25 SPID 4001\n  T1 2000\n".as_slice(),
-            "by {workers}"
-        );
+        let run = run_waiting(&rt, rt.alloc(), workers)?;
+        assert_eq!(rt; run.code, Code::Ok, "by {workers}");
+        assert!(rt; !run.is_late, "by {workers}");
+        assert_eq!(rt; run.replies.handed(), REPLIES, "by {workers}");
+        assert_eq!(rt; run.out.handed(), RECORDS, "by {workers}");
     }
     Ok(())
 }
