@@ -2,7 +2,7 @@ ghost use Rattle.std.specs.Prelude.{◌≡◌, ℕ, List, Option, OnOk, OnErr};
 ghost use Rattle.std.specs.Io.{WritesAtMost};
 ghost use Rattle.std.specs.Io.KnownBytes.{Appends, Keeps, WriteAppends};
 ghost use Rattle.tm_io.specs.Causes.{HasCause};
-ghost use Rattle.tm_io.specs.Octets.{TakesSome, AppendsPrefix};
+ghost use Rattle.tm_io.specs.Octets.{TakesSome, AppendsPrefix, AppendsPart};
 
 use crate::Failed;
 
@@ -55,10 +55,11 @@ impl<S: Sink> Sink for &mut S {
     }
 }
 
-/// Writes all of the octets. Where it fails, some first of them were written. It hands nothing on.
+/// Writes all of the octets. Where it fails, some first of them were written, and not the last. It hands nothing on.
 pub fn write_all<O: Sink>(out: &mut O, octets: &[u8]) -> Result<(), Failed>
     ensures all { OnOk result (Appends (O.written out.old) (O.written out.new) octets.now) }
     ensures part { OnErr result (AppendsPrefix (O.written out.old) (O.written out.new) octets.now) }
+    ensures rest { OnErr result (AppendsPart (O.written out.old) (O.written out.new) octets.now) }
     ensures handed { O.handed out.new ≡ O.handed out.old }
     ensures cause { HasCause (O.faults out.old) (O.faults out.new) result }
     ensures borrow { O.borrow out.new ≡ O.borrow out.old }
