@@ -1,6 +1,6 @@
 // Boards whose objects don't fail.
 use crate::objects::{Objects, shelf};
-use mib_model::Misuse;
+use run_model::Misuse;
 use page_texts::{BoardCode, BoardInput};
 use std::test::Fail;
 

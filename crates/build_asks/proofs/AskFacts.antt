@@ -2,7 +2,7 @@
 use Rattle.std.proofs.Common.{◌≡◌, ◌∙◌, ◌<◌, ◌≤◌, ℕ, Bool, true, false, cond, List, [], ◌++◌, length, Option, Some, None, option_map, refl, sym, ap}
 use Rattle.std.specs.Str.Lines.{strip_carriage_return}
 use Rattle.std.proofs.lemmas.Bool.{le-ltb, lt-ltb}
-use Rattle.mib_model.specs.DeskLines.{words_of}
+use Rattle.run_model.specs.DeskLines.{words_of}
 use Rattle.build_rules.specs.declared.item.Item.{Item}
 use Rattle.build_rules.specs.Asks.{Asked, asked_in, asked_of}
 use Rattle.build_asks.specs.declared.ask.Ask.{Ask}

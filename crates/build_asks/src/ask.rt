@@ -5,7 +5,7 @@ ghost use Rattle.std.specs.List.{list_all};
 ghost use Rattle.std.specs.Str.Lines.{strip_carriage_return};
 ghost use Rattle.build_rules.specs.Asks as Spec;
 ghost use Rattle.build_rules.specs.Asks.{asked_in, items_in};
-ghost use Rattle.mib_model.specs.DeskLines as Lines;
+ghost use Rattle.run_model.specs.DeskLines as Lines;
 ghost use Rattle.mib_model.specs.Digits.{digits_value};
 ghost use Rattle.build_asks.specs.Asking.{ask_with};
 

@@ -2,7 +2,7 @@
 ghost use Rattle.std.specs.Prelude.{◌≡◌, ◌==◌, ◌<◌, ◌∷◌, [], length, IfSome, option_map, MatchOption};
 ghost use Rattle.std.specs.List.{position};
 ghost use Rattle.desk_lines.specs.Requests.{cut};
-ghost use Rattle.mib_model.specs.DeskLines as Spec;
+ghost use Rattle.run_model.specs.DeskLines as Spec;
 
 use std::marker::Model;
 
@@ -15,7 +15,7 @@ pub(crate) struct Words<'a> {
 impl<'a> Model for Words<'a> {
     ghost use Rattle.std.specs.Prelude.{ℕ, List, []};
     ghost use Rattle.std.specs.Option.{option_map_or};
-    ghost use Rattle.mib_model.specs.DeskLines.{words_of};
+    ghost use Rattle.run_model.specs.DeskLines.{words_of};
 
     ghost Value = { List (List ℕ) };
 

@@ -2,7 +2,7 @@
 use Rattle.std.specs.Prelude.{ℕ, ◌+◌, ◌^◌, ℤ, pos, neg_ℤ, List, [], ◌∷◌, ◌++◌, codes, decimal, length, nat_lt, ◌==◌, if◌then◌else◌, Option, Some, None, option_map, option_and_then, Result, Ok, Err}
 use Rattle.std.specs.Str.Lines.{strip_carriage_return}
 use Rattle.mib_model.specs.declared.database.Database.{Database}
-use Rattle.mib_model.specs.DeskLines.{is_comment, most_octets, words_of}
+use Rattle.run_model.specs.DeskLines.{is_comment, most_octets, words_of}
 use Rattle.mib_model.specs.Digits.{are_digits, digits_value}
 use Rattle.mib_model.specs.Letters.{letter}
 use Rattle.mib_model.specs.Names.{name_of}

@@ -6,7 +6,7 @@ use Rattle.decode_session.specs.declared.batch.Filled.{Filled}
 use Rattle.decode_session.specs.declared.batch.Filled.TheVariants as filled
 use Rattle.decode_session.specs.Batches.{EndsFeed, EndsBatch}
 use Rattle.mib_model.specs.declared.database.Database.{Database}
-use Rattle.mib_model.specs.Output.{stamped_first, stamped_from}
+use Rattle.mib_model.specs.Interpreter.{stamped_first, stamped_from}
 use Rattle.mib_model.specs.Packets.{IsPacket}
 
 -- packets of two lists with their numbers

@@ -12,7 +12,7 @@ use Rattle.mib_laws.proofs.RunFacts.{interpret-append}
 use Rattle.mib_model.specs.declared.database.Database.{Database}
 use Rattle.mib_model.specs.Interpreter.{Course, StampedPacket, record_for, course_after, interpret, course_after_all, records_text}
 use Rattle.mib_model.specs.Kept.{Memory}
-use Rattle.mib_model.specs.Output.{stamped_first, stamped_from}
+use Rattle.mib_model.specs.Interpreter.{stamped_first, stamped_from}
 use Rattle.mib_model.specs.Texts.{edition_text_of, record_text, record_body}
 
 -- ---- one packet

@@ -23,10 +23,11 @@ use Rattle.decode_session.specs.Finishing.{batch_text, LeavesAfter, Going}
 use Rattle.decode_session.specs.Run.{Ran, EndsBy, EndsWhole, EndsCut, EndsAtLimit, EndsUnread, EndsUnwritten, EndsWanting, Writes, WritesPart, WritesOver, ReadsNoFurther, StopsWriting}
 use Rattle.decode_session.proofs.BatchFacts.{guarded, stamped-append}
 use Rattle.decode_session.proofs.FinishFacts.{text-none, leaves-none, text-append, leaves-append, part-longer, part-behind}
-use Rattle.mib_laws.proofs.OneEdition.{output-one}
+use Rattle.run_laws.proofs.OneEdition.{output-one}
 use Rattle.mib_model.specs.declared.database.Database.{Database}
 use Rattle.mib_model.specs.Kept.{Memory, empty_memory}
-use Rattle.mib_model.specs.Output.{stamped_from, output_of_one}
+use Rattle.run_model.specs.Output.{output_of_one}
+use Rattle.mib_model.specs.Interpreter.{stamped_from}
 use Rattle.mib_model.specs.Packets.{IsPacket, BeginsNoPacket, IsCut}
 use Rattle.mib_model.specs.Texts.{cut_text, rest_text}
 

@@ -21,7 +21,7 @@ use Rattle.decode_session.proofs.RunSteps.{going-more, ran-stopped_within}
 use Rattle.mib_model.specs.declared.database.Database.{Database}
 use Rattle.mib_model.specs.Interpreter.{course_after_all}
 use Rattle.mib_model.specs.Kept.{Memory}
-use Rattle.mib_model.specs.Output.{stamped_first, stamped_from}
+use Rattle.mib_model.specs.Interpreter.{stamped_first, stamped_from}
 use Rattle.mib_model.specs.Packets.{IsPacket}
 
 module _ (db : Database) (number : ℕ) where

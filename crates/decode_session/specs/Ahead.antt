@@ -7,7 +7,7 @@ use Rattle.fold_state.specs.Boards.{plan_names}
 use Rattle.fold_state.specs.Demands.{asked_in}
 use Rattle.line_sheets.specs.Drawings.{IsSheetFor}
 use Rattle.mib_model.specs.declared.database.Database.{Database}
-use Rattle.mib_model.specs.Output.{stamped_from}
+use Rattle.mib_model.specs.Interpreter.{stamped_from}
 use Rattle.mib_model.specs.Packets.{IsPacket}
 use Rattle.packet_sheets.specs.Stretches.{no_stretch}
 

@@ -10,7 +10,7 @@ use Rattle.memory_laws.specs.Alike.{AreAlike}
 use Rattle.mib_model.specs.declared.database.Database.{Database}
 use Rattle.mib_model.specs.Interpreter.{Course, StampedPacket, record_for, course_after, interpret, course_after_all, records_text}
 use Rattle.mib_model.specs.Kept.{Memory, empty_memory}
-use Rattle.mib_model.specs.Output.{stamped_from}
+use Rattle.mib_model.specs.Interpreter.{stamped_from}
 use Rattle.mib_model.specs.Packets.{IsPacket}
 use Rattle.mib_model.specs.Texts.{record_text}
 

@@ -4,7 +4,7 @@ use Rattle.std.specs.Io.KnownBytes.{Appends, Consumes, IsAtEnd}
 use Rattle.tm_io.specs.Causes.{Rose}
 use Rattle.tm_io.specs.Octets.{AppendsPrefix}
 use Rattle.mib_model.specs.declared.database.Database.{Database}
-use Rattle.mib_model.specs.Output.{output_of_one}
+use Rattle.run_model.specs.Output.{output_of_one}
 use Rattle.mib_model.specs.Packets.{IsCut}
 use Rattle.mib_model.specs.Texts.{cut_text, rest_text}
 use Rattle.decode_session.specs.declared.ending.RunEnd.{RunEnd}

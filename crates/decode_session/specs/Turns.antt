@@ -8,7 +8,7 @@ use Rattle.decode_session.specs.Batches.{EndsFeed, EndsBatch, Reads}
 use Rattle.decode_session.specs.Finishing.{batch_text, LeavesAfter}
 use Rattle.mib_model.specs.declared.database.Database.{Database}
 use Rattle.mib_model.specs.Kept.{Memory}
-use Rattle.mib_model.specs.Output.{stamped_from}
+use Rattle.mib_model.specs.Interpreter.{stamped_from}
 use Rattle.mib_model.specs.Packets.{IsPacket}
 
 -- packets, numbered from a number on, were read, their records stand behind a text, and this is kept after them

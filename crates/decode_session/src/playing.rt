@@ -11,7 +11,7 @@ ghost use Rattle.edition_plans.specs.Params.{param_slices};
 ghost use Rattle.fold_state.specs.Boards.{memory_of, plan_names};
 ghost use Rattle.fold_state.specs.declared.finish.TheConstants.{TEXT_BEFORE};
 ghost use Rattle.mib_model.specs.Kept.{Memory};
-ghost use Rattle.mib_model.specs.Output.{stamped_first};
+ghost use Rattle.mib_model.specs.Interpreter.{stamped_first};
 ghost use Rattle.mib_model.specs.Packets.{IsPacket};
 ghost use Rattle.packet_feed.specs.Feed.{SourceStays, source_of};
 ghost use Rattle.packet_feed.specs.declared.feed.TheConstants.{PACKET_SIZE};

@@ -6,27 +6,27 @@ use Rattle.histories.specs.History.{move}
 use Rattle.mib_model.specs.declared.fault.MibFault.{MibFault}
 use Rattle.mib_model.specs.declared.key.Key.{Key}
 use Rattle.mib_model.specs.declared.kind.Kind.{Kind}
-use Rattle.mib_model.specs.declared.register.Answer.{Answer}
-use Rattle.mib_model.specs.declared.register.Entry.{Entry}
-use Rattle.mib_model.specs.declared.register.Entry.TheVariants as entry
-use Rattle.mib_model.specs.declared.reply.Reply.{Reply}
-use Rattle.mib_model.specs.declared.reply.Reply.TheVariants as reply
+use Rattle.run_model.specs.declared.register.Answer.{Answer}
+use Rattle.run_model.specs.declared.register.Entry.{Entry}
+use Rattle.run_model.specs.declared.register.Entry.TheVariants as entry
+use Rattle.run_model.specs.declared.reply.Reply.{Reply}
+use Rattle.run_model.specs.declared.reply.Reply.TheVariants as reply
 use Rattle.mib_model.specs.declared.rows.Row.{Row}
-use Rattle.mib_model.specs.Desk.{DeskReply, DeskState, Plain, Way, Done, Ask, says}
-use Rattle.mib_model.specs.DeskLines as Spec
-use Rattle.mib_model.specs.DeskLines.{Request, request_of}
-use Rattle.mib_model.specs.DeskRuns.{Calls, Follows, LeavesLook, may_want}
-use Rattle.mib_model.specs.DeskWays.{way_of, put_way, delete_way, save_entry, save_way, saved, took, use_by}
+use Rattle.run_model.specs.Desk.{DeskReply, DeskState, Plain, Way, Done, Ask, says}
+use Rattle.run_model.specs.DeskLines as Spec
+use Rattle.run_model.specs.DeskLines.{Request, request_of}
+use Rattle.run_model.specs.DeskRuns.{Calls, Follows, LeavesLook, may_want}
+use Rattle.run_model.specs.DeskWays.{way_of, put_way, delete_way, save_entry, save_way, saved, took, use_by}
 use Rattle.mib_model.specs.Plans.{plans}
 use Rattle.mib_model.specs.Touched.{touched}
-use Rattle.mib_model.specs.declared.register.Answer.TheVariants as answer
+use Rattle.run_model.specs.declared.register.Answer.TheVariants as answer
 use Rattle.mib_model.specs.Points.{first_of}
 use Rattle.mib_model.specs.Reading.{row_read, key_read}
-use Rattle.mib_model.specs.RegisterHistories.{RegisterHistory}
+use Rattle.run_model.specs.RegisterHistories.{RegisterHistory}
 use Rattle.mib_model.specs.Soundness.{IsSound, first_flaw}
 use Rattle.mib_model.specs.declared.database.Database.{Database}
 use Rattle.mib_model.specs.Drafts.{is_held, put_in, rows_of, with_rows, without_key}
-use Rattle.mib_model.specs.DeskWays.{put_reply}
+use Rattle.run_model.specs.DeskWays.{put_reply}
 use Rattle.mib_model.specs.Keys.{key_in}
 use Rattle.mib_model.specs.RowTexts.{kind_in}
 use Rattle.mib_tables.specs.declared.table.Put.{Put}

@@ -5,14 +5,14 @@ use Rattle.std.specs.Cmp.Lexicographic.{pointwise}
 use Rattle.std.specs.Str.{bytes_eq}
 use Rattle.histories.specs.History.{StartsWith, move}
 use Rattle.mib_model.specs.declared.database.Database.{Database}
-use Rattle.mib_model.specs.declared.register.Answer.{Answer}
-use Rattle.mib_model.specs.declared.register.Answer.TheVariants as answer
-use Rattle.mib_model.specs.declared.register.Entry.{Entry}
-use Rattle.mib_model.specs.declared.reply.Reply.{Reply}
+use Rattle.run_model.specs.declared.register.Answer.{Answer}
+use Rattle.run_model.specs.declared.register.Answer.TheVariants as answer
+use Rattle.run_model.specs.declared.register.Entry.{Entry}
+use Rattle.run_model.specs.declared.reply.Reply.{Reply}
 use Rattle.mib_model.specs.declared.rows.PcfRow.{PcfRow}
-use Rattle.mib_model.specs.Desk.{DeskState, Plain, says}
-use Rattle.mib_model.specs.DeskLines.{Request}
-use Rattle.mib_model.specs.DeskWays.{way_of, use_way, use_reply}
+use Rattle.run_model.specs.Desk.{DeskState, Plain, says}
+use Rattle.run_model.specs.DeskLines.{Request}
+use Rattle.run_model.specs.DeskWays.{way_of, use_way, use_reply}
 use Rattle.mib_model.specs.Orders.{sorted_by}
 use Rattle.mib_model.specs.Plans.{has_plan, may_precede}
 use Rattle.turn_cell.specs.Seats.{own_moves, seen_by}

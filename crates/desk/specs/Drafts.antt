@@ -1,7 +1,7 @@
 -- What contracts see of a draft. [This profile.]
 use Rattle.std.specs.Prelude.{ℕ}
 use Rattle.mib_model.specs.declared.database.Database.{Database}
-use Rattle.mib_model.specs.Desk.{DeskState}
+use Rattle.run_model.specs.Desk.{DeskState}
 
 -- the tables of a draft, and those that it was made from
 pub record Drafted : Type 0 where

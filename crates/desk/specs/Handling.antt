@@ -1,13 +1,13 @@
 -- What a desk's line comes to at the register: of a single desk, and of each of several. [This profile.]
 use Rattle.std.specs.Prelude.{◌≡◌, ◌⊎◌, ℕ, ◌+◌, Bool, true, false, List, [], ◌++◌, map, Option, Some, option_map, ⊤}
 use Rattle.histories.specs.History.{move}
-use Rattle.mib_model.specs.declared.reply.Reply.{Reply}
-use Rattle.mib_model.specs.declared.reply.Reply.TheVariants as reply
-use Rattle.mib_model.specs.Desk.{DeskReply, DeskState, Plain}
-use Rattle.mib_model.specs.DeskLines.{Request, Save, Use, UseFrom, Take}
-use Rattle.mib_model.specs.DeskRuns.{Calls, Follows, IsLine, LineRun, Wants}
-use Rattle.mib_model.specs.DeskWays.{way_of}
-use Rattle.mib_model.specs.RegisterHistories.{RegisterHistory}
+use Rattle.run_model.specs.declared.reply.Reply.{Reply}
+use Rattle.run_model.specs.declared.reply.Reply.TheVariants as reply
+use Rattle.run_model.specs.Desk.{DeskReply, DeskState, Plain}
+use Rattle.run_model.specs.DeskLines.{Request, Save, Use, UseFrom, Take}
+use Rattle.run_model.specs.DeskRuns.{Calls, Follows, IsLine, LineRun, Wants}
+use Rattle.run_model.specs.DeskWays.{way_of}
+use Rattle.run_model.specs.RegisterHistories.{RegisterHistory}
 use Rattle.desk.specs.declared.edits.Entering.{Entering}
 use Rattle.desk.specs.declared.edits.Entering.TheVariants as entering
 use Rattle.desk.specs.Drafts.{Drafted, state_by}

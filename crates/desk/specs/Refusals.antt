@@ -1,6 +1,6 @@
 -- The reply to a row or a key that isn't read. [This profile.]
-use Rattle.mib_model.specs.declared.reply.Reply.{Reply}
-use Rattle.mib_model.specs.declared.reply.Reply.TheVariants as reply
+use Rattle.run_model.specs.declared.reply.Reply.{Reply}
+use Rattle.run_model.specs.declared.reply.Reply.TheVariants as reply
 use Rattle.mib_rows.specs.declared.read_fault.ReadFault.{ReadFault}
 use Rattle.mib_rows.specs.declared.read_fault.ReadFault.TheVariants as faults
 

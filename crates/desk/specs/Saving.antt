@@ -2,8 +2,8 @@
 use Rattle.std.specs.Prelude.{◌≡◌, ℕ, length, Some, ⊤}
 use Rattle.std.specs.Arc.{arc_value}
 use Rattle.mib_model.specs.declared.database.Database.{Database}
-use Rattle.mib_model.specs.declared.reply.Reply.{Reply}
-use Rattle.mib_model.specs.declared.reply.Reply.TheVariants as reply
+use Rattle.run_model.specs.declared.reply.Reply.{Reply}
+use Rattle.run_model.specs.declared.reply.Reply.TheVariants as reply
 use Rattle.mib_model.specs.Soundness.{IsSound, first_flaw}
 use Rattle.mib_model.specs.Touched.{touched}
 use Rattle.desk.specs.declared.saving.Ready.{Ready}

@@ -2,9 +2,9 @@
 use Rattle.std.specs.Prelude.{ℕ, Result, Ok, Err}
 use Rattle.edition_register.specs.declared.outcome.UseFault.{UseFault}
 use Rattle.edition_register.specs.Seats.{refused_by}
-use Rattle.mib_model.specs.declared.register.Answer.TheVariants as answer
-use Rattle.mib_model.specs.declared.reply.Reply.{Reply}
-use Rattle.mib_model.specs.DeskWays.{use_reply}
+use Rattle.run_model.specs.declared.register.Answer.TheVariants as answer
+use Rattle.run_model.specs.declared.reply.Reply.{Reply}
+use Rattle.run_model.specs.DeskWays.{use_reply}
 
 -- the reply by what the register answered
 abbrev pub used_reply : {E B : Type 0} → ℕ → Result ℕ (UseFault E B) → Reply

@@ -3,8 +3,8 @@ ghost use Rattle.std.specs.Arc.{arc_value};
 ghost use Rattle.histories.specs.History.{StartsWith};
 ghost use Rattle.turn_cell.specs.Seats.{own_moves, seen_by};
 ghost use Rattle.edition_register.specs.Seats.{IsSeat, first_of, shown_in};
-ghost use Rattle.mib_model.specs.Desk.{Plain};
-ghost use Rattle.mib_model.specs.DeskLines.{request_of};
+ghost use Rattle.run_model.specs.Desk.{Plain};
+ghost use Rattle.run_model.specs.DeskLines.{request_of};
 
 use crate::draft::Draft;
 use crate::edits::{Entering, edit};
@@ -12,7 +12,8 @@ use desk_lines::{Request, request_of};
 use edition::Edition;
 use edition_register::{Editions, Register};
 use fold_state::BoardRoom;
-use mib_model::{Reply, Steps};
+use mib_model::Steps;
+use run_model::Reply;
 use std::alloc::{AllocError, Global};
 use std::sync::ledger::Ledger;
 use std::sync::{Arc, Wait};
@@ -37,7 +38,7 @@ impl Drop for Desk {
 }
 
 impl Desk {
-    ghost use Rattle.mib_model.specs.Desk.{desk_start};
+    ghost use Rattle.run_model.specs.Desk.{desk_start};
     ghost use Rattle.desk_lines.specs.Requests.{asked};
     ghost use Rattle.desk.specs.State.{desk_of, editions_of};
     ghost use Rattle.desk.specs.Handling.{Handles, HandlesLine, Ticks};

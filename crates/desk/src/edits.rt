@@ -3,11 +3,12 @@ ghost use Rattle.std.specs.Prelude.{◌≡◌, false, Some, IfErr, IfOk, OnErr};
 ghost use Rattle.desk.specs.Handling.{Edits, enters, needed};
 ghost use Rattle.desk.specs.Refusals.{refusal_of};
 ghost use Rattle.desk_lines.specs.Requests.{asked};
-ghost use Rattle.mib_model.specs.DeskLines as Spec;
+ghost use Rattle.run_model.specs.DeskLines as Spec;
 
 use crate::draft::Draft;
 use desk_lines::Request;
-use mib_model::{Kind, Reply};
+use mib_model::Kind;
+use run_model::Reply;
 use mib_rows::{ReadFault, read_key, read_row};
 use mib_tables::{DelFault, Put};
 use std::alloc::Global;

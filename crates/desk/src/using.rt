@@ -7,14 +7,14 @@ ghost use Rattle.edition_register.specs.Seats.{IsSeat, StartFits, first_of, show
 ghost use Rattle.edition_register.specs.Starts.{IsStart};
 ghost use Rattle.fold_state.specs.Boards.{is_made_for};
 ghost use Rattle.desk.specs.Using.{used_reply};
-ghost use Rattle.mib_model.specs.DeskLines as Spec;
+ghost use Rattle.run_model.specs.DeskLines as Spec;
 
 use crate::desk::Desk;
 use edition::Edition;
 use edition_plans::Plans;
 use edition_register::{Editions, Register, Start, UseFault};
 use fold_state::BoardRoom;
-use mib_model::Reply;
+use run_model::Reply;
 use std::alloc::{AllocError, Global};
 use std::sync::{Arc, Wait};
 use turn_cell::Seat;

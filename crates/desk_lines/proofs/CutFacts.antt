@@ -5,7 +5,7 @@ use Rattle.std.proofs.lemmas.Bool.Decides.{nat_tests}
 use Rattle.std.proofs.lemmas.List.Splits.{length-slice_split, slice_split-cons_no, slice_split_first}
 use Rattle.std.specs.List.{list_any, position, position_or_len, slice_split, before_first, after_first}
 use Rattle.dec_num.proofs.DigitFacts.{list_any-place, not_found}
-use Rattle.mib_model.specs.DeskLines.{words_of, is_blank}
+use Rattle.run_model.specs.DeskLines.{words_of, is_blank}
 use Rattle.desk_lines.specs.Requests.{cut}
 
 pub cut-none : (is : ℕ → Bool) (text : List ℕ) → None ≡ position is text → None ≡ cut is text

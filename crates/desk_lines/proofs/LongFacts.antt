@@ -2,7 +2,7 @@
 use Rattle.std.proofs.Common.{suc, ◌≡◌, ◌∙◌, ℕ, ◌<◌, ◌≤◌, ◌-◌, Bool, List, [], ◌∷◌, length, take, get_or, ◌==◌, refl, sym, ap, inl, inr, arith, length-take, get_or-take, slice_index}
 use Rattle.std.proofs.lemmas.Bool.{cases_Bool, lt-ltb}
 use Rattle.std.specs.Str.Lines.{strip_carriage_return}
-use Rattle.mib_model.specs.DeskLines.{is_comment, request_of}
+use Rattle.run_model.specs.DeskLines.{is_comment, request_of}
 
 -- of a line of two octets or more the first stays where a CR at the end goes
 comment-first : (line : List ℕ) → 2 ≤ length line → is_comment (strip_carriage_return line) ≡ (get_or line 0 0 == 35)

@@ -7,7 +7,7 @@ use Rattle.std.proofs.lemmas.List.{take_all}
 use Rattle.std.proofs.lemmas.List.Elements.{All-nil}
 use Rattle.std.specs.Io.KnownBytes.{Consumes}
 use Rattle.mib_model.specs.Lines.{is_feed}
-use Rattle.mib_model.specs.Script.{most_script, most_lines}
+use Rattle.run_model.specs.Script.{most_script, most_lines}
 use Rattle.desk_lines.specs.declared.next_line.NextLine.{NextLine}
 use Rattle.desk_lines.specs.declared.next_line.NextLine.TheVariants as next_line
 use Rattle.desk_lines.specs.declared.piece.Piece.{Piece}

@@ -5,7 +5,7 @@ use Rattle.std.specs.List.{list_any, before_first, after_first}
 use Rattle.std.specs.Str.{bytes_eq}
 use Rattle.mib_model.specs.declared.kind.Kind.{Kind}
 use Rattle.mib_model.specs.Lines.{is_tab}
-use Rattle.mib_model.specs.DeskLines as Spec
+use Rattle.run_model.specs.DeskLines as Spec
 use Rattle.mib_model.specs.Digits.{natural_in}
 use Rattle.mib_model.specs.Kinds.{kind_named}
 use Rattle.desk_lines.specs.Requests.{cut, from_in, only}

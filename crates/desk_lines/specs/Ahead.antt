@@ -2,7 +2,7 @@
 use Rattle.std.specs.Prelude.{◌≡◌, ℕ, ◌+◌, ◌-◌, Bool, false, List, ◌++◌, length, take, nat_le, ◌==◌, ◌||◌, if◌then◌else◌}
 use Rattle.std.specs.List.{All}
 use Rattle.mib_model.specs.Lines.{is_feed}
-use Rattle.mib_model.specs.Script.{most_script, most_lines, whole_pieces, last_piece, rest_line}
+use Rattle.run_model.specs.Script.{most_script, most_lines, whole_pieces, last_piece, rest_line}
 
 -- how far a script was read: the lines that were given, and the octets that were taken
 pub record Reading : Type 0 where

@@ -1,7 +1,7 @@
 -- How many lines octets of a script give. [This profile.]
 use Rattle.std.specs.Prelude.{◌⊎◌, ℕ, ◌≤◌, ◌+◌, List, length, Option}
 use Rattle.std.specs.Io.KnownBytes.{IsAtEnd}
-use Rattle.mib_model.specs.Script.{whole_pieces}
+use Rattle.run_model.specs.Script.{whole_pieces}
 
 -- how many lines end among octets, by their LF
 abbrev pub lines_given : List ℕ → ℕ

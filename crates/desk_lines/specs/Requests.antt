@@ -3,7 +3,7 @@ use Rattle.std.specs.Prelude.{ℕ, Bool, List, [], ◌∷◌, codes, Option, Som
 use Rattle.std.specs.List.{list_any, before_first, after_first}
 use Rattle.mib_model.specs.declared.kind.Kind.{Kind}
 use Rattle.std.specs.Str.{bytes_eq}
-use Rattle.mib_model.specs.DeskLines as Spec
+use Rattle.run_model.specs.DeskLines as Spec
 use Rattle.mib_model.specs.Digits.{natural_in}
 use Rattle.desk_lines.specs.declared.request.Request.{Request}
 use Rattle.desk_lines.specs.declared.request.Request.TheVariants as request

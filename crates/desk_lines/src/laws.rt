@@ -1,6 +1,6 @@
 ghost use Rattle.std.specs.Prelude.{◌≡◌, ◌<◌, ℕ, Bool, List, length, take};
-ghost use Rattle.mib_model.specs.DeskLines.{request_of};
-ghost use Rattle.mib_model.specs.Script.{script, reaches_limit};
+ghost use Rattle.run_model.specs.DeskLines.{request_of};
+ghost use Rattle.run_model.specs.Script.{script, reaches_limit};
 ghost use Rattle.desk_lines.specs.Ahead.{meets_limit, reading_start, still};
 
 /// At the start all lines of the script are still to come.

@@ -95,7 +95,7 @@ impl<S: Source> DeskReader<S> {
     ghost use Rattle.desk_lines.specs.Reader.{reading_of, source_of};
     ghost use Rattle.desk_lines.specs.Gives.{Gives, HasNextCause};
     ghost use Rattle.desk_lines.specs.declared.reader.TheConstants.{LINE_ROOM};
-    ghost use Rattle.mib_model.specs.Script.{most_lines};
+    ghost use Rattle.run_model.specs.Script.{most_lines};
 
     /// What comes next. A line is put at the front of `into`, without its LF, and of one that is too long the first
     /// 4,097 octets are. Behind as many lines as a script has at most nothing is read.

@@ -2,7 +2,7 @@ ghost use Rattle.std.specs.Prelude.{◌≡◌, ◌==◌, ◌<◌, ◌∷◌, [],
 ghost use Rattle.std.specs.List.{position};
 ghost use Rattle.std.specs.Result.{result_map_both};
 ghost use Rattle.std.specs.Str.Lines.{strip_carriage_return};
-ghost use Rattle.mib_model.specs.DeskLines as Spec;
+ghost use Rattle.run_model.specs.DeskLines as Spec;
 ghost use Rattle.mib_model.specs.Digits.{natural_in};
 ghost use Rattle.mib_model.specs.declared.kind.Kind.{Kind};
 ghost use Rattle.desk_lines.specs.Requests.{asked, cut, from_in, only, table_order};
@@ -217,7 +217,7 @@ fn request_in(text: &[u8]) -> Request<'_>
 }
 
 /// What a line asks for; a comment may have any length.
-#[tactic(auto, unfolding(mib_model::specs::DeskLines::request_of))]
+#[tactic(auto, unfolding(run_model::specs::DeskLines::request_of))]
 pub fn request_of(line: &[u8]) -> Request<'_>
     ensures { asked result ≡ Spec.request_of false line.now }
 {

@@ -5,10 +5,11 @@
 #![tactic(auto)]
 
 use desk_panel_tool::panel_tool;
-use mib_model::{Code, Line};
+use mib_model::Line;
+use run_model::Code;
 use panel_session::Station;
 use program_ends::{Ending, arguments};
-use record_text::code_line;
+use reply_text::code_line;
 use std::alloc::{AllocError, Global};
 use std::process::ExitCode;
 use std::rt::{Stderr, Stdout};

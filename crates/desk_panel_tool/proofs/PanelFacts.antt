@@ -7,10 +7,10 @@ use Rattle.desk_panel_tool.specs.Inputs.{AreNotTurned, AreOpened, AreRefused, Ar
 use Rattle.desk_panel_tool.specs.Panel.{AreOf, Paneled, Ran, RanBy, StaysReplied, StoodAtEach, lines_before}
 use Rattle.desk_panel_tool.specs.Stations.{AreIdle, IsIdle, StationView, stations}
 use Rattle.live_session.specs.Live.{object, written_to}
-use Rattle.mib_model.specs.declared.code.Code.{Code}
-use Rattle.mib_model.specs.declared.code.Code.TheVariants as code
+use Rattle.run_model.specs.declared.code.Code.{Code}
+use Rattle.run_model.specs.declared.code.Code.TheVariants as code
 use Rattle.mib_model.specs.declared.database.Database.{Database}
-use Rattle.mib_model.specs.RegisterHistories.{RegisterHistory}
+use Rattle.run_model.specs.RegisterHistories.{RegisterHistory}
 use Rattle.panel_session.specs.declared.station.Station.{Station}
 use Rattle.panel_session.specs.Lanes.{Seen}
 use Rattle.panel_session.specs.Panel.{HaveObjects, LivesPanel}

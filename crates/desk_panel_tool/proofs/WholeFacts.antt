@@ -13,13 +13,13 @@ use Rattle.folder_tables.specs.declared.folder.Refusal.{Refusal}
 use Rattle.folder_tables.specs.declared.folder.Refusal.TheVariants as refusal
 use Rattle.live_desk.specs.declared.desk_end.DeskEnd.{DeskEnd}
 use Rattle.live_desk.specs.DeskEnds.{is_desk_fault, is_reply_fault}
-use Rattle.mib_model.specs.declared.code.Code.{Code}
-use Rattle.mib_model.specs.declared.code.Code.TheVariants as code
-use Rattle.mib_model.specs.declared.code.Input.TheVariants as input
+use Rattle.run_model.specs.declared.code.Code.{Code}
+use Rattle.run_model.specs.declared.code.Code.TheVariants as code
+use Rattle.run_model.specs.declared.code.Input.TheVariants as input
 use Rattle.mib_model.specs.declared.database.Database.{Database}
 use Rattle.mib_model.specs.declared.fault.MibFault.{MibFault}
-use Rattle.mib_model.specs.Endings.{code_of_ending, code_of_rest}
-use Rattle.mib_model.specs.RegisterHistories.{RegisterHistory}
+use Rattle.run_model.specs.Endings.{code_of_ending, code_of_rest}
+use Rattle.run_model.specs.RegisterHistories.{RegisterHistory}
 use Rattle.panel_session.specs.Panel.{LivesPanel, StandInOrder, Station, panel_ending}
 use Rattle.session.specs.Sources.{Files}
 use Rattle.tm_io.specs.Causes.{HasRisen, RisesWhere}

@@ -3,9 +3,9 @@ use Rattle.std.specs.Prelude.{◌≡◌, ◌⊎◌, ℕ, List, ◌∷◌, IfSome
 use Rattle.desk_panel_tool.specs.Stations.{AreIdle, StationView}
 use Rattle.folder_tables.specs.Refusals.{HasRefusalCause, Refuses, code_of_refusal}
 use Rattle.folder_tables.specs.declared.folder.Refusal.{Refusal}
-use Rattle.mib_model.specs.declared.code.Code.{Code}
-use Rattle.mib_model.specs.declared.code.Code.TheVariants as code
-use Rattle.mib_model.specs.declared.code.Input.TheVariants as input
+use Rattle.run_model.specs.declared.code.Code.{Code}
+use Rattle.run_model.specs.declared.code.Code.TheVariants as code
+use Rattle.run_model.specs.declared.code.Input.TheVariants as input
 use Rattle.mib_model.specs.declared.database.Database.{Database}
 use Rattle.tool_objects.specs.Objects.{IsUncalled, IsUnwritten, ShelfView}
 use Rattle.tool_objects.specs.Opened.{AreSound, IsTurned, IsUnturned}

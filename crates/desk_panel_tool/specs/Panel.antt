@@ -4,10 +4,10 @@ use Rattle.std.specs.List.{AllByRecursion}
 use Rattle.desk_panel_tool.specs.Inputs.{AreRefused}
 use Rattle.desk_panel_tool.specs.Stations.{AreIdle, StationView}
 use Rattle.live_session.specs.Live.{StaysHandedOn, from, written_to}
-use Rattle.mib_model.specs.declared.code.Code.{Code}
-use Rattle.mib_model.specs.declared.code.Code.TheVariants as code
+use Rattle.run_model.specs.declared.code.Code.{Code}
+use Rattle.run_model.specs.declared.code.Code.TheVariants as code
 use Rattle.mib_model.specs.declared.database.Database.{Database}
-use Rattle.mib_model.specs.RegisterHistories.{RegisterHistory}
+use Rattle.run_model.specs.RegisterHistories.{RegisterHistory}
 use Rattle.panel_session.specs.Panel.{LivesPanel, Station}
 use Rattle.tool_objects.specs.Objects.{HasStood, IsUncalled, IsUnwritten, ShelfView, SinkView}
 use Rattle.tool_objects.specs.Opened.{AreSound}

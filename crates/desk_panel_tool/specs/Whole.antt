@@ -6,11 +6,11 @@ use Rattle.desk_panel_tool.specs.Panel.{AreOf}
 use Rattle.desk_panel_tool.specs.Stations.{StationView}
 use Rattle.live_desk.specs.DeskEnds.{is_desk_fault, is_reply_fault}
 use Rattle.live_session.specs.Live.{from, written_to}
-use Rattle.mib_model.specs.declared.code.Code.{Code}
-use Rattle.mib_model.specs.declared.code.Code.TheVariants as code
+use Rattle.run_model.specs.declared.code.Code.{Code}
+use Rattle.run_model.specs.declared.code.Code.TheVariants as code
 use Rattle.mib_model.specs.declared.database.Database.{Database}
-use Rattle.mib_model.specs.Endings.{code_of_rest}
-use Rattle.mib_model.specs.RegisterHistories.{RegisterHistory}
+use Rattle.run_model.specs.Endings.{code_of_rest}
+use Rattle.run_model.specs.RegisterHistories.{RegisterHistory}
 use Rattle.panel_session.specs.Panel.{LivesPanel, Station}
 use Rattle.session.specs.Sources.{Files}
 use Rattle.tool_objects.specs.Calm.{HoldsCalm, IsCalm, IsCalmSink}

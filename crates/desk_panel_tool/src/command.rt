@@ -11,7 +11,7 @@ use crate::panel::panel;
 use edition::Edition;
 use edition_register::Closed;
 use fold_state::BoardRoom;
-use mib_model::Code;
+use run_model::Code;
 use panel_session::Station;
 use std::alloc::Global;
 use std::sync::Wait;

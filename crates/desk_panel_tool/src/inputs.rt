@@ -9,7 +9,7 @@ ghost use Rattle.tool_words.specs.Requests.{texts};
 
 use edition::Edition;
 use folder_edition::{folder_edition, let_go};
-use mib_model::{Code, Input};
+use run_model::{Code, Input};
 use panel_session::Station;
 use std::alloc::Global;
 use tm_io::{Shelf, Sink};

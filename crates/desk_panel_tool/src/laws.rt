@@ -3,7 +3,7 @@ ghost use Rattle.std.specs.Prelude.{◌≡◌, ℕ, Err, List, None, Ok, Option,
 ghost use Rattle.desk_panel_tool.specs.Panel.{Paneled};
 ghost use Rattle.desk_panel_tool.specs.Stations.{StationView};
 ghost use Rattle.desk_panel_tool.specs.Whole.{AreCalm, AreThere, CompletesPanel, OneIsMissing, RefusesPanel, TellsFaults};
-ghost use Rattle.mib_model.specs.RegisterHistories.{RegisterHistory};
+ghost use Rattle.run_model.specs.RegisterHistories.{RegisterHistory};
 ghost use Rattle.mib_model.specs.declared.database.Database.{Database};
 ghost use Rattle.mib_model.specs.declared.fault.MibFault.{MibFault};
 ghost use Rattle.session.specs.Sources.{Files};
@@ -12,7 +12,7 @@ ghost use Rattle.tool_objects.specs.Objects.{ShelfView, SinkView};
 ghost use Rattle.tool_objects.specs.Sources.{sound_in};
 ghost use Rattle.tool_words.specs.Panels.{PanelWords};
 
-use mib_model::{Code, Input};
+use run_model::{Code, Input};
 
 /// Where the tables are sound, feed and desks are held and nothing fails, a panel prints all packets and each desk's script ends without a fault, unless
 /// memory runs out before its run opens.

@@ -10,7 +10,7 @@ ghost use Rattle.tool_words.specs.Panels.{words_by};
 
 use crate::command::Status;
 use crate::inputs::open_inputs;
-use mib_model::Code;
+use run_model::Code;
 use packet_run::MOST_WORKERS;
 use panel_session::{Station, panel_run};
 use std::alloc::Global;

@@ -7,14 +7,14 @@ use Rattle.std.proofs.lemmas.Bool.{false≢true, eqb-true, eqb-false, leb-true, 
 use Rattle.std.specs.List.{AllByRecursion, last_or}
 use Rattle.histories.specs.History.{IsLegal, state_after}
 use Rattle.mib_model.specs.declared.database.Database.{Database}
-use Rattle.mib_model.specs.declared.register.Answer.{Answer}
-use Rattle.mib_model.specs.declared.register.Answer.TheVariants.{Stamped, Added, Used, NoEdition, Late, Disorder, FullPending}
-use Rattle.mib_model.specs.declared.register.Entry.{Entry}
-use Rattle.mib_model.specs.declared.register.Entry.TheVariants.{Stamp, Add, AddOn, Use, UseFrom, Newest, Look}
-use Rattle.mib_model.specs.declared.register.Register.{Register}
-use Rattle.mib_model.specs.declared.register.Scheduled.{Scheduled}
-use Rattle.mib_model.specs.Register.{opening, answer_to, after, with_tables, with_activation, edition_for, has_edition, count_of_editions, is_disorder, last_pending, pending, most_pending, tables_of}
-use Rattle.mib_model.specs.RegisterHistories.{RegisterHistory}
+use Rattle.run_model.specs.declared.register.Answer.{Answer}
+use Rattle.run_model.specs.declared.register.Answer.TheVariants.{Stamped, Added, Used, NoEdition, Late, Disorder, FullPending}
+use Rattle.run_model.specs.declared.register.Entry.{Entry}
+use Rattle.run_model.specs.declared.register.Entry.TheVariants.{Stamp, Add, AddOn, Use, UseFrom, Newest, Look}
+use Rattle.run_model.specs.declared.register.Register.{Register}
+use Rattle.run_model.specs.declared.register.Scheduled.{Scheduled}
+use Rattle.run_model.specs.Register.{opening, answer_to, after, with_tables, with_activation, edition_for, has_edition, count_of_editions, is_disorder, last_pending, pending, most_pending, tables_of}
+use Rattle.run_model.specs.RegisterHistories.{RegisterHistory}
 use Rattle.mib_laws.proofs.Choices.{choice}
 use Rattle.edition_register.specs.Starts.{Rises}
 use Rattle.edition_register.specs.Bounded.{last_alone, bounded, bounded_after, begun, edition_of, kept_after, IsKept, BoundedServes, FewActivations, KeepsOneInUse, MovesKept}

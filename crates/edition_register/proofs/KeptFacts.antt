@@ -5,13 +5,13 @@ use Rattle.std.proofs.lemmas.List.Elements.{filter-append}
 use Rattle.std.specs.List.{last_or, list_any, slice_index_or}
 use Rattle.mib_model.specs.declared.database.Database.{Database}
 use Rattle.mib_model.specs.declared.plan.Plan.{Plan}
-use Rattle.mib_model.specs.declared.register.Answer.{Answer}
-use Rattle.mib_model.specs.declared.register.Answer.TheVariants.{Stamped, Added, FullEditions, Stale, Used, NoEdition, Late, Disorder, FullPending, Drawn}
-use Rattle.mib_model.specs.declared.register.Entry.TheVariants.{Stamp, Add, AddOn, Use, UseFrom, Newest, Look}
-use Rattle.mib_model.specs.declared.register.Register.{Register}
-use Rattle.mib_model.specs.declared.register.Scheduled.{Scheduled}
+use Rattle.run_model.specs.declared.register.Answer.{Answer}
+use Rattle.run_model.specs.declared.register.Answer.TheVariants.{Stamped, Added, FullEditions, Stale, Used, NoEdition, Late, Disorder, FullPending, Drawn}
+use Rattle.run_model.specs.declared.register.Entry.TheVariants.{Stamp, Add, AddOn, Use, UseFrom, Newest, Look}
+use Rattle.run_model.specs.declared.register.Register.{Register}
+use Rattle.run_model.specs.declared.register.Scheduled.{Scheduled}
 use Rattle.mib_model.specs.Database.{no_rows}
-use Rattle.mib_model.specs.Register.{answer_to, after, added, with_tables, with_activation, has_edition, is_disorder, last_pending, pending, most_pending, most_editions, tables_of}
+use Rattle.run_model.specs.Register.{answer_to, after, added, with_tables, with_activation, has_edition, is_disorder, last_pending, pending, most_pending, most_editions, tables_of}
 use Rattle.edition_register.specs.Bounded.{bounded, bounded_after, begun, edition_of}
 use Rattle.edition_register.specs.Starts.{Rises}
 use Rattle.edition_register.specs.Stored.{begins}

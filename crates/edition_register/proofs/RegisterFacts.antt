@@ -7,17 +7,17 @@ use Rattle.std.proofs.lemmas.Bool.Decides.{nat_tests}
 use Rattle.std.specs.List.{AllByRecursion, last_or, slice_index_or}
 use Rattle.histories.specs.History.{IsLegal, IsOfSeatsBelow, Permits, move, moves_of, state_after}
 use Rattle.mib_model.specs.declared.database.Database.{Database}
-use Rattle.mib_model.specs.declared.register.Answer.{Answer}
-use Rattle.mib_model.specs.declared.register.Answer.TheVariants.{Stamped, Added, Used, NoEdition, Late, Disorder, FullPending}
-use Rattle.mib_model.specs.declared.register.Entry.{Entry}
-use Rattle.mib_model.specs.declared.register.Entry.TheVariants.{Stamp, Add, AddOn, Use, UseFrom, Newest, Look}
-use Rattle.mib_model.specs.declared.register.Register.{Register}
-use Rattle.mib_model.specs.declared.register.Scheduled.{Scheduled}
+use Rattle.run_model.specs.declared.register.Answer.{Answer}
+use Rattle.run_model.specs.declared.register.Answer.TheVariants.{Stamped, Added, Used, NoEdition, Late, Disorder, FullPending}
+use Rattle.run_model.specs.declared.register.Entry.{Entry}
+use Rattle.run_model.specs.declared.register.Entry.TheVariants.{Stamp, Add, AddOn, Use, UseFrom, Newest, Look}
+use Rattle.run_model.specs.declared.register.Register.{Register}
+use Rattle.run_model.specs.declared.register.Scheduled.{Scheduled}
 use Rattle.mib_model.specs.Database.{no_rows}
-use Rattle.mib_model.specs.Register.{opening, answer_to, after, with_tables, with_activation, is_pending, edition_for, has_edition, count_of_editions, is_disorder, last_pending, pending, most_pending, tables_of}
-use Rattle.mib_model.specs.RegisterHistories.{RegisterHistory, MayEnter, is_stamp, register_after, stamp_in}
+use Rattle.run_model.specs.Register.{opening, answer_to, after, with_tables, with_activation, is_pending, edition_for, has_edition, count_of_editions, is_disorder, last_pending, pending, most_pending, tables_of}
+use Rattle.run_model.specs.RegisterHistories.{RegisterHistory, MayEnter, is_stamp, register_after, stamp_in}
 use Rattle.mib_laws.proofs.Choices.{choice}
-use Rattle.mib_laws.proofs.RegisterFacts.{quiet, stays-stamped, with_activation-next, with_tables-next}
+use Rattle.run_laws.proofs.RegisterFacts.{quiet, stays-stamped, with_activation-next, with_tables-next}
 use Rattle.edition_register.specs.Shown.{stamped_by, last_stamped, added_by, added_in, HasItsTables, NoneBegins}
 use Rattle.edition_register.specs.Laws.{IntakeCounts, DeskShowsEditions, StampGoesOn, TablesStay}
 

@@ -5,14 +5,14 @@ use Rattle.std.specs.List.{AllByRecursion, list_any}
 use Rattle.histories.specs.declared.history.Move.{Move}
 use Rattle.histories.specs.History.{IsLegal, IsOfSeatsBelow, Permits, StartsWith, move, moves_of, state_after}
 use Rattle.mib_model.specs.declared.database.Database.{Database}
-use Rattle.mib_model.specs.declared.register.Answer as seen_answer
-use Rattle.mib_model.specs.declared.register.Answer.TheVariants.{Stamped}
-use Rattle.mib_model.specs.declared.register.Entry as seen_entry
-use Rattle.mib_model.specs.declared.register.Entry.TheVariants.{Stamp}
-use Rattle.mib_model.specs.declared.register.Register.{Register}
-use Rattle.mib_model.specs.declared.register.Scheduled.{Scheduled}
-use Rattle.mib_model.specs.Register.{answer_to, opening}
-use Rattle.mib_model.specs.RegisterHistories.{IsRegisterHistory, MayEnter, RegisterHistory, register_after}
+use Rattle.run_model.specs.declared.register.Answer as seen_answer
+use Rattle.run_model.specs.declared.register.Answer.TheVariants.{Stamped}
+use Rattle.run_model.specs.declared.register.Entry as seen_entry
+use Rattle.run_model.specs.declared.register.Entry.TheVariants.{Stamp}
+use Rattle.run_model.specs.declared.register.Register.{Register}
+use Rattle.run_model.specs.declared.register.Scheduled.{Scheduled}
+use Rattle.run_model.specs.Register.{answer_to, opening}
+use Rattle.run_model.specs.RegisterHistories.{IsRegisterHistory, MayEnter, RegisterHistory, register_after}
 use Rattle.turn_cell.specs.declared.view.Holding.{Holding}
 use Rattle.turn_cell.specs.Seats.{holdings_of, number_of, own_moves, seen_by}
 use Rattle.turn_cell.specs.Views.{AreListed, holding, least, listed}

@@ -8,14 +8,14 @@ use Rattle.std.proofs.Math.Seq.{get_or-append_seam}
 use Rattle.histories.specs.declared.history.Move.{Move}
 use Rattle.histories.specs.History.{moves_of, state_after, IsLegal}
 use Rattle.mib_model.specs.declared.database.Database.{Database}
-use Rattle.mib_model.specs.declared.register.Answer.{Answer}
-use Rattle.mib_model.specs.declared.register.Answer.TheVariants as answer
-use Rattle.mib_model.specs.declared.register.Entry.{Entry}
-use Rattle.mib_model.specs.declared.register.Entry.TheVariants as entry
-use Rattle.mib_model.specs.declared.register.Register.{Register}
-use Rattle.mib_model.specs.declared.register.Scheduled.{Scheduled}
+use Rattle.run_model.specs.declared.register.Answer.{Answer}
+use Rattle.run_model.specs.declared.register.Answer.TheVariants as answer
+use Rattle.run_model.specs.declared.register.Entry.{Entry}
+use Rattle.run_model.specs.declared.register.Entry.TheVariants as entry
+use Rattle.run_model.specs.declared.register.Register.{Register}
+use Rattle.run_model.specs.declared.register.Scheduled.{Scheduled}
 use Rattle.mib_model.specs.Database.{no_rows}
-use Rattle.mib_model.specs.Register.{after, answer_to, has_edition, is_disorder, is_pending, last_pending, most_editions, most_pending, opening, pending, tables_of, with_activation, with_tables}
+use Rattle.run_model.specs.Register.{after, answer_to, has_edition, is_disorder, is_pending, last_pending, most_editions, most_pending, opening, pending, tables_of, with_activation, with_tables}
 use Rattle.edition_register.specs.Laws.{ShownStays}
 use Rattle.edition_register.specs.Shown.{editions_shown, shown_by}
 

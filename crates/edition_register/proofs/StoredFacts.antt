@@ -9,9 +9,9 @@ use Rattle.std.specs.declared.alloc.Global.{Global}
 use Rattle.std.specs.declared.sync.Arc.{Arc}
 use Rattle.std.specs.List.{last_or, slice_index_or}
 use Rattle.mib_model.specs.declared.database.Database.{Database}
-use Rattle.mib_model.specs.declared.register.Scheduled.{Scheduled}
+use Rattle.run_model.specs.declared.register.Scheduled.{Scheduled}
 use Rattle.mib_model.specs.Database.{no_rows}
-use Rattle.mib_model.specs.declared.register.Register.{Register}
+use Rattle.run_model.specs.declared.register.Register.{Register}
 use Rattle.edition_register.specs.declared.entry.Entry.TheVariants as entry
 use Rattle.edition_register.specs.declared.entry.Reply.{Reply}
 use Rattle.edition_register.specs.declared.entry.Reply.TheVariants as reply

@@ -2,14 +2,14 @@
 use Rattle.std.specs.Prelude.{◌≡◌, ℕ, ◌<◌, ◌==◌, if◌then◌else◌, ◌≤◌, ◌+◌, List, [], ◌∷◌, ◌++◌, length, filter, not, ◌↔◌}
 use Rattle.histories.specs.History.{IsLegal, state_after}
 use Rattle.mib_model.specs.declared.database.Database.{Database}
-use Rattle.mib_model.specs.declared.register.Answer.{Answer}
-use Rattle.mib_model.specs.declared.register.Answer.TheVariants.{Used}
-use Rattle.mib_model.specs.declared.register.Entry.{Entry}
-use Rattle.mib_model.specs.declared.register.Entry.TheVariants.{Stamp, Use, UseFrom}
-use Rattle.mib_model.specs.declared.register.Register.{Register}
-use Rattle.mib_model.specs.declared.register.Scheduled.{Scheduled}
-use Rattle.mib_model.specs.Register.{opening, answer_to, after, edition_for, is_pending, most_pending, pending}
-use Rattle.mib_model.specs.RegisterHistories.{RegisterHistory, IsRegisterHistory, register_after}
+use Rattle.run_model.specs.declared.register.Answer.{Answer}
+use Rattle.run_model.specs.declared.register.Answer.TheVariants.{Used}
+use Rattle.run_model.specs.declared.register.Entry.{Entry}
+use Rattle.run_model.specs.declared.register.Entry.TheVariants.{Stamp, Use, UseFrom}
+use Rattle.run_model.specs.declared.register.Register.{Register}
+use Rattle.run_model.specs.declared.register.Scheduled.{Scheduled}
+use Rattle.run_model.specs.Register.{opening, answer_to, after, edition_for, is_pending, most_pending, pending}
+use Rattle.run_model.specs.RegisterHistories.{RegisterHistory, IsRegisterHistory, register_after}
 
 -- the last item alone, or none
 abbrev pub last_alone : {X : Type 0} → List X → List X

@@ -3,10 +3,10 @@ use Rattle.std.specs.Prelude.{◌≡◌, ℕ, ◌+◌, ◌∷◌, length}
 use Rattle.std.specs.List.{AllByRecursion}
 use Rattle.histories.specs.History.{IsOfSeatsBelow, Permits, moves_of}
 use Rattle.mib_model.specs.declared.database.Database.{Database}
-use Rattle.mib_model.specs.declared.register.Answer.TheVariants.{Stamped}
-use Rattle.mib_model.specs.declared.register.Entry.TheVariants.{Stamp}
-use Rattle.mib_model.specs.Register.{answer_to}
-use Rattle.mib_model.specs.RegisterHistories.{RegisterHistory, IsRegisterHistory, MayEnter, register_after}
+use Rattle.run_model.specs.declared.register.Answer.TheVariants.{Stamped}
+use Rattle.run_model.specs.declared.register.Entry.TheVariants.{Stamp}
+use Rattle.run_model.specs.Register.{answer_to}
+use Rattle.run_model.specs.RegisterHistories.{RegisterHistory, IsRegisterHistory, MayEnter, register_after}
 use Rattle.edition_register.specs.Shown.{added_in, editions_shown, last_stamped, HasItsTables, NoneBegins, Stands}
 
 -- the next packet's number is one more than the intake has moves

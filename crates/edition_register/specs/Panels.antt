@@ -9,12 +9,12 @@ use Rattle.mib_model.specs.declared.database.Database.{Database}
 use Rattle.mib_model.specs.declared.meaning.MadeFor as MadeFor
 use Rattle.mib_model.specs.declared.meaning.Rows as Rows
 use Rattle.mib_model.specs.declared.plan.Plan.{Plan}
-use Rattle.mib_model.specs.declared.register.Answer as seen_answer
-use Rattle.mib_model.specs.declared.register.Answer.TheVariants as answer
-use Rattle.mib_model.specs.declared.register.Entry as seen_entry
-use Rattle.mib_model.specs.declared.register.Entry.TheVariants as event
-use Rattle.mib_model.specs.declared.register.Register.{Register}
-use Rattle.mib_model.specs.RegisterHistories.{RegisterHistory}
+use Rattle.run_model.specs.declared.register.Answer as seen_answer
+use Rattle.run_model.specs.declared.register.Answer.TheVariants as answer
+use Rattle.run_model.specs.declared.register.Entry as seen_entry
+use Rattle.run_model.specs.declared.register.Entry.TheVariants as event
+use Rattle.run_model.specs.declared.register.Register.{Register}
+use Rattle.run_model.specs.RegisterHistories.{RegisterHistory}
 use Rattle.turn_cell.specs.declared.rule.About.{About}
 use Rattle.turn_cell.specs.declared.turn.Lock.{Lock}
 use Rattle.turn_cell.specs.declared.view.View.{View}

@@ -2,14 +2,14 @@
 use Rattle.std.specs.Prelude.{◌≡◌, ◌≢◌, ℕ, ◌-◌, true, List, [], ◌∷◌, filter_map, Option, Some, None}
 use Rattle.std.specs.List.{AllByRecursion, IsAmong, flat_map, slice_index_or}
 use Rattle.mib_model.specs.declared.database.Database.{Database}
-use Rattle.mib_model.specs.declared.register.Answer.{Answer}
-use Rattle.mib_model.specs.declared.register.Answer.TheVariants.{Stamped, Added, Drawn}
-use Rattle.mib_model.specs.declared.register.Entry.{Entry}
-use Rattle.mib_model.specs.declared.register.Entry.TheVariants.{Add, AddOn}
-use Rattle.mib_model.specs.declared.register.Register.{Register}
+use Rattle.run_model.specs.declared.register.Answer.{Answer}
+use Rattle.run_model.specs.declared.register.Answer.TheVariants.{Stamped, Added, Drawn}
+use Rattle.run_model.specs.declared.register.Entry.{Entry}
+use Rattle.run_model.specs.declared.register.Entry.TheVariants.{Add, AddOn}
+use Rattle.run_model.specs.declared.register.Register.{Register}
 use Rattle.mib_model.specs.Database.{no_rows}
-use Rattle.mib_model.specs.Register.{has_edition, tables_of}
-use Rattle.mib_model.specs.RegisterHistories.{RegisterHistory}
+use Rattle.run_model.specs.Register.{has_edition, tables_of}
+use Rattle.run_model.specs.RegisterHistories.{RegisterHistory}
 
 -- the edition and the tables that a reply stamps, or else those before
 abbrev pub stamped_by : ℕ × Database → Answer → ℕ × Database

@@ -3,7 +3,7 @@ use Rattle.std.specs.Prelude.{◌≡◌, ◌≤◌, ◌+◌, ◌-◌, ℕ, Bool,
 use Rattle.std.specs.Arc.{arc_value}
 use Rattle.std.specs.Coded.{×_prop, Unit-prop, le_prop, Coded, Coded-set, codes, coded_bool}
 use Rattle.std.specs.List.{slice_index_or, AllByRecursion, AllByRecursion-prop}
-use Rattle.mib_model.specs.declared.register.Scheduled.{Scheduled}
+use Rattle.run_model.specs.declared.register.Scheduled.{Scheduled}
 use Rattle.mib_model.specs.declared.database.Database.{Database}
 use Rattle.mib_model.specs.Database.{no_rows}
 use Rattle.edition_register.specs.declared.start.Pending.{Pending}

@@ -5,13 +5,13 @@ use Rattle.std.specs.List.{list_any}
 use Rattle.mib_model.specs.declared.meaning.MadeFor as MadeFor
 use Rattle.mib_model.specs.declared.meaning.Rows as Rows
 use Rattle.mib_model.specs.declared.plan.Plan.{Plan}
-use Rattle.mib_model.specs.declared.register.Answer as seen_answer
-use Rattle.mib_model.specs.declared.register.Answer.TheVariants as answer
-use Rattle.mib_model.specs.declared.register.Entry as seen_entry
-use Rattle.mib_model.specs.declared.register.Entry.TheVariants as event
-use Rattle.mib_model.specs.declared.register.Register.{Register}
+use Rattle.run_model.specs.declared.register.Answer as seen_answer
+use Rattle.run_model.specs.declared.register.Answer.TheVariants as answer
+use Rattle.run_model.specs.declared.register.Entry as seen_entry
+use Rattle.run_model.specs.declared.register.Entry.TheVariants as event
+use Rattle.run_model.specs.declared.register.Register.{Register}
 use Rattle.mib_model.specs.declared.database.Database.{Database}
-use Rattle.mib_model.specs.Register.{answer_to, has_edition, tables_of}
+use Rattle.run_model.specs.Register.{answer_to, has_edition, tables_of}
 use Rattle.edition_register.specs.declared.editions.Editions.{Editions}
 use Rattle.edition_register.specs.declared.entry.Entry.{Entry}
 use Rattle.edition_register.specs.declared.entry.Entry.TheVariants as entry

@@ -1,8 +1,8 @@
 //! What each entry does to the state of a register.
 ghost use Rattle.std.specs.Prelude.{◌≡◌, ◌+◌, ◌<◌, true, false, Some, MatchOption, nat_le, IfOk};
 ghost use Rattle.std.specs.Arc.{arc_value};
-ghost use Rattle.mib_model.specs.Register.{answer_to, count_of_editions, has_edition, is_disorder, last_pending, opening};
-ghost use Rattle.mib_model.specs.RegisterHistories.{MayEnter};
+ghost use Rattle.run_model.specs.Register.{answer_to, count_of_editions, has_edition, is_disorder, last_pending, opening};
+ghost use Rattle.run_model.specs.RegisterHistories.{MayEnter};
 ghost use Rattle.edition_register.specs.Bounded.{bounded_after};
 ghost use Rattle.edition_register.specs.Stored.{answer_of, begins, event_of, state_of, Does, Fits, FitsUse, Gives};
 ghost use Rattle.edition_register.specs.declared.entry.Entry.TheVariants as entry;
@@ -253,11 +253,11 @@ impl<E: Rows + Drop, B: MadeFor + Drop> Machine for Editions<E, B> {
 
     type Reply = Reply<E, B>;
 
-    type State = mib_model::Register;
+    type State = run_model::Register;
 
-    type Event = mib_model::Entry;
+    type Event = run_model::Entry;
 
-    type Answer = mib_model::Answer;
+    type Answer = run_model::Answer;
 
     ghost state = { λ s. state_of s };
 

@@ -21,8 +21,8 @@ impl<E: Rows + Drop, B: MadeFor + Drop> Register<E, B> {
     ghost use Rattle.turn_cell.specs.Seats.{callers_of, first_state, holdings_of, number_of, own_moves, seen_by, HoldsAllBelow, IsIdle, IsSeatOf};
     ghost use Rattle.turn_cell.specs.Views.{holdings_below};
     ghost use Rattle.histories.specs.History.{StartsWith, Permits, IsOfSeatsBelow, moves_of};
-    ghost use Rattle.mib_model.specs.Register.{count_of_editions, opening};
-    ghost use Rattle.mib_model.specs.RegisterHistories.{IsRegisterHistory, MayEnter, register_after};
+    ghost use Rattle.run_model.specs.Register.{count_of_editions, opening};
+    ghost use Rattle.run_model.specs.RegisterHistories.{IsRegisterHistory, MayEnter, register_after};
     ghost use Rattle.edition_register.specs.Panels.{AreDesksFrom, IsDeskSeat, ListFrom, ShowsAll};
     ghost use Rattle.edition_register.specs.Seats.{IsSeat, first_of, history_of};
     ghost use Rattle.edition_register.specs.Stored.{state_of};
@@ -145,7 +145,7 @@ impl<E: Rows + Drop, B: MadeFor + Drop> Register<E, B> {
 impl<E: Rows + Drop, B: MadeFor + Drop> Register<E, B> {
     ghost use Rattle.turn_cell.specs.Seats.{callers_of, number_of, own_moves, seen_by};
     ghost use Rattle.histories.specs.History.{IsOfSeatsBelow};
-    ghost use Rattle.mib_model.specs.declared.register.Entry.TheVariants as event;
+    ghost use Rattle.run_model.specs.declared.register.Entry.TheVariants as event;
     ghost use Rattle.edition_register.specs.Panels.{AddsOn, Draws, IsDeskSeat, IsShown, Looks};
     ghost use Rattle.edition_register.specs.Seats.{UsesAt, first_of};
 

@@ -30,9 +30,9 @@ const CALLERS: u8 = 2;
 impl<E: Rows + Drop, B: MadeFor + Drop> Register<E, B> {
     ghost use Rattle.turn_cell.specs.Seats.{callers_of, first_state, own_moves, seen_by, IsIdle, IsSeatOf};
     ghost use Rattle.histories.specs.History.{StartsWith, Permits, IsOfSeatsBelow, moves_of};
-    ghost use Rattle.mib_model.specs.declared.register.Entry.TheVariants as event;
-    ghost use Rattle.mib_model.specs.Register.{count_of_editions};
-    ghost use Rattle.mib_model.specs.RegisterHistories.{IsRegisterHistory, MayEnter, register_after};
+    ghost use Rattle.run_model.specs.declared.register.Entry.TheVariants as event;
+    ghost use Rattle.run_model.specs.Register.{count_of_editions};
+    ghost use Rattle.run_model.specs.RegisterHistories.{IsRegisterHistory, MayEnter, register_after};
     ghost use Rattle.edition_register.specs.Seats.{Adds, IsSeat, Stamps, StartFits, Uses, first_of, history_of, shown_in};
 
     /// A register over edition 1, with the seats of the intake and the desk. Room is reserved for 64 editions and 16

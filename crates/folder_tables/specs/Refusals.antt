@@ -5,8 +5,8 @@ use Rattle.session.specs.declared.load_fault.LoadFault.{LoadFault}
 use Rattle.session.specs.declared.load_fault.LoadFault.TheVariants as loads
 use Rattle.mib_keys.specs.declared.fault.SoundFault.{SoundFault}
 use Rattle.mib_keys.specs.declared.fault.SoundFault.TheVariants as sounds
-use Rattle.mib_model.specs.declared.code.Code.{Code}
-use Rattle.mib_model.specs.declared.code.Code.TheVariants as code
+use Rattle.run_model.specs.declared.code.Code.{Code}
+use Rattle.run_model.specs.declared.code.Code.TheVariants as code
 use Rattle.mib_model.specs.declared.fault.MibFault.{MibFault}
 use Rattle.folder_tables.specs.declared.folder.Refusal.{Refusal}
 use Rattle.folder_tables.specs.declared.folder.Refusal.TheVariants as refusal

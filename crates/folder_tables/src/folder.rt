@@ -5,7 +5,8 @@ ghost use Rattle.session.specs.Sources.{database_in};
 ghost use Rattle.tool_objects.specs.Sources.{if_sound, sound_in};
 
 use mib_keys::{SoundFault, sound};
-use mib_model::{Code, MibFault};
+use mib_model::MibFault;
+use run_model::Code;
 use mib_tables::Book;
 use session::{LoadFault, load};
 use std::alloc::Global;

@@ -3,7 +3,7 @@ use Rattle.std.proofs.Common.{◌∙◌, ℕ, List, Option, None, Some, inr, ap,
 use Rattle.board_inputs.specs.Inputs.{AreOpened}
 use Rattle.live_session.specs.Live.{object, written_to}
 use Rattle.mib_model.specs.declared.database.Database.{Database}
-use Rattle.mib_model.specs.RegisterHistories.{RegisterHistory}
+use Rattle.run_model.specs.RegisterHistories.{RegisterHistory}
 use Rattle.page_texts.specs.declared.code.BoardCode.{BoardCode}
 use Rattle.session.specs.Sources.{Files}
 use Rattle.tool_objects.specs.Objects.{ShelfView, SinkView, shelf}

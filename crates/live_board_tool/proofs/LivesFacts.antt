@@ -6,14 +6,14 @@ use Rattle.std.specs.Result.{IsErr, is_err}
 use Rattle.std.specs.Prelude.{OnErr, OnOk}
 use Rattle.display_pages.specs.declared.page.Page.{Page}
 use Rattle.live_session.specs.Live.{IsWatched, Object, members_by, object}
-use Rattle.mib_laws.proofs.DeskFacts.{cons-head, cons-tail}
-use Rattle.mib_laws.proofs.RegisterFacts.{count-up}
-use Rattle.mib_model.specs.declared.code.Code.{Code}
+use Rattle.run_laws.proofs.DeskFacts.{cons-head, cons-tail}
+use Rattle.run_laws.proofs.RegisterFacts.{count-up}
+use Rattle.run_model.specs.declared.code.Code.{Code}
 use Rattle.mib_model.specs.declared.database.Database.{Database}
-use Rattle.mib_model.specs.declared.register.Register.{Register}
+use Rattle.run_model.specs.declared.register.Register.{Register}
 use Rattle.mib_model.specs.Interpreter.{Course, course_after, start}
-use Rattle.mib_model.specs.Output.{stamped_by, stamped_in}
-use Rattle.mib_model.specs.RegisterHistories.{IsRegisterHistory, RegisterHistory, register_after, stamps}
+use Rattle.run_model.specs.Output.{stamped_by, stamped_in}
+use Rattle.run_model.specs.RegisterHistories.{IsRegisterHistory, RegisterHistory, register_after, stamps}
 use Rattle.packet_run.specs.Told.{Member, members_from}
 use Rattle.page_board.specs.Views.{BeginsWith, IsShownBy, page_shown}
 use Rattle.page_screen.specs.Shows.{Shows}

@@ -3,9 +3,9 @@ use Rattle.std.specs.Prelude.{◌≡◌, ◌≢◌, ◌⊎◌, ℕ, Bool, false,
 use Rattle.board_inputs.specs.Inputs.{AreRefused, IsPaged}
 use Rattle.live_board_tool.specs.Codes.{code_by}
 use Rattle.live_session.specs.Live.{Lives, Object, StaysHandedOn, from, members_by, written_to}
-use Rattle.mib_model.specs.declared.code.Code.{Code}
+use Rattle.run_model.specs.declared.code.Code.{Code}
 use Rattle.mib_model.specs.declared.database.Database.{Database}
-use Rattle.mib_model.specs.RegisterHistories.{RegisterHistory}
+use Rattle.run_model.specs.RegisterHistories.{RegisterHistory}
 use Rattle.page_texts.specs.declared.code.BoardCode.{BoardCode}
 use Rattle.page_texts.specs.declared.code.BoardCode.TheVariants as code
 use Rattle.run_pages.specs.Shown.{ShowsRun}

@@ -1,8 +1,8 @@
 -- With which code a board ends, by that of its live run and by its screen. [This profile.]
 use Rattle.std.specs.Prelude.{Bool, true}
-use Rattle.mib_model.specs.declared.code.Code.{Code}
-use Rattle.mib_model.specs.declared.code.Code.TheVariants as live
-use Rattle.mib_model.specs.declared.code.Input.TheVariants as live_input
+use Rattle.run_model.specs.declared.code.Code.{Code}
+use Rattle.run_model.specs.declared.code.Code.TheVariants as live
+use Rattle.run_model.specs.declared.code.Input.TheVariants as live_input
 use Rattle.page_texts.specs.declared.code.BoardCode.{BoardCode}
 use Rattle.page_texts.specs.declared.code.BoardCode.TheVariants as code
 use Rattle.page_texts.specs.declared.code.BoardInput.TheVariants as input

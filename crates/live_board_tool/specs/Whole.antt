@@ -4,10 +4,10 @@ use Rattle.live_board_tool.specs.Board.{LivesShown}
 use Rattle.live_board_tool.specs.Codes.{code_of_live}
 use Rattle.live_desk.specs.DeskEnds.{is_desk_fault, is_reply_fault}
 use Rattle.live_session.specs.Live.{from, written_to}
-use Rattle.mib_model.specs.declared.code.Code.{Code}
+use Rattle.run_model.specs.declared.code.Code.{Code}
 use Rattle.mib_model.specs.declared.database.Database.{Database}
-use Rattle.mib_model.specs.Endings.{code_of_rest}
-use Rattle.mib_model.specs.RegisterHistories.{RegisterHistory}
+use Rattle.run_model.specs.Endings.{code_of_rest}
+use Rattle.run_model.specs.RegisterHistories.{RegisterHistory}
 use Rattle.decode_session.specs.Run.{most_packets}
 use Rattle.page_texts.specs.declared.code.BoardCode.{BoardCode}
 use Rattle.page_texts.specs.declared.code.BoardCode.TheVariants as code

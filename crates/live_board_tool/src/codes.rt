@@ -3,7 +3,7 @@ ghost use Rattle.std.specs.Prelude.{◌≡◌};
 ghost use Rattle.std.specs.Result.{is_err};
 ghost use Rattle.live_board_tool.specs.Codes.{code_by, code_of_live};
 
-use mib_model::{Code, Input};
+use run_model::{Code, Input};
 use page_texts::{BoardCode, BoardInput};
 use tm_io::Failed;
 

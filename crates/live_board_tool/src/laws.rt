@@ -2,7 +2,7 @@
 ghost use Rattle.std.specs.Prelude.{◌≡◌, ℕ, List, Option, Some};
 ghost use Rattle.live_board_tool.specs.Board.{Boarded};
 ghost use Rattle.live_board_tool.specs.Whole.{AreThere, CompletesBoard, RefusesBoard};
-ghost use Rattle.mib_model.specs.RegisterHistories.{RegisterHistory};
+ghost use Rattle.run_model.specs.RegisterHistories.{RegisterHistory};
 ghost use Rattle.mib_model.specs.declared.database.Database.{Database};
 ghost use Rattle.page_files.specs.Files.{IsPageOf};
 ghost use Rattle.page_texts.specs.PageFiles.{bad_line};

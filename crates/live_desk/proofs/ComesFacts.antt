@@ -17,11 +17,11 @@ use Rattle.live_desk.specs.Lines.{Answers, Comes, Replied, line_text}
 use Rattle.live_desk.specs.Operators.{Operates, is_several}
 use Rattle.live_desk.specs.Standing.{DeskHeld, Standing}
 use Rattle.live_desk.proofs.LineFacts.{Known}
-use Rattle.mib_model.specs.Desk.{DeskReply, DeskState}
-use Rattle.mib_model.specs.DeskLines.{Comment, Delete, Drop, Go, Put, Request, Save, Take, TooLong, is_comment, most_octets, or_bad_line, request_of, table_request, word_request, words_of}
-use Rattle.mib_model.specs.DeskRuns.{Calls, Follows, IsLine, LeavesLook, is_go, may_want}
-use Rattle.mib_model.specs.DeskWays.{way_of}
-use Rattle.mib_model.specs.Replies.{desk_line, desk_text}
+use Rattle.run_model.specs.Desk.{DeskReply, DeskState}
+use Rattle.run_model.specs.DeskLines.{Comment, Delete, Drop, Go, Put, Request, Save, Take, TooLong, is_comment, most_octets, or_bad_line, request_of, table_request, word_request, words_of}
+use Rattle.run_model.specs.DeskRuns.{Calls, Follows, IsLine, LeavesLook, is_go, may_want}
+use Rattle.run_model.specs.DeskWays.{way_of}
+use Rattle.run_model.specs.Replies.{desk_line, desk_text}
 
 pub on-err : {T E : Type 0} (r : Result T E) (P : Type 0) → P → OnErr r P
 on-err (Ok v) P holds = tt

@@ -19,11 +19,11 @@ use Rattle.live_desk.specs.Scripts.{DeskedFrom, EndsEarly, FailsAt, Pauses, tail
 use Rattle.live_desk.specs.Standing.{Standing}
 use Rattle.live_desk.proofs.LineFacts.{Known, desk-none, moves-append, text-append}
 use Rattle.mib_model.specs.declared.database.Database.{Database}
-use Rattle.mib_model.specs.Desk.{DeskReply, desk_start}
-use Rattle.mib_model.specs.DeskRuns.{Calls, IsDesk, prelude}
-use Rattle.mib_model.specs.RegisterHistories.{RegisterHistory}
-use Rattle.mib_model.specs.Replies.{desk_text}
-use Rattle.mib_model.specs.Script.{script, reaches_limit}
+use Rattle.run_model.specs.Desk.{DeskReply, desk_start}
+use Rattle.run_model.specs.DeskRuns.{Calls, IsDesk, prelude}
+use Rattle.run_model.specs.RegisterHistories.{RegisterHistory}
+use Rattle.run_model.specs.Replies.{desk_text}
+use Rattle.run_model.specs.Script.{script, reaches_limit}
 
 -- what goes on from a history goes on from its front
 pub starts-more : (initial old new : RegisterHistory) → StartsWith old initial → StartsWith new old → StartsWith new initial

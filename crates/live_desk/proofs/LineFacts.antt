@@ -6,12 +6,12 @@ use Rattle.std.proofs.lemmas.Grind.{flat_map-append}
 use Rattle.std.proofs.lemmas.List.{map-append}
 use Rattle.desk.specs.Handling.{moves_at, run_with}
 use Rattle.histories.specs.History.{move}
-use Rattle.mib_laws.proofs.DeskFacts.{joined}
-use Rattle.mib_model.specs.declared.register.Answer.{Answer}
-use Rattle.mib_model.specs.declared.register.Entry.{Entry}
-use Rattle.mib_model.specs.Desk.{DeskReply, DeskState}
-use Rattle.mib_model.specs.DeskRuns.{Calls, IsDesk, IsLine}
-use Rattle.mib_model.specs.Replies.{desk_line, desk_text}
+use Rattle.run_laws.proofs.DeskFacts.{joined}
+use Rattle.run_model.specs.declared.register.Answer.{Answer}
+use Rattle.run_model.specs.declared.register.Entry.{Entry}
+use Rattle.run_model.specs.Desk.{DeskReply, DeskState}
+use Rattle.run_model.specs.DeskRuns.{Calls, IsDesk, IsLine}
+use Rattle.run_model.specs.Replies.{desk_line, desk_text}
 
 abbrev pub Known : Type 0
 Known = Option (List ℕ)

@@ -23,11 +23,11 @@ use Rattle.live_desk.specs.Scripts.{Ends, EndsEarly, FailsAt, IsHandled, IsTail,
 use Rattle.live_desk.specs.Standing.{Standing}
 use Rattle.live_desk.proofs.LineFacts.{Known, desk-append, desk-none, desk-one, moves-append, text-append, text-none}
 use Rattle.desk.specs.Handling.{moves_at}
-use Rattle.mib_model.specs.Desk.{DeskReply}
-use Rattle.mib_model.specs.DeskLines.{request_of}
-use Rattle.mib_model.specs.DeskRuns.{IsDesk, is_go, prelude}
+use Rattle.run_model.specs.Desk.{DeskReply}
+use Rattle.run_model.specs.DeskLines.{request_of}
+use Rattle.run_model.specs.DeskRuns.{IsDesk, is_go, prelude}
 use Rattle.mib_model.specs.Lines.{is_feed}
-use Rattle.mib_model.specs.Replies.{desk_text}
+use Rattle.run_model.specs.Replies.{desk_text}
 
 -- ---- lines that were handled
 

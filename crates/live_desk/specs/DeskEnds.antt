@@ -2,9 +2,9 @@
 use Rattle.std.specs.Prelude.{Bool, true, false, List, ℕ, Option, None}
 use Rattle.live_desk.specs.declared.desk_end.DeskEnd.{DeskEnd}
 use Rattle.live_desk.specs.declared.desk_end.DeskEnd.TheVariants as end
-use Rattle.mib_model.specs.declared.reply.Reply.TheVariants as reply
-use Rattle.mib_model.specs.Desk.{Plain}
-use Rattle.mib_model.specs.Replies.{desk_line}
+use Rattle.run_model.specs.declared.reply.Reply.TheVariants as reply
+use Rattle.run_model.specs.Desk.{Plain}
+use Rattle.run_model.specs.Replies.{desk_line}
 
 -- the line of a script's limit, at the desk of this number
 abbrev pub limit_line_at : Option ℕ → List ℕ

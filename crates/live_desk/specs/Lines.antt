@@ -13,10 +13,10 @@ use Rattle.live_desk.specs.declared.line.Came.TheVariants as came
 use Rattle.live_desk.specs.DeskEnds.{is_desk_fault, is_reply_fault, limit_line_at}
 use Rattle.live_desk.specs.Operators.{is_several, seat_of}
 use Rattle.live_desk.specs.Standing.{DeskHeld, Standing}
-use Rattle.mib_model.specs.Desk.{DeskReply}
-use Rattle.mib_model.specs.DeskLines.{request_of}
-use Rattle.mib_model.specs.DeskRuns.{is_go}
-use Rattle.mib_model.specs.Replies.{desk_text}
+use Rattle.run_model.specs.Desk.{DeskReply}
+use Rattle.run_model.specs.DeskLines.{request_of}
+use Rattle.run_model.specs.DeskRuns.{is_go}
+use Rattle.run_model.specs.Replies.{desk_text}
 
 -- the octets of a line, where there is one
 abbrev pub line_text : Option (List ℕ) → List ℕ

@@ -3,12 +3,12 @@ use Rattle.std.specs.Prelude.{◌≡◌, ℕ, Bool, true, false, List, Option, S
 use Rattle.mib_model.specs.declared.database.Database.{Database}
 use Rattle.mib_model.specs.declared.meaning.MadeFor as MadeFor
 use Rattle.mib_model.specs.declared.meaning.Rows as Rows
-use Rattle.mib_model.specs.declared.register.Answer.{Answer}
-use Rattle.mib_model.specs.declared.register.Entry.{Entry}
-use Rattle.mib_model.specs.declared.register.Register.{Register}
-use Rattle.mib_model.specs.Desk.{DeskReply, DeskState}
-use Rattle.mib_model.specs.RegisterHistories.{RegisterHistory}
-use Rattle.mib_model.specs.Replies.{desk_line}
+use Rattle.run_model.specs.declared.register.Answer.{Answer}
+use Rattle.run_model.specs.declared.register.Entry.{Entry}
+use Rattle.run_model.specs.declared.register.Register.{Register}
+use Rattle.run_model.specs.Desk.{DeskReply, DeskState}
+use Rattle.run_model.specs.RegisterHistories.{RegisterHistory}
+use Rattle.run_model.specs.Replies.{desk_line}
 use Rattle.turn_cell.specs.declared.rule.About.{About}
 use Rattle.turn_cell.specs.declared.turn.Lock.{Lock}
 use Rattle.turn_cell.specs.declared.view.View.{View}

@@ -13,11 +13,11 @@ use Rattle.live_desk.specs.DeskEnds.{is_desk_fault, is_reply_fault, limit_line_a
 use Rattle.live_desk.specs.Operators.{is_several, seat_of}
 use Rattle.live_desk.specs.Standing.{Standing}
 use Rattle.mib_model.specs.declared.database.Database.{Database}
-use Rattle.mib_model.specs.Desk.{DeskReply, DeskState, desk_start}
-use Rattle.mib_model.specs.DeskRuns.{Calls, IsDesk, prelude}
-use Rattle.mib_model.specs.RegisterHistories.{RegisterHistory}
-use Rattle.mib_model.specs.Replies.{desk_text}
-use Rattle.mib_model.specs.Script.{script, reaches_limit}
+use Rattle.run_model.specs.Desk.{DeskReply, DeskState, desk_start}
+use Rattle.run_model.specs.DeskRuns.{Calls, IsDesk, prelude}
+use Rattle.run_model.specs.RegisterHistories.{RegisterHistory}
+use Rattle.run_model.specs.Replies.{desk_text}
+use Rattle.run_model.specs.Script.{script, reaches_limit}
 
 -- ---- lines of a script
 

@@ -3,10 +3,10 @@ use Rattle.std.specs.Prelude.{ℕ, List, Option}
 use Rattle.desk_lines.specs.declared.reader.DeskReader.{DeskReader}
 use Rattle.desk_lines.specs.Ahead.{Reading}
 use Rattle.desk_lines.specs.Reader.{reading_of, source_of}
-use Rattle.mib_model.specs.declared.register.Answer.{Answer}
-use Rattle.mib_model.specs.declared.register.Entry.{Entry}
-use Rattle.mib_model.specs.Desk.{DeskState}
-use Rattle.mib_model.specs.RegisterHistories.{RegisterHistory}
+use Rattle.run_model.specs.declared.register.Answer.{Answer}
+use Rattle.run_model.specs.declared.register.Entry.{Entry}
+use Rattle.run_model.specs.Desk.{DeskState}
+use Rattle.run_model.specs.RegisterHistories.{RegisterHistory}
 use Rattle.turn_cell.specs.declared.view.View.{View}
 use Rattle.turn_cell.specs.Seats.{Seat, own_moves}
 

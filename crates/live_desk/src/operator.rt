@@ -3,15 +3,16 @@ ghost use Rattle.std.specs.Prelude.{◌≡◌, ◌<◌, ◌≤◌, ◌+◌, ◌^
 ghost use Rattle.histories.specs.History.{StartsWith};
 ghost use Rattle.live_desk.specs.Operators.{IsSeated, Operates, number_if};
 ghost use Rattle.mib_model.specs.declared.database.Database.{Database};
-ghost use Rattle.mib_model.specs.Desk.{DeskState, Plain};
-ghost use Rattle.mib_model.specs.RegisterHistories.{RegisterHistory};
-ghost use Rattle.mib_model.specs.Replies.{desk_line};
+ghost use Rattle.run_model.specs.Desk.{DeskState, Plain};
+ghost use Rattle.run_model.specs.RegisterHistories.{RegisterHistory};
+ghost use Rattle.run_model.specs.Replies.{desk_line};
 ghost use Rattle.turn_cell.specs.Seats.{own_moves, seen_by};
 
 use edition::Edition;
 use edition_register::{Editions, Register};
 use fold_state::BoardRoom;
-use mib_model::{Line, Reply, Steps};
+use mib_model::{Line, Steps};
+use run_model::Reply;
 use std::alloc::Global;
 use std::sync::Wait;
 use std::sync::ledger::Ledger;

@@ -1,15 +1,16 @@
 // The operator of a single desk.
 ghost use Rattle.std.specs.Prelude.{◌≡◌, false};
 ghost use Rattle.edition_register.specs.Seats.{shown_in};
-ghost use Rattle.mib_model.specs.Replies.{reply_text};
+ghost use Rattle.run_model.specs.Replies.{reply_text};
 
 use crate::operator::{Operator, Place};
 use desk::Desk;
 use edition::Edition;
 use edition_register::Editions;
 use fold_state::BoardRoom;
-use mib_model::{Line, Reply, Steps};
-use record_text::reply_line;
+use mib_model::{Line, Steps};
+use run_model::Reply;
+use reply_text::reply_line;
 use std::sync::Wait;
 use std::sync::ledger::Ledger;
 use turn_cell::Seat;

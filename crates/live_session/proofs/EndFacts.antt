@@ -16,8 +16,8 @@ use Rattle.packet_run.specs.Runs.{EndsRun, IsFeedFailed, is_out_failed}
 use Rattle.tm_io.specs.Causes.{RisesWhere}
 use Rattle.live_session.specs.Codes.{code_by, code_of_end, code_of_desk}
 use Rattle.live_session.specs.Live.{IsReadOut, ending_of, object}
-use Rattle.mib_model.specs.declared.code.Code.TheVariants as code
-use Rattle.mib_model.specs.Endings.{code_of_ending, code_of_rest}
+use Rattle.run_model.specs.declared.code.Code.TheVariants as code
+use Rattle.run_model.specs.Endings.{code_of_ending, code_of_rest}
 
 abbrev pub Known : Type 0
 Known = Option (List ℕ)

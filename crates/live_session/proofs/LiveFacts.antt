@@ -16,10 +16,10 @@ use Rattle.live_session.specs.Live.{IsWatched, Lives, Prints, object}
 use Rattle.live_session.proofs.EndFacts.{Known, code-is, few-packets, out-counts, read-out}
 use Rattle.live_session.proofs.PlanFacts.{plans-of}
 use Rattle.live_session.proofs.StampFacts.{members-same, none-left, reads-ahead, stamps-count, text-same}
-use Rattle.mib_model.specs.declared.code.Code.{Code}
+use Rattle.run_model.specs.declared.code.Code.{Code}
 use Rattle.mib_model.specs.declared.database.Database.{Database}
-use Rattle.mib_model.specs.DeskRuns.{Calls, moves_by}
-use Rattle.mib_model.specs.RegisterHistories.{IsRegisterHistory, MayEnter, RegisterHistory}
+use Rattle.run_model.specs.DeskRuns.{Calls, moves_by}
+use Rattle.run_model.specs.RegisterHistories.{IsRegisterHistory, MayEnter, RegisterHistory}
 use Rattle.packet_run.specs.Runs.{Runs, is_out_failed}
 use Rattle.packet_run.specs.Told.{Member, begun}
 

@@ -10,18 +10,18 @@ use Rattle.histories.specs.declared.history.Move.{Move}
 use Rattle.mib_model.specs.declared.fault.MibFault.{MibFault}
 use Rattle.mib_model.specs.declared.key.Key.{Key}
 use Rattle.mib_model.specs.declared.kind.Kind.{Kind}
-use Rattle.mib_model.specs.declared.register.Answer.{Answer}
-use Rattle.mib_model.specs.declared.register.Answer.TheVariants as answer
-use Rattle.mib_model.specs.declared.register.Entry.{Entry}
-use Rattle.mib_model.specs.declared.register.Entry.TheVariants as entry
+use Rattle.run_model.specs.declared.register.Answer.{Answer}
+use Rattle.run_model.specs.declared.register.Answer.TheVariants as answer
+use Rattle.run_model.specs.declared.register.Entry.{Entry}
+use Rattle.run_model.specs.declared.register.Entry.TheVariants as entry
 use Rattle.mib_model.specs.declared.rows.Row.{Row}
-use Rattle.mib_model.specs.Desk.{DeskReply, DeskState, Done, Ask}
-use Rattle.mib_model.specs.DeskLines.{Request, Comment, TooLong, BadLine, BadTable, Put, Delete, Save, Drop, Use, UseFrom, Take, Go, request_of}
-use Rattle.mib_model.specs.DeskRuns.{Calls, Follows, IsChain, IsDesk, IsLine, LeavesLook, LineRun, look_of}
-use Rattle.mib_model.specs.DeskWays.{delete_way, looked, put_way, save_entry, save_way, saved, took, use_by, use_way, way_of}
+use Rattle.run_model.specs.Desk.{DeskReply, DeskState, Done, Ask}
+use Rattle.run_model.specs.DeskLines.{Request, Comment, TooLong, BadLine, BadTable, Put, Delete, Save, Drop, Use, UseFrom, Take, Go, request_of}
+use Rattle.run_model.specs.DeskRuns.{Calls, Follows, IsChain, IsDesk, IsLine, LeavesLook, LineRun, look_of}
+use Rattle.run_model.specs.DeskWays.{delete_way, looked, put_way, save_entry, save_way, saved, took, use_by, use_way, way_of}
 use Rattle.mib_model.specs.Drafts.{is_held, rows_of}
 use Rattle.mib_model.specs.Reading.{key_read, row_read}
-use Rattle.mib_model.specs.RegisterHistories.{AddsItsPlans, HasItsPlans, MayEnter, RegisterHistory}
+use Rattle.run_model.specs.RegisterHistories.{AddsItsPlans, HasItsPlans, MayEnter, RegisterHistory}
 use Rattle.mib_model.specs.Soundness.{first_flaw}
 
 -- each of these entries that adds an edition names the plans of its tables

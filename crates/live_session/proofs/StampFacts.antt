@@ -10,18 +10,18 @@ use Rattle.edition_register.proofs.RegisterFacts.{all-filter, tables-stay}
 use Rattle.histories.specs.declared.history.Move.{Move}
 use Rattle.histories.specs.History.{IsLegal, Permits, move, moves_of}
 use Rattle.live_session.specs.Live.{ReadsAhead, members_by, object}
-use Rattle.mib_laws.proofs.RegisterFacts.{seats-show}
+use Rattle.run_laws.proofs.RegisterFacts.{seats-show}
 use Rattle.mib_model.specs.declared.database.Database.{Database}
-use Rattle.mib_model.specs.declared.register.Answer.{Answer}
-use Rattle.mib_model.specs.declared.register.Answer.TheVariants.{Stamped}
-use Rattle.mib_model.specs.declared.register.Entry.{Entry}
-use Rattle.mib_model.specs.declared.register.Entry.TheVariants.{Stamp, Add, AddOn, Use, UseFrom, Newest, Look}
-use Rattle.mib_model.specs.declared.register.Register.{Register}
+use Rattle.run_model.specs.declared.register.Answer.{Answer}
+use Rattle.run_model.specs.declared.register.Answer.TheVariants.{Stamped}
+use Rattle.run_model.specs.declared.register.Entry.{Entry}
+use Rattle.run_model.specs.declared.register.Entry.TheVariants.{Stamp, Add, AddOn, Use, UseFrom, Newest, Look}
+use Rattle.run_model.specs.declared.register.Register.{Register}
 use Rattle.mib_model.specs.Interpreter.{StampedPacket, interpret, records_text, start}
-use Rattle.mib_model.specs.Output as Output
-use Rattle.mib_model.specs.Output.{output, stamped_in}
-use Rattle.mib_model.specs.Register.{answer_to, after, opening}
-use Rattle.mib_model.specs.RegisterHistories.{IsRegisterHistory, MayEnter, RegisterHistory, register_after, stamp_in, stamps}
+use Rattle.run_model.specs.Output as Output
+use Rattle.run_model.specs.Output.{output, stamped_in}
+use Rattle.run_model.specs.Register.{answer_to, after, opening}
+use Rattle.run_model.specs.RegisterHistories.{IsRegisterHistory, MayEnter, RegisterHistory, register_after, stamp_in, stamps}
 use Rattle.packet_run.specs.Stamped.{stamped_by_moves, stamped_with, text_of}
 use Rattle.packet_run.specs.Told.{Member, members_from}
 

@@ -11,20 +11,20 @@ use Rattle.tm_io.specs.Octets.{WritesUnless}
 use Rattle.tm_io.specs.Causes.{RisesWhere}
 use Rattle.tool_objects.specs.Objects.{ShelfView, SinkView}
 use Rattle.tool_objects.specs.Told.{HasTurned}
-use Rattle.mib_model.specs.declared.code.Code.{Code}
-use Rattle.mib_model.specs.declared.code.Code.TheVariants.{OutFault}
+use Rattle.run_model.specs.declared.code.Code.{Code}
+use Rattle.run_model.specs.declared.code.Code.TheVariants.{OutFault}
 use Rattle.mib_model.specs.declared.database.Database.{Database}
-use Rattle.mib_model.specs.Endings.{Ending, code_of_ending}
+use Rattle.run_model.specs.Endings.{Ending, code_of_ending}
 use Rattle.mib_model.specs.Interpreter.{start}
-use Rattle.mib_model.specs.Output.{output, stamped_by}
+use Rattle.run_model.specs.Output.{output, stamped_by}
 use Rattle.mib_model.specs.Packets.{IsCut}
 use Rattle.edition_register.specs.declared.outcome.Closed.{Closed}
 use Rattle.edition_register.specs.Seats.{history_of}
 use Rattle.mib_model.specs.declared.meaning.MadeFor as MadeFor
 use Rattle.mib_model.specs.declared.meaning.Rows as Rows
-use Rattle.mib_model.specs.Register.{count_of_editions}
+use Rattle.run_model.specs.Register.{count_of_editions}
 use Rattle.packet_run.specs.Told.{Member, members_from}
-use Rattle.mib_model.specs.RegisterHistories.{AddsItsPlans, IsRegisterHistory, MayEnter, RegisterHistory, register_after, stamps}
+use Rattle.run_model.specs.RegisterHistories.{AddsItsPlans, IsRegisterHistory, MayEnter, RegisterHistory, register_after, stamps}
 
 -- an object before and behind a call: its octets, where it tells them, and how often it failed
 pub record Object : Type 0 where

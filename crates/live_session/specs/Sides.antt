@@ -19,12 +19,12 @@ use Rattle.live_desk.specs.Scripts.{HasDeskCause, HasRepliesCause, fails_to_repl
 use Rattle.mib_model.specs.declared.database.Database.{Database}
 use Rattle.mib_model.specs.declared.meaning.MadeFor as MadeFor
 use Rattle.mib_model.specs.declared.meaning.Rows as Rows
-use Rattle.mib_model.specs.declared.register.Answer.{Answer}
-use Rattle.mib_model.specs.declared.register.Entry.{Entry}
-use Rattle.mib_model.specs.declared.register.Register.{Register}
-use Rattle.mib_model.specs.Desk.{desk_start}
+use Rattle.run_model.specs.declared.register.Answer.{Answer}
+use Rattle.run_model.specs.declared.register.Entry.{Entry}
+use Rattle.run_model.specs.declared.register.Register.{Register}
+use Rattle.run_model.specs.Desk.{desk_start}
 use Rattle.mib_model.specs.Kept.{empty_memory}
-use Rattle.mib_model.specs.RegisterHistories.{RegisterHistory}
+use Rattle.run_model.specs.RegisterHistories.{RegisterHistory}
 use Rattle.packet_run.specs.declared.stock.Stock.{Stock}
 use Rattle.packet_run.specs.Runs.{Runs}
 use Rattle.packet_run.specs.Stocks.{IsFresh, rooms_out}

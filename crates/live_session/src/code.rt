@@ -5,7 +5,7 @@ ghost use Rattle.live_session.specs.Codes.{code_by};
 
 use decode_session::{RunEnd, RunFault};
 use live_desk::DeskEnd;
-use mib_model::Code;
+use run_model::Code;
 
 /// The code of an intake that nothing hindered.
 pub fn code_of_end(end: RunEnd) -> Code

@@ -24,7 +24,7 @@ use edition::Edition;
 use edition_register::Closed;
 use fold_state::BoardRoom;
 use live_desk::{DeskEnd, Place, work};
-use mib_model::Code;
+use run_model::Code;
 use packet_run::{NoWatch, Watch};
 use std::alloc::{AllocError, Global};
 use std::sync::Wait;

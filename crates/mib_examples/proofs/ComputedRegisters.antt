@@ -11,12 +11,12 @@ use Rattle.mib_model.specs.Curves.{calibration, curve_named, selections, curve_o
 use Rattle.mib_model.specs.DatabaseTexts.{database_read}
 use Rattle.mib_model.specs.Decimals.{dec_of}
 use Rattle.mib_model.specs.Counts.{half, count_of, count_text}
-use Rattle.mib_model.specs.DeskWays.{way_of}
-use Rattle.mib_model.specs.DeskLines.{request_of}
+use Rattle.run_model.specs.DeskWays.{way_of}
+use Rattle.run_model.specs.DeskLines.{request_of}
 use Rattle.mib_model.specs.Drafts.{rows_of, put_in, without_key}
 use Rattle.mib_model.specs.Encodings.{type_of, encoding_of}
-use Rattle.mib_model.specs.Endings.{code_of_ending}
-use Rattle.mib_model.specs.Faults.{fault_text, code_line}
+use Rattle.run_model.specs.Endings.{code_of_ending}
+use Rattle.run_model.specs.Faults.{fault_text, code_line}
 use Rattle.mib_model.specs.Finish.{finished, all_finished}
 use Rattle.mib_model.specs.Fixed.{places, places_inside, values_at}
 use Rattle.mib_model.specs.Flaws.{table_flaws}
@@ -25,24 +25,25 @@ use Rattle.mib_model.specs.Keys.{same_key}
 use Rattle.mib_model.specs.Lines.{lines_of, trimmed}
 use Rattle.mib_model.specs.Match.{criterion, match_of}
 use Rattle.mib_model.specs.Orders.{sorted_by}
-use Rattle.mib_model.specs.Output.{stamped_by, output, stamped_from, output_of_one}
+use Rattle.run_model.specs.Output.{stamped_by, output, output_of_one}
+use Rattle.mib_model.specs.Interpreter.{stamped_from}
 use Rattle.mib_model.specs.Plans.{param_plans, layout_plans, structure_plans, plans}
 use Rattle.mib_model.specs.Points.{knots, interpolated, by_points}
 use Rattle.mib_model.specs.Polynomials.{polynomial}
 use Rattle.mib_model.specs.RawTexts.{quoted, raw_text}
 use Rattle.mib_model.specs.Reading.{row_at, rows_from, table_of, row_read, key_read}
-use Rattle.mib_model.specs.Register.{answer_to, after}
-use Rattle.mib_model.specs.Replies.{reply_words, desk_text}
+use Rattle.run_model.specs.Register.{answer_to, after}
+use Rattle.run_model.specs.Replies.{reply_words, desk_text}
 use Rattle.mib_model.specs.RowTexts.{row_of, key_of, line_of}
 use Rattle.mib_model.specs.Sameness.{same_cells}
-use Rattle.mib_model.specs.Script.{script, reaches_limit}
+use Rattle.run_model.specs.Script.{script, reaches_limit}
 use Rattle.mib_model.specs.Soundness.{flaws}
 use Rattle.mib_model.specs.Structures.{structure, deduced}
 use Rattle.mib_model.specs.Texts.{head_text, value_text, record_body, record_text}
 use Rattle.mib_model.specs.Touched.{same_slice, touched}
 use Rattle.mib_model.specs.Walk.{step, walked, structure_values}
 use Rattle.mib_model.specs.WholeNumbers.{decimal_whole, whole_number}
-use Rattle.mib_model.specs.Words.{parted, command_of}
+use Rattle.run_model.specs.Words.{parted, command_of}
 use Rattle.mib_model.specs.Writing.{decimal_text}
 use Rattle.mib_examples.specs.Given.{decoded, database, first_fault}
 use Rattle.mib_examples.specs.EditionRuns.{EditionRuns, printed}

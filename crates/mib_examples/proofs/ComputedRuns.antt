@@ -19,12 +19,13 @@ use Rattle.mib_model.specs.Keys.{same_key}
 use Rattle.mib_model.specs.Lines.{lines_of, trimmed}
 use Rattle.mib_model.specs.Match.{criterion, match_of}
 use Rattle.mib_model.specs.Orders.{sorted_by}
-use Rattle.mib_model.specs.Output.{stamped_by, output, stamped_from, output_of_one}
+use Rattle.run_model.specs.Output.{stamped_by, output, output_of_one}
+use Rattle.mib_model.specs.Interpreter.{stamped_from}
 use Rattle.mib_model.specs.Points.{knots, interpolated, by_points}
 use Rattle.mib_model.specs.Polynomials.{polynomial}
 use Rattle.mib_model.specs.RawTexts.{quoted, raw_text}
 use Rattle.mib_model.specs.Reading.{row_at, rows_from, table_of, row_read, key_read}
-use Rattle.mib_model.specs.Register.{after}
+use Rattle.run_model.specs.Register.{after}
 use Rattle.mib_model.specs.RowTexts.{row_of, key_of, line_of}
 use Rattle.mib_model.specs.Sameness.{same_cells}
 use Rattle.mib_model.specs.Texts.{head_text, value_text, record_body, record_text}

@@ -1,14 +1,14 @@
 -- Examples of relations, derived.
 use Rattle.std.proofs.Common.{ℕ, zero, suc, ◌<◌, List, [], ◌∷◌, ◌++◌, length, codes, Some, None, refl, inl, false, length-take, arith}
 use Rattle.std.specs.List.{All}
-use Rattle.mib_model.specs.declared.register.Answer.TheVariants as answer
-use Rattle.mib_model.specs.declared.register.Entry.TheVariants as entry
-use Rattle.mib_model.specs.declared.reply.Reply.TheVariants as reply
+use Rattle.run_model.specs.declared.register.Answer.TheVariants as answer
+use Rattle.run_model.specs.declared.register.Entry.TheVariants as entry
+use Rattle.run_model.specs.declared.reply.Reply.TheVariants as reply
 use Rattle.mib_model.specs.Database.{no_rows}
-use Rattle.mib_model.specs.Desk.{Plain, desk_start}
-use Rattle.mib_model.specs.DeskWays.{way_of}
-use Rattle.mib_model.specs.DeskLines.{request_of}
-use Rattle.mib_model.specs.DeskRuns.{IsDesk}
+use Rattle.run_model.specs.Desk.{Plain, desk_start}
+use Rattle.run_model.specs.DeskWays.{way_of}
+use Rattle.run_model.specs.DeskLines.{request_of}
+use Rattle.run_model.specs.DeskRuns.{IsDesk}
 use Rattle.mib_model.specs.Packets.{IsPacket, IsCut, BeginsNoPacket}
 use Rattle.mib_examples.specs.Given.{packet_a}
 use Rattle.mib_examples.specs.PacketExamples.{begun}

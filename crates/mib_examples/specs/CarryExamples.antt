@@ -2,11 +2,11 @@
 use Rattle.std.specs.Prelude.{◌≡◌, [], ◌∷◌, ◌++◌, codes}
 use Rattle.mib_model.specs.declared.database.Database.{Database}
 use Rattle.mib_model.specs.declared.kind.Kind.TheVariants as kind
-use Rattle.mib_model.specs.declared.register.Answer.TheVariants as answer
-use Rattle.mib_model.specs.declared.register.Entry.TheVariants as entry
-use Rattle.mib_model.specs.Output.{output}
+use Rattle.run_model.specs.declared.register.Answer.TheVariants as answer
+use Rattle.run_model.specs.declared.register.Entry.TheVariants as entry
+use Rattle.run_model.specs.Output.{output}
 use Rattle.mib_model.specs.Plans.{plans}
-use Rattle.mib_model.specs.RegisterHistories.{RegisterHistory, IsRegisterHistory}
+use Rattle.run_model.specs.RegisterHistories.{RegisterHistory, IsRegisterHistory}
 use Rattle.mib_examples.specs.Given.{database, given, packet_a, shared, table}
 
 -- a soft limit with an alarm after three samples

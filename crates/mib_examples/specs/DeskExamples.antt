@@ -3,15 +3,15 @@ use Rattle.std.specs.Prelude.{◌≡◌, [], ◌∷◌, codes, true, false}
 use Rattle.mib_model.specs.declared.kind.Kind.TheVariants as kind
 use Rattle.mib_model.specs.declared.packet.BadWhy.TheVariants as why
 use Rattle.mib_model.specs.declared.packet.Found.TheVariants as found
-use Rattle.mib_model.specs.declared.register.Answer.TheVariants as answer
-use Rattle.mib_model.specs.declared.register.Entry.TheVariants as entry
+use Rattle.run_model.specs.declared.register.Answer.TheVariants as answer
+use Rattle.run_model.specs.declared.register.Entry.TheVariants as entry
 use Rattle.mib_model.specs.Database.{no_rows}
-use Rattle.mib_model.specs.DeskLines.{Put, Use, Take}
-use Rattle.mib_model.specs.DeskRuns.{LeavesLook, prelude}
+use Rattle.run_model.specs.DeskLines.{Put, Use, Take}
+use Rattle.run_model.specs.DeskRuns.{LeavesLook, prelude}
 use Rattle.mib_model.specs.Match.{is_well_formed, match_of}
-use Rattle.mib_model.specs.Output.{stamps_of_one}
+use Rattle.run_model.specs.Output.{stamps_of_one}
 use Rattle.mib_model.specs.Plans.{plans}
-use Rattle.mib_model.specs.RegisterHistories.{HasItsPlans, stamps}
+use Rattle.run_model.specs.RegisterHistories.{HasItsPlans, stamps}
 use Rattle.mib_model.specs.Walk.{walk_limit}
 use Rattle.mib_examples.specs.Given.{database, packet_a, shared}
 

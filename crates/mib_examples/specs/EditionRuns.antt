@@ -4,13 +4,13 @@ use Rattle.histories.specs.History.{move}
 use Rattle.mib_model.specs.declared.database.Database.{Database}
 use Rattle.mib_model.specs.declared.kind.Kind.{Kind}
 use Rattle.mib_model.specs.declared.kind.Kind.TheVariants as kind
-use Rattle.mib_model.specs.declared.register.Entry.{Entry}
-use Rattle.mib_model.specs.declared.register.Entry.TheVariants as entry
-use Rattle.mib_model.specs.declared.register.Register.{Register}
-use Rattle.mib_model.specs.Output.{output}
+use Rattle.run_model.specs.declared.register.Entry.{Entry}
+use Rattle.run_model.specs.declared.register.Entry.TheVariants as entry
+use Rattle.run_model.specs.declared.register.Register.{Register}
+use Rattle.run_model.specs.Output.{output}
 use Rattle.mib_model.specs.Plans.{plans}
-use Rattle.mib_model.specs.Register.{opening, answer_to, after}
-use Rattle.mib_model.specs.RegisterHistories.{RegisterHistory}
+use Rattle.run_model.specs.Register.{opening, answer_to, after}
+use Rattle.run_model.specs.RegisterHistories.{RegisterHistory}
 use Rattle.mib_examples.specs.Given.{database, given, packet_a, packet_with, shared, table}
 
 -- the history of entries from a state on: each reply is the register's

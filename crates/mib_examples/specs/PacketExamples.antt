@@ -2,18 +2,18 @@
 use Rattle.std.specs.Prelude.{◌≡◌, ℕ, List, [], ◌∷◌, ◌++◌, codes, Some, None, true, false, pos}
 use Rattle.mib_model.specs.declared.check.Change.TheVariants.{Alarm, Clear}
 use Rattle.mib_model.specs.declared.check.Class.TheVariants.{Nominal, Hard, Soft}
-use Rattle.mib_model.specs.declared.code.Code.TheVariants as code
+use Rattle.run_model.specs.declared.code.Code.TheVariants as code
 use Rattle.mib_model.specs.declared.packet.Value.{Value}
-use Rattle.mib_model.specs.declared.register.Answer.TheVariants as answer
-use Rattle.mib_model.specs.declared.register.Entry.TheVariants as entry
-use Rattle.mib_model.specs.declared.reply.Reply.TheVariants as reply
+use Rattle.run_model.specs.declared.register.Answer.TheVariants as answer
+use Rattle.run_model.specs.declared.register.Entry.TheVariants as entry
+use Rattle.run_model.specs.declared.reply.Reply.TheVariants as reply
 use Rattle.mib_model.specs.declared.shape.Order.TheVariants.{Big}
 use Rattle.mib_model.specs.declared.shape.Sort.TheVariants.{Unsigned}
 use Rattle.mib_model.specs.Alarms.{alarm}
 use Rattle.mib_model.specs.Database.{no_rows}
-use Rattle.mib_model.specs.Desk.{Plain, desk_start}
-use Rattle.mib_model.specs.DeskRuns.{IsDesk}
-use Rattle.mib_model.specs.Endings.{code_of_ending}
+use Rattle.run_model.specs.Desk.{Plain, desk_start}
+use Rattle.run_model.specs.DeskRuns.{IsDesk}
+use Rattle.run_model.specs.Endings.{code_of_ending}
 use Rattle.mib_model.specs.Headers.{header_of}
 use Rattle.mib_model.specs.Kept.{empty_memory, entered, holds}
 use Rattle.mib_model.specs.Packets.{IsPacket, IsCut}

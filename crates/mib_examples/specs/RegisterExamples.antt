@@ -3,18 +3,18 @@ use Rattle.std.specs.Prelude.{◌≡◌, ℕ, [], ◌∷◌, ◌++◌, codes, tr
 use Rattle.mib_model.specs.declared.database.Database.{Database}
 use Rattle.mib_model.specs.declared.kind.Kind.TheVariants as kind
 use Rattle.mib_model.specs.declared.plan.PlanName.TheVariants as plan
-use Rattle.mib_model.specs.declared.register.Answer.TheVariants as answer
-use Rattle.mib_model.specs.declared.register.Entry.TheVariants as entry
-use Rattle.mib_model.specs.declared.register.Register.{Register}
-use Rattle.mib_model.specs.declared.reply.Reply.TheVariants as reply
+use Rattle.run_model.specs.declared.register.Answer.TheVariants as answer
+use Rattle.run_model.specs.declared.register.Entry.TheVariants as entry
+use Rattle.run_model.specs.declared.register.Register.{Register}
+use Rattle.run_model.specs.declared.reply.Reply.TheVariants as reply
 use Rattle.mib_model.specs.Database.{no_rows}
-use Rattle.mib_model.specs.Desk.{desk_start, Ask, says}
-use Rattle.mib_model.specs.DeskWays.{saved, way_of}
-use Rattle.mib_model.specs.DeskLines.{Comment, BadLine, BadTable, Put, Delete, Save, Use, UseFrom, Take, request_of}
-use Rattle.mib_model.specs.Output.{output}
+use Rattle.run_model.specs.Desk.{desk_start, Ask, says}
+use Rattle.run_model.specs.DeskWays.{saved, way_of}
+use Rattle.run_model.specs.DeskLines.{Comment, BadLine, BadTable, Put, Delete, Save, Use, UseFrom, Take, request_of}
+use Rattle.run_model.specs.Output.{output}
 use Rattle.mib_model.specs.Plans.{plans}
-use Rattle.mib_model.specs.Register.{opening, answer_to, after}
-use Rattle.mib_model.specs.RegisterHistories.{RegisterHistory, IsRegisterHistory, stamps}
+use Rattle.run_model.specs.Register.{opening, answer_to, after}
+use Rattle.run_model.specs.RegisterHistories.{RegisterHistory, IsRegisterHistory, stamps}
 use Rattle.mib_model.specs.Touched.{touched}
 use Rattle.mib_examples.specs.Given.{database, given, packet_a, shared, table}
 

@@ -1,17 +1,17 @@
 -- The words of the command line, scripts, and the texts of codes and replies. [This profile.]
 use Rattle.std.specs.Prelude.{◌≡◌, ℕ, List, [], ◌∷◌, codes, Ok, Err, Some, None, false}
-use Rattle.mib_model.specs.declared.code.Code.TheVariants as code
-use Rattle.mib_model.specs.declared.code.Misuse.TheVariants as misuse
+use Rattle.run_model.specs.declared.code.Code.TheVariants as code
+use Rattle.run_model.specs.declared.code.Misuse.TheVariants as misuse
 use Rattle.mib_model.specs.declared.fault.MibCode.TheVariants as fault
 use Rattle.mib_model.specs.declared.kind.Kind.TheVariants as kind
-use Rattle.mib_model.specs.declared.reply.Reply.TheVariants as reply
-use Rattle.mib_model.specs.Desk.{Plain, Stale}
-use Rattle.mib_model.specs.Faults.{code_line}
-use Rattle.mib_model.specs.Replies.{reply_words, desk_line}
-use Rattle.mib_model.specs.Script.{script, reaches_limit}
+use Rattle.run_model.specs.declared.reply.Reply.TheVariants as reply
+use Rattle.run_model.specs.Desk.{Plain, Stale}
+use Rattle.run_model.specs.Faults.{code_line}
+use Rattle.run_model.specs.Replies.{reply_words, desk_line}
+use Rattle.run_model.specs.Script.{script, reaches_limit}
 use Rattle.mib_model.specs.Summaries.{count_line, summary}
 use Rattle.mib_model.specs.Texts.{cut_text, rest_text}
-use Rattle.mib_model.specs.Words.{Check, Decode, Live, Drill, command_of}
+use Rattle.run_model.specs.Words.{Check, Decode, Live, Drill, command_of}
 use Rattle.mib_examples.specs.Given.{database, shared}
 
 -- a folder

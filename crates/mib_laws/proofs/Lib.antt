@@ -1,12 +1,7 @@
 pub mod Options
 pub mod Choices
 pub mod RunFacts
-pub mod OneEdition
-pub mod RegisterFacts
 pub mod CutFacts
-pub mod DeskFacts
-pub mod AloneFacts
-pub mod DeskFirst
 pub mod Nesting
 pub mod WalkFacts
 pub mod Sorting

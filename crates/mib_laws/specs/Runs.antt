@@ -1,21 +1,8 @@
 -- Laws of the interpreter.
-use Rattle.std.specs.Prelude.{◌≡◌, ℕ, List, ◌++◌}
-use Rattle.mib_model.specs.declared.database.Database.{Database}
-use Rattle.mib_model.specs.Interpreter.{Course, StampedPacket, start, interpret, course_after_all, records_text}
-use Rattle.mib_model.specs.Output.{stamped_from, stamps_of_one, output_of_one}
-use Rattle.mib_model.specs.RegisterHistories.{IsRegisterHistory}
+use Rattle.std.specs.Prelude.{◌≡◌, List, ◌++◌}
+use Rattle.mib_model.specs.Interpreter.{Course, StampedPacket, interpret, course_after_all}
 
 -- the records of two lists of packets in a row
 abbrev pub RunsInParts : Type 0
 RunsInParts =
     (c : Course) (first others : List StampedPacket) → interpret c (first ++ others) ≡ interpret c first ++ interpret (course_after_all c first) others
-
--- what a run with one edition prints: the records of its packets with numbers from 1 on, all of edition 1
-abbrev pub OneEditionPrints : Type 0
-OneEditionPrints =
-    (first : Database) (packets : List (List ℕ)) (tail : List ℕ) →
-    output_of_one first packets tail ≡ records_text (interpret (start first) (stamped_from first 1 packets)) ++ tail
-
--- the stamps of a run with one edition are a history of the register
-abbrev pub OneEditionIsLegal : Type 0
-OneEditionIsLegal = (first : Database) (packets : List (List ℕ)) → IsRegisterHistory first (stamps_of_one first packets)

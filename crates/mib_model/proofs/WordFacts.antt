@@ -1,5 +1,5 @@
 -- Octets compared by machine words.
-use Rattle.std.proofs.Common.{◌≡◌, ℕ, zero, suc, ◌≤◌, ◌<◌, ◌+◌, ◌-◌, List, [], ◌∷◌, ◌++◌, Bool, true, length, take, drop, get_or, nat_eq, refl, sym, ◌∙◌, ap, arith, length-take, length-drop, take-add}
+use Rattle.std.proofs.Common.{◌≡◌, ℕ, zero, suc, ◌≤◌, ◌<◌, ◌+◌, ◌-◌, List, [], ◌∷◌, ◌++◌, true, length, take, drop, get_or, nat_eq, refl, sym, ◌∙◌, ap, arith, length-take, length-drop, take-add}
 use Rattle.std.specs.Bool.{Decides}
 use Rattle.std.specs.Int.{from_le_bytes, w64}
 use Rattle.std.specs.Str.{bytes_eq}

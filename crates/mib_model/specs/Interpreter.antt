@@ -1,6 +1,6 @@
 -- The sequential interpreter: what packets give one after the other, each by the rows of its own edition. [This profile.]
-use Rattle.std.specs.Prelude.{ℕ, List, [], ◌∷◌, Option, Some, None, option_and_then, ◌==◌, if◌then◌else◌, int_lt, pos}
-use Rattle.std.specs.List.{find, flat_map}
+use Rattle.std.specs.Prelude.{ℕ, List, [], ◌∷◌, Option, Some, None, option_and_then, ◌==◌, if◌then◌else◌, int_lt, pos, map, length}
+use Rattle.std.specs.List.{find, flat_map, range_with_len, zip}
 use Rattle.mib_model.specs.declared.packet.Ended.TheVariants.{Whole}
 use Rattle.mib_model.specs.declared.packet.Found.{Found}
 use Rattle.mib_model.specs.declared.packet.Found.TheVariants as found
@@ -81,3 +81,11 @@ course_after_all c (s ∷ ss) = course_after_all (course_after c s) ss
 -- the text of records
 abbrev pub records_text : List Record → List ℕ
 records_text records = flat_map record_text records
+
+-- a numbered packet of edition 1
+abbrev pub stamped_first : Database → ℕ × List ℕ → StampedPacket
+stamped_first first pair = record { number = pair.0; packet = pair.1; edition = 1; tables = first }
+
+-- packets numbered from a number on, each of edition 1
+unfoldable pub stamped_from : Database → ℕ → List (List ℕ) → List StampedPacket
+stamped_from first number packets = map (stamped_first first) (zip (range_with_len number (length packets)) packets)

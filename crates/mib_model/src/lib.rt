@@ -1,14 +1,13 @@
 //! The words of the product: names, rows of the 15 monitoring tables, and in `specs/` every definition that a
-//! contract of this repository cites.
+//! contract on tables and packets cites. Those of runs stand in `run_model`.
 //!
 //! Each table is a list of columns there, each rule of decoding a function or a relation over whole lists of rows,
 //! and each printed line a text. Nothing here reads, searches or prints; the crates above are proved against it.
-//! It rests on `histories` for the words on histories of a sequential machine.
+//! It rests on `byteorder` for whole octets of a header.
 #![tactic(auto)]
 
 mod calibration;
 mod check;
-mod code;
 mod database;
 mod discriminant_width;
 mod fault;
@@ -24,8 +23,6 @@ mod number;
 mod octets;
 mod packet;
 mod plan;
-mod register;
-mod reply;
 mod rows;
 mod shape;
 mod steps;
@@ -35,7 +32,6 @@ mod words;
 
 pub use calibration::Cal;
 pub use check::{Change, Class};
-pub use code::{Code, Input, Misuse};
 pub use database::Database;
 pub use discriminant_width::DiscriminantWidth;
 pub use fault::{MibCode, MibFault};
@@ -53,8 +49,6 @@ pub use name::{Name, Text};
 pub use number::{Dec, DecFault, Eng, Over};
 pub use packet::{BadWhy, Ended, Found, Header, IDLE_APID, Value};
 pub use plan::{CurveRows, Plan, PlanName, Slice, TypeItem};
-pub use register::{Answer, Entry, Register, Scheduled};
-pub use reply::Reply;
 pub use rows::{
     Bound, CafRow, CapRow, CurRow, LgfRow, McfRow, OcfRow, OcpRow, PcfRow, PicRow, PidRow, PlfRow,
     Row, TpcfRow, TxfRow, TxpRow, VpdRow,

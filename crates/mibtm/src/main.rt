@@ -4,12 +4,14 @@
 //! for files and streams, and on `program_ends` for words and status.
 #![tactic(auto)]
 
-use mib_model::{Code, Line};
+use mib_model::Line;
+
+use run_model::Code;
 use mibtm_audit::audit_tool;
 use mibtm_build::{BuildCode, build_tool};
 use mibtm_tool::tool;
 use program_ends::{Ending, arguments};
-use record_text::code_line;
+use reply_text::code_line;
 use std::alloc::{AllocError, Global};
 use std::process::ExitCode;
 use std::rt::{Stderr, Stdout};

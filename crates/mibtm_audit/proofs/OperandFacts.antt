@@ -3,8 +3,8 @@ use Rattle.std.proofs.Common.{◌≡◌, ◌∙◌, ℕ, suc, ◌+◌, ◌-◌, 
 use Rattle.std.specs.List.{list_any, position_or_len, slice_index_or}
 use Rattle.std.specs.Str.{bytes_eq}
 use Rattle.std.proofs.lemmas.List.{take_all, take-map, get_or_append_left, get_or-append-add, get_or-take, get_or-drop, get_or-map, length-take-le, length-drop, length-map}
-use Rattle.mib_model.specs.Words.{is_option}
-use Rattle.mib_model.specs.declared.code.Misuse.TheVariants as misuse
+use Rattle.run_model.specs.Words.{is_option}
+use Rattle.run_model.specs.declared.code.Misuse.TheVariants as misuse
 use Rattle.mibtm_audit.specs.Operands.{Named, before_end, ends_options, four, four_of, inputs_by, inputs_in, is_shared, or_words, without}
 
 module _ {Z : Type 0} where

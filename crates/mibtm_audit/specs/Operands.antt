@@ -2,9 +2,9 @@
 use Rattle.std.specs.Prelude.{ℕ, suc, Bool, List, [], ◌∷◌, ◌++◌, codes, take, drop, if◌then◌else◌, Option, Some, None, ◌&&◌, ◌||◌, Result, Ok, Err}
 use Rattle.std.specs.List.{list_any, position_or_len}
 use Rattle.std.specs.Str.{bytes_eq}
-use Rattle.mib_model.specs.declared.code.Misuse.{Misuse}
-use Rattle.mib_model.specs.declared.code.Misuse.TheVariants as misuse
-use Rattle.mib_model.specs.Words.{is_option, is_standard}
+use Rattle.run_model.specs.declared.code.Misuse.{Misuse}
+use Rattle.run_model.specs.declared.code.Misuse.TheVariants as misuse
+use Rattle.run_model.specs.Words.{is_option, is_standard}
 use Rattle.mibtm_audit.specs.declared.inputs.Inputs.{Inputs}
 
 -- the names of a folder of tables, of a feed, of a desk's script and of a printed text

@@ -7,7 +7,7 @@ use Rattle.session.specs.Sources.{part_read}
 use Rattle.whole_texts.specs.declared.text_fault.TextFault.{TextFault}
 use Rattle.whole_texts.specs.declared.text_fault.TextFault.TheVariants as texts
 use Rattle.mib_model.specs.declared.fault.MibFault.{MibFault}
-use Rattle.mib_model.specs.declared.code.Misuse.{Misuse}
+use Rattle.run_model.specs.declared.code.Misuse.{Misuse}
 use Rattle.mib_model.specs.declared.database.Database.{Database}
 use Rattle.tm_audit.specs.declared.code.AuditCode.{AuditCode}
 use Rattle.tm_audit.specs.declared.code.AuditCode.TheVariants as code

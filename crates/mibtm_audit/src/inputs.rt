@@ -2,10 +2,10 @@
 ghost use Rattle.std.specs.Prelude.{◌≡◌, ◌≤◌, ◌<◌, length, map, option_map, string_bytes};
 ghost use Rattle.std.specs.List.{list_any, position, position_or_len, slice_index_or};
 ghost use Rattle.std.specs.Result.{result_map_both};
-ghost use Rattle.mib_model.specs.Words as Spec;
+ghost use Rattle.run_model.specs.Words as Spec;
 ghost use Rattle.mibtm_audit.specs.Operands.{ends_options, four, inputs_by, inputs_in, is_shared, named, without};
 
-use mib_model::Misuse;
+use run_model::Misuse;
 
 /// A folder of tables, a feed, a desk's script and a printed text.
 #[derive(Clone, Copy)]

@@ -6,7 +6,7 @@ use Rattle.build_rules.specs.declared.fault.BuildFault.{BuildFault}
 use Rattle.build_rules.specs.Asks.{answer_to, answered, asked_in}
 use Rattle.desk_lines.proofs.LongFacts.{long-front}
 use Rattle.mib_model.specs.declared.database.Database.{Database}
-use Rattle.mib_model.specs.DeskLines.{is_comment, request_of}
+use Rattle.run_model.specs.DeskLines.{is_comment, request_of}
 use Rattle.mibtm_build.specs.Answers.{Answers}
 use Rattle.mibtm_build.specs.declared.code.BuildCode.{BuildCode}
 use Rattle.mibtm_build.specs.declared.code.BuildCode.TheVariants as code

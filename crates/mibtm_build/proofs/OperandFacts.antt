@@ -4,8 +4,8 @@ use Rattle.std.proofs.lemmas.Bool.{cases_Bool}
 use Rattle.std.proofs.lemmas.List.{take_all}
 use Rattle.std.proofs.lemmas.Slice.Eq.{bytes_eq-Decides}
 use Rattle.std.specs.Str.{bytes_eq}
-use Rattle.mib_model.specs.Words.{is_option}
-use Rattle.mib_model.specs.declared.code.Misuse.TheVariants as misuse
+use Rattle.run_model.specs.Words.{is_option}
+use Rattle.run_model.specs.declared.code.Misuse.TheVariants as misuse
 use Rattle.mibtm_build.specs.Operands.{Named, inputs_by, inputs_in, operands, or_words, two}
 
 -- the inputs of two words

@@ -16,9 +16,9 @@ use Rattle.desk_lines.proofs.GivenFacts.{given-append, given-line, given-none, u
 use Rattle.desk_lines.specs.Given.{IsUpTo, lines_given}
 use Rattle.desk_lines.specs.Gives.{NoneComes, TakesLine, TakesPart}
 use Rattle.mib_model.specs.declared.database.Database.{Database}
-use Rattle.mib_model.specs.DeskLines.{is_comment}
+use Rattle.run_model.specs.DeskLines.{is_comment}
 use Rattle.mib_model.specs.Lines.{is_feed}
-use Rattle.mib_model.specs.Script.{reaches_limit, script}
+use Rattle.run_model.specs.Script.{reaches_limit, script}
 use Rattle.mibtm_build.specs.declared.code.BuildCode.{BuildCode}
 use Rattle.mibtm_build.specs.declared.code.BuildCode.TheVariants as code
 use Rattle.mibtm_build.specs.Runs.{AreAll, AreAnswered, Comes, ComesTo, Fails, Goes, HandlesNext, IsEnd, Ran, Standing, Stops, is_out_fault, unanswered}

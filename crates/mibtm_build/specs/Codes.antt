@@ -1,9 +1,9 @@
 -- The exit statuses of a call that builds, and the lines of its ends. [This profile.]
 use Rattle.std.specs.Prelude.{ℕ, List, [], Option, Some, None}
-use Rattle.mib_model.specs.declared.code.Code.{Code}
-use Rattle.mib_model.specs.declared.code.Code.TheVariants as plain
-use Rattle.mib_model.specs.Codes.{code_number}
-use Rattle.mib_model.specs.Faults.{code_line}
+use Rattle.run_model.specs.declared.code.Code.{Code}
+use Rattle.run_model.specs.declared.code.Code.TheVariants as plain
+use Rattle.run_model.specs.Codes.{code_number}
+use Rattle.run_model.specs.Faults.{code_line}
 use Rattle.build_rules.specs.Asks.{refused_line}
 use Rattle.mibtm_build.specs.declared.code.BuildCode.{BuildCode}
 use Rattle.mibtm_build.specs.declared.code.BuildCode.TheVariants as code

@@ -1,9 +1,9 @@
 -- The words of the command. [This profile; options after the POSIX utility conventions, guideline 10.]
 use Rattle.std.specs.Prelude.{ℕ, List, [], ◌∷◌, codes, if◌then◌else◌, Option, Some, None, option_map, option_and_then, Result, Ok, Err}
 use Rattle.std.specs.Str.{bytes_eq}
-use Rattle.mib_model.specs.declared.code.Misuse.{Misuse}
-use Rattle.mib_model.specs.declared.code.Misuse.TheVariants as misuse
-use Rattle.mib_model.specs.Words.{is_option}
+use Rattle.run_model.specs.declared.code.Misuse.{Misuse}
+use Rattle.run_model.specs.declared.code.Misuse.TheVariants as misuse
+use Rattle.run_model.specs.Words.{is_option}
 use Rattle.mibtm_build.specs.declared.inputs.Inputs.{Inputs}
 
 -- the names of a folder of tables and of a file of asks

@@ -4,7 +4,7 @@ use Rattle.std.specs.Io.KnownBytes.{Appends, Consumes}
 use Rattle.tm_io.specs.Causes.{RisesWhere}
 use Rattle.tm_io.specs.Octets.{AppendsPrefix, WritesUnless}
 use Rattle.mib_model.specs.declared.database.Database.{Database}
-use Rattle.mib_model.specs.Script.{script, reaches_limit}
+use Rattle.run_model.specs.Script.{script, reaches_limit}
 use Rattle.desk_lines.specs.declared.reader.DeskReader.{DeskReader}
 use Rattle.desk_lines.specs.Ahead.{Reading, still, meets_limit}
 use Rattle.desk_lines.specs.Given.{IsUpTo, lines_given}

@@ -2,8 +2,8 @@
 use Rattle.std.specs.Prelude.{◌≡◌, ◌≤◌, ◌⊎◌, ℕ, List, Option, None, Result, Ok, Err, IfSome, ⊤}
 use Rattle.tm_io.specs.Causes.{HasRisen}
 use Rattle.mib_model.specs.declared.fault.MibFault.{MibFault}
-use Rattle.mib_model.specs.declared.code.Input.TheVariants as input
-use Rattle.mib_model.specs.declared.code.Misuse.{Misuse}
+use Rattle.run_model.specs.declared.code.Input.TheVariants as input
+use Rattle.run_model.specs.declared.code.Misuse.{Misuse}
 use Rattle.mib_model.specs.declared.database.Database.{Database}
 use Rattle.tool_objects.specs.Objects.{ShelfView, SinkView, HasStood, HasFailed, IsUncalled, IsUnwritten, HasBroken, IsHandedOn}
 use Rattle.tool_objects.specs.Opened.{AreSound}

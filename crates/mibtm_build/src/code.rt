@@ -5,8 +5,9 @@ ghost use Rattle.mibtm_build.specs.Codes as Spec;
 ghost use Rattle.mibtm_build.specs.Codes.{build_line, build_number};
 
 use build_rules::BuildFault;
-use mib_model::{Code, Input, Line, MibFault, Misuse};
-use record_text::{add_number, code_line};
+use mib_model::{Line, MibFault};
+use run_model::{Code, Input, Misuse};
+use reply_text::{add_number, code_line};
 
 /// How a call of `build_tool` ends. There is no feed and there are no replies, so their faults never come.
 #[derive(Clone, Copy)]

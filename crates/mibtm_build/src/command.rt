@@ -16,7 +16,7 @@ use crate::run::run;
 use build_rules::Item;
 use desk_lines::{DeskReader, LINE_ROOM};
 use folder_tables::{Refusal, sound_book};
-use mib_model::Input;
+use run_model::Input;
 use mib_tables::Book;
 use std::alloc::{AllocError, Global};
 use tm_build::{Builder, OCTETS_MOST};

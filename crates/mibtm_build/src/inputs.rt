@@ -1,10 +1,10 @@
 // The words of the command: a folder of tables, and the file of asks.
 ghost use Rattle.std.specs.Prelude.{◌≡◌, ◌∷◌, [], map, string_bytes, option_map};
 ghost use Rattle.std.specs.Result.{result_map_both};
-ghost use Rattle.mib_model.specs.Words as Spec;
+ghost use Rattle.run_model.specs.Words as Spec;
 ghost use Rattle.mibtm_build.specs.Operands.{inputs_by, inputs_in, named, two};
 
-use mib_model::Misuse;
+use run_model::Misuse;
 
 /// A folder of tables, and the file of asks.
 #[derive(Clone, Copy)]

@@ -1,11 +1,11 @@
 -- Where nothing fails, a call decodes the feed whole.
 use Rattle.std.proofs.Common.{◌≡◌, ℕ, List, [], ◌++◌, Option, Some, None, Result, Ok, Err, IfSome, IsOkAnd, IsSomeAnd, inl, inr, refl, ap, ◌∙◌, arith, append-nil, append_assoc, subst}
 use Rattle.std.specs.List.{concat}
-use Rattle.mib_model.specs.declared.code.Code.{Code}
-use Rattle.mib_model.specs.declared.code.Code.TheVariants as code
+use Rattle.run_model.specs.declared.code.Code.{Code}
+use Rattle.run_model.specs.declared.code.Code.TheVariants as code
 use Rattle.mib_model.specs.declared.database.Database.{Database}
 use Rattle.mib_model.specs.Packets.{IsCut}
-use Rattle.mib_model.specs.declared.code.Input.TheVariants as input
+use Rattle.run_model.specs.declared.code.Input.TheVariants as input
 use Rattle.mib_model.specs.declared.fault.MibFault.{MibFault}
 use Rattle.mib_model.specs.Summaries.{summary}
 use Rattle.tm_io.specs.Causes.{HasRisen}

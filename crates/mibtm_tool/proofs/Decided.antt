@@ -8,21 +8,21 @@ use Rattle.histories.proofs.HistoryFacts.{IsLegal-front}
 use Rattle.live_desk.specs.declared.desk_end.DeskEnd.{DeskEnd}
 use Rattle.live_desk.specs.DeskEnds.{is_desk_fault, is_reply_fault}
 use Rattle.live_session.specs.Live.{Lives, Object, ending_of}
-use Rattle.mib_laws.specs.Desks.{AreAlone, IsDeskFirst}
-use Rattle.mib_laws.proofs.AloneFacts.{decided}
-use Rattle.mib_laws.proofs.DeskFirst.{goes-first, first-decides}
-use Rattle.mib_model.specs.declared.code.Code.{Code}
+use Rattle.run_laws.specs.Desks.{AreAlone, IsDeskFirst}
+use Rattle.run_laws.proofs.AloneFacts.{decided}
+use Rattle.run_laws.proofs.DeskFirst.{goes-first, first-decides}
+use Rattle.run_model.specs.declared.code.Code.{Code}
 use Rattle.mib_model.specs.declared.database.Database.{Database}
-use Rattle.mib_model.specs.declared.register.Answer.{Answer}
-use Rattle.mib_model.specs.declared.register.Entry.{Entry}
-use Rattle.mib_model.specs.Desk.{DeskReply, DeskState, desk_start}
-use Rattle.mib_model.specs.DeskRuns.{Calls, IsDesk, LineRun, is_want, moves_by, prelude}
-use Rattle.mib_model.specs.Endings.{Ending, code_of_ending}
-use Rattle.mib_model.specs.Output.{output}
+use Rattle.run_model.specs.declared.register.Answer.{Answer}
+use Rattle.run_model.specs.declared.register.Entry.{Entry}
+use Rattle.run_model.specs.Desk.{DeskReply, DeskState, desk_start}
+use Rattle.run_model.specs.DeskRuns.{Calls, IsDesk, LineRun, is_want, moves_by, prelude}
+use Rattle.run_model.specs.Endings.{Ending, code_of_ending}
+use Rattle.run_model.specs.Output.{output}
 use Rattle.mib_model.specs.Packets.{IsCut}
-use Rattle.mib_model.specs.Register.{opening, answer_to, after}
-use Rattle.mib_model.specs.RegisterHistories.{RegisterHistory}
-use Rattle.mib_model.specs.Script as Script
+use Rattle.run_model.specs.Register.{opening, answer_to, after}
+use Rattle.run_model.specs.RegisterHistories.{RegisterHistory}
+use Rattle.run_model.specs.Script as Script
 use Rattle.mib_model.specs.Texts.{rest_unless}
 use Rattle.packet_feed.proofs.Unique.{cut-unique}
 use Rattle.mibtm_tool.proofs.LiveCompleteness.{none-left}

@@ -10,7 +10,7 @@ use Rattle.decode_session.specs.declared.ending.RunEnd.TheVariants as end
 use Rattle.mib_laws.proofs.CutFacts.{each-cut}
 use Rattle.mib_model.specs.declared.database.Database.{Database}
 use Rattle.mib_model.specs.declared.fault.MibFault.{MibFault}
-use Rattle.mib_model.specs.Output.{output_of_one}
+use Rattle.run_model.specs.Output.{output_of_one}
 use Rattle.mib_model.specs.Packets.{IsPacket, IsCut}
 use Rattle.packet_feed.proofs.Unique.{cut-unique}
 use Rattle.tm_drill.proofs.FeedFacts.{packets-cut}

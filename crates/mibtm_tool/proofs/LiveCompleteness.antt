@@ -14,16 +14,16 @@ use Rattle.mib_model.specs.Texts.{rest_unless}
 use Rattle.tm_io.specs.Octets.{WritesUnless}
 use Rattle.tm_io.specs.Causes.{RisesWhere}
 use Rattle.live_session.specs.Live.{Lives, ending_of, from, written_to}
-use Rattle.mib_model.specs.declared.code.Code.{Code}
-use Rattle.mib_model.specs.declared.code.Code.TheVariants as code
-use Rattle.mib_model.specs.declared.code.Input.TheVariants as input
+use Rattle.run_model.specs.declared.code.Code.{Code}
+use Rattle.run_model.specs.declared.code.Code.TheVariants as code
+use Rattle.run_model.specs.declared.code.Input.TheVariants as input
 use Rattle.mib_model.specs.declared.database.Database.{Database}
-use Rattle.mib_model.specs.Endings.{code_of_ending, code_of_rest}
-use Rattle.mib_model.specs.Output.{output}
+use Rattle.run_model.specs.Endings.{code_of_ending, code_of_rest}
+use Rattle.run_model.specs.Output.{output}
 use Rattle.mib_model.specs.Packets.{IsCut}
-use Rattle.mib_model.specs.RegisterHistories.{RegisterHistory}
-use Rattle.mib_model.specs.Replies.{desk_text}
-use Rattle.mib_model.specs.Script.{reaches_limit}
+use Rattle.run_model.specs.RegisterHistories.{RegisterHistory}
+use Rattle.run_model.specs.Replies.{desk_text}
+use Rattle.run_model.specs.Script.{reaches_limit}
 use Rattle.session.specs.Sources.{Files}
 use Rattle.mibtm_tool.proofs.Completeness.{held, not_failed, told}
 use Rattle.mibtm_tool.specs.Live.{AreFound, AreRead, AreSteady, CompletesLive, HoldFiles, LivesWhole, limit_of}

@@ -1,12 +1,12 @@
 -- A live run over tables that are refused, or whose feed isn't there.
 use Rattle.std.proofs.Common.{◌≡◌, ◌⊎◌, List, ℕ, Option, Some, None, Result, Ok, Err, IfSome, IsOkAnd, IsSomeAnd, refl, sym, ◌∙◌, subst, inl, inr}
 use Rattle.std.specs.Prelude.{⊤}
-use Rattle.mib_model.specs.declared.code.Code.{Code}
-use Rattle.mib_model.specs.declared.code.Code.TheVariants as code
-use Rattle.mib_model.specs.declared.code.Input.TheVariants as input
+use Rattle.run_model.specs.declared.code.Code.{Code}
+use Rattle.run_model.specs.declared.code.Code.TheVariants as code
+use Rattle.run_model.specs.declared.code.Input.TheVariants as input
 use Rattle.mib_model.specs.declared.database.Database.{Database}
 use Rattle.mib_model.specs.declared.fault.MibFault.{MibFault}
-use Rattle.mib_model.specs.RegisterHistories.{RegisterHistory}
+use Rattle.run_model.specs.RegisterHistories.{RegisterHistory}
 use Rattle.session.specs.Sources.{Files}
 use Rattle.mibtm_tool.proofs.Completeness.{not_failed, told}
 use Rattle.mibtm_tool.specs.Live.{RefusesLive}

@@ -1,11 +1,11 @@
 -- What a live run says of its objects, from what its part behind the feed says of them.
 use Rattle.std.proofs.Common.{◌≡◌, ℕ, Bool, true, false, List, Option, Some, None, Ok, IfSome, IsOkAnd, IsSomeAnd, is_some, ap, ◌∙◌, subst}
 use Rattle.std.specs.Prelude.{⊤}
-use Rattle.mib_model.specs.declared.code.Code.{Code}
-use Rattle.mib_model.specs.declared.code.Code.TheVariants as code
-use Rattle.mib_model.specs.declared.code.Input.TheVariants as input
+use Rattle.run_model.specs.declared.code.Code.{Code}
+use Rattle.run_model.specs.declared.code.Code.TheVariants as code
+use Rattle.run_model.specs.declared.code.Input.TheVariants as input
 use Rattle.mib_model.specs.declared.database.Database.{Database}
-use Rattle.mib_model.specs.RegisterHistories.{RegisterHistory}
+use Rattle.run_model.specs.RegisterHistories.{RegisterHistory}
 use Rattle.mib_model.specs.Soundness.{IsSound}
 use Rattle.session.specs.Sources.{Files}
 use Rattle.live_session.specs.Live.{Lives, from, object, written_to}

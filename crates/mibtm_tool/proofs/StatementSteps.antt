@@ -4,8 +4,8 @@ use Rattle.mib_model.specs.declared.database.Database.{Database}
 use Rattle.mib_model.specs.declared.fault.MibFault.{MibFault}
 use Rattle.session.specs.Sources.{Files}
 use Rattle.decode_session.specs.Causes.{HasFeedCause, HasOutCause}
-use Rattle.mib_model.specs.declared.code.Code.TheVariants as code
-use Rattle.mib_model.specs.declared.code.Input.TheVariants as input
+use Rattle.run_model.specs.declared.code.Code.TheVariants as code
+use Rattle.run_model.specs.declared.code.Input.TheVariants as input
 use Rattle.tool_objects.specs.Objects.{ShelfView, SinkView, HasStood, IsUncalled, IsUnwritten}
 use Rattle.mibtm_tool.specs.Codes.{code_of_run}
 use Rattle.decode_session.specs.Run.{EndsBy}

@@ -1,7 +1,7 @@
 -- The code that each answer inside a call is. [This profile.]
 use Rattle.std.specs.Prelude.{Result, Ok, Err}
-use Rattle.mib_model.specs.declared.code.Code.{Code}
-use Rattle.mib_model.specs.declared.code.Code.TheVariants as code
+use Rattle.run_model.specs.declared.code.Code.{Code}
+use Rattle.run_model.specs.declared.code.Code.TheVariants as code
 use Rattle.decode_session.specs.declared.ending.Stop.{Stop}
 use Rattle.decode_session.specs.declared.ending.Stop.TheVariants as stop
 use Rattle.decode_session.specs.declared.ending.RunEnd.{RunEnd}

@@ -1,6 +1,6 @@
 -- The summary of a generated run: what is counted of the text that its packets print by its tables. [This profile.]
 use Rattle.std.specs.Prelude.{ℕ, List, []}
-use Rattle.mib_model.specs.Output.{output_of_one}
+use Rattle.run_model.specs.Output.{output_of_one}
 use Rattle.tm_drill.specs.Counts.{counts_of, summary}
 use Rattle.tm_drill.specs.Feed.{drill_packets}
 use Rattle.tm_drill.specs.Tables.{drill_database}

@@ -1,7 +1,7 @@
 -- What is said by what the words ask for. [This profile.]
 use Rattle.std.specs.Prelude.{ℕ, List, Result, Ok, ⊤}
-use Rattle.mib_model.specs.declared.code.Misuse.{Misuse}
-use Rattle.mib_model.specs.Words.{Command, Check, Decode, Live, Drill}
+use Rattle.run_model.specs.declared.code.Misuse.{Misuse}
+use Rattle.run_model.specs.Words.{Command, Check, Decode, Live, Drill}
 
 -- what is said of the folder, where words ask for a check
 abbrev pub IfCheck : Result Command Misuse → (List ℕ → Type 0) → Type 0

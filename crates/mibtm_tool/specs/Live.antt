@@ -6,18 +6,18 @@ use Rattle.decode_session.specs.Run.{most_packets}
 use Rattle.session.specs.Sources.{Files}
 use Rattle.live_desk.specs.DeskEnds.{is_desk_fault, is_reply_fault, limit_line}
 use Rattle.live_session.specs.Live.{Lives, StaysHandedOn, Object, from, read_of, written_to}
-use Rattle.mib_model.specs.declared.code.Code.{Code}
-use Rattle.mib_model.specs.declared.code.Code.TheVariants as code
+use Rattle.run_model.specs.declared.code.Code.{Code}
+use Rattle.run_model.specs.declared.code.Code.TheVariants as code
 use Rattle.mib_model.specs.declared.database.Database.{Database}
-use Rattle.mib_model.specs.Desk.{DeskReply}
-use Rattle.mib_model.specs.DeskRuns.{is_want, prelude}
-use Rattle.mib_model.specs.Endings.{code_of_rest}
-use Rattle.mib_model.specs.Output.{output}
+use Rattle.run_model.specs.Desk.{DeskReply}
+use Rattle.run_model.specs.DeskRuns.{is_want, prelude}
+use Rattle.run_model.specs.Endings.{code_of_rest}
+use Rattle.run_model.specs.Output.{output}
 use Rattle.mib_model.specs.Packets.{IsCut, IsPacket}
-use Rattle.mib_model.specs.RegisterHistories.{RegisterHistory}
-use Rattle.mib_model.specs.Replies.{desk_text}
-use Rattle.mib_model.specs.Script as Script
-use Rattle.mib_model.specs.Script.{reaches_limit}
+use Rattle.run_model.specs.RegisterHistories.{RegisterHistory}
+use Rattle.run_model.specs.Replies.{desk_text}
+use Rattle.run_model.specs.Script as Script
+use Rattle.run_model.specs.Script.{reaches_limit}
 use Rattle.mib_model.specs.Texts.{rest_text, rest_unless}
 use Rattle.tool_objects.specs.Objects.{ShelfView, SinkView, IsUnwritten, Took}
 use Rattle.tool_objects.specs.Sources.{sound_in}

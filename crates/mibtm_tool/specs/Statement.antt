@@ -2,12 +2,12 @@
 use Rattle.std.specs.Prelude.{◌≡◌, ◌≢◌, ◌≤◌, ◌⊎◌, ℕ, List, Option, Some, None, Result, Ok, Err, IfSome, IsOkAnd, IsSomeAnd, ⊤}
 use Rattle.std.specs.Io.KnownBytes.{Appends}
 use Rattle.tm_io.specs.Octets.{AppendsPrefix}
-use Rattle.mib_model.specs.declared.code.Code.{Code}
-use Rattle.mib_model.specs.declared.code.Code.TheVariants as code
-use Rattle.mib_model.specs.declared.code.Input.TheVariants as input
+use Rattle.run_model.specs.declared.code.Code.{Code}
+use Rattle.run_model.specs.declared.code.Code.TheVariants as code
+use Rattle.run_model.specs.declared.code.Input.TheVariants as input
 use Rattle.mib_model.specs.declared.database.Database.{Database}
 use Rattle.mib_model.specs.declared.fault.MibFault.{MibFault}
-use Rattle.mib_model.specs.RegisterHistories.{RegisterHistory}
+use Rattle.run_model.specs.RegisterHistories.{RegisterHistory}
 use Rattle.mib_model.specs.Soundness.{IsSound}
 use Rattle.mib_model.specs.Summaries.{summary}
 use Rattle.edition_register.specs.declared.outcome.Closed.{Closed}

@@ -2,8 +2,8 @@
 use Rattle.std.specs.Prelude.{◌≡◌, ℕ, ◌⊎◌, List, [], ◌++◌, Option, Some, ◌<◌, ◌+◌, ◌^◌, length}
 use Rattle.std.specs.List.{All, concat}
 use Rattle.std.specs.Io.KnownBytes.{Appends}
-use Rattle.mib_model.specs.declared.code.Code.{Code}
-use Rattle.mib_model.specs.declared.code.Code.TheVariants as code
+use Rattle.run_model.specs.declared.code.Code.{Code}
+use Rattle.run_model.specs.declared.code.Code.TheVariants as code
 use Rattle.mib_model.specs.declared.database.Database.{Database}
 use Rattle.mib_model.specs.Packets.{IsPacket, IsCut}
 use Rattle.mib_model.specs.Summaries.{summary}

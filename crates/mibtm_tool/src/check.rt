@@ -12,7 +12,7 @@ use crate::print::print;
 use book_summary::summary_of;
 use decode_session::Stop;
 use folder_tables::sound_book;
-use mib_model::Code;
+use run_model::Code;
 use mib_tables::Book;
 use std::alloc::Global;
 use tm_io::{Shelf, Sink};

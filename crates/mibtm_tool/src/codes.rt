@@ -4,7 +4,7 @@ ghost use Rattle.mibtm_tool.specs.Codes.{code_of_run, code_of_stop};
 
 use decode_session::{RunEnd, RunFault, Stop};
 use live_session::code_of_end;
-use mib_model::Code;
+use run_model::Code;
 
 /// The code of a stop.
 pub(crate) fn stop_code(stop: Stop) -> Code

@@ -6,7 +6,7 @@ ghost use Rattle.mibtm_tool.specs.Statement.{Decoded};
 use crate::codes::run_code;
 use decode_session::decode_run;
 use folder_edition::folder_edition;
-use mib_model::{Code, Input};
+use run_model::{Code, Input};
 use std::alloc::Global;
 use std::thread::Threads;
 use tm_io::{Shelf, Sink};

@@ -1,6 +1,6 @@
 // The command `drill`: a generated run, and the counts of what is printed of it.
 ghost use Rattle.std.specs.Prelude.{◌≡◌, [], IfOk};
-ghost use Rattle.mib_model.specs.Output.{output_of_one};
+ghost use Rattle.run_model.specs.Output.{output_of_one};
 ghost use Rattle.tm_drill.specs.Counts.{counts_of};
 ghost use Rattle.tm_drill.specs.Feed.{drill_packets};
 ghost use Rattle.tm_drill.specs.Tables.{drill_database};
@@ -13,7 +13,7 @@ use decode_session::decode_run;
 use edition::Edition;
 use edition_plans::Plans;
 use folder_edition::book_edition;
-use mib_model::Code;
+use run_model::Code;
 use std::alloc::{AllocError, Global};
 use std::thread::Threads;
 use tm_drill::{Counter, Counts, Replay, drill_feed, drill_tables};

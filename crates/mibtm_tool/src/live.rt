@@ -9,7 +9,7 @@ use crate::commands::Status;
 use edition::Edition;
 use folder_edition::{folder_edition, let_go};
 use live_session::{Host, Lived, live_run};
-use mib_model::{Code, Input};
+use run_model::{Code, Input};
 use packet_run::MOST_WORKERS;
 use std::sync::Wait;
 use std::thread::Threads;

@@ -10,7 +10,7 @@ pub use Rattle.edition_register.specs.Shown.{HasItsTables, last_stamped, stamped
 pub use Rattle.fold_state.specs.Boards.{is_made_for, memory_of, plan_names, planned_names, Slots}
 pub use Rattle.histories.specs.History.{move, moves_of, Permits, StartsWith}
 pub use Rattle.mib_model.specs.Interpreter.{Course, course_after, record_for, records_text, StampedPacket, start, title_of, values_of}
-pub use Rattle.mib_model.specs.RegisterHistories.{IsRegisterHistory, MayEnter, register_after, RegisterHistory}
+pub use Rattle.run_model.specs.RegisterHistories.{IsRegisterHistory, MayEnter, register_after, RegisterHistory}
 pub use Rattle.mib_model.specs.Texts.{cut_text, edition_text_of, ended_text, head_text, record_body, record_text, rest_text, rest_unless, told_text}
 pub use Rattle.mib_model.specs.declared.database.Database.{Database}
 pub use Rattle.std.proofs.KnownBytes.{Appends-nil, Appends-trans, Consumes-nil, Consumes-trans, Consumes-whole}

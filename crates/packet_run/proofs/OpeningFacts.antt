@@ -3,14 +3,14 @@ use Rattle.packet_run.proofs.Common.{[], ℕ, ◌++◌, ◌-◌, ◌∙◌, ◌�
 use Rattle.edition_plans.specs.Params.{param_slices}
 use Rattle.edition_register.proofs.RegisterFacts.{editions-of}
 use Rattle.mib_model.specs.Database.{no_rows}
-use Rattle.mib_model.specs.Register.{opening}
-use Rattle.mib_model.specs.declared.register.Answer.{Answer}
+use Rattle.run_model.specs.Register.{opening}
+use Rattle.run_model.specs.declared.register.Answer.{Answer}
 use Rattle.mib_model.specs.declared.rows.PcfRow.{PcfRow}
 use Rattle.param_plan.specs.Slices.{slice_for}
 use Rattle.std.proofs.lemmas.Slice.Eq.{bytes_eq-Decides, slice_eq-Decides}
 use Rattle.std.proofs.ByRecursion
-use Rattle.mib_model.specs.declared.register.Answer.TheVariants as answer
-use Rattle.mib_model.specs.declared.register.Entry.TheVariants as entry
+use Rattle.run_model.specs.declared.register.Answer.TheVariants as answer
+use Rattle.run_model.specs.declared.register.Entry.TheVariants as entry
 
 names-of : (db : Database) (rows : List PcfRow) → map (λ slice. slice.pcf.name) (map (slice_for db) rows) ≡ map (λ row. row.name) rows
 names-of db [] = refl

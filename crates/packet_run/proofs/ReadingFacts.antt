@@ -2,11 +2,11 @@
 use Rattle.packet_run.proofs.Common.{[], ℕ, ◌++◌, ◌+◌, ◌==◌, ◌∙◌, ◌∷◌, ◌≡◌, All-nil, All-push, ap, append-nil, append_assoc, arith, concat, Consumes, Consumes-nil, Consumes-trans, Database, filter-append, IsRegisterHistory, IsStamped, Known, last_stamped, length, length-append, List, MayEnter, move, moves_of, packet_in, Permits, Reads, refl, register_after, RegisterHistory, stamp_of, stamped_as, stamped_by, stamped_by_moves, stamped_with, StampedPacket, subst, sym}
 use Rattle.edition_register.proofs.RegisterFacts.{intake-counts}
 use Rattle.mib_model.specs.Packets.{IsPacket}
-use Rattle.mib_model.specs.Register.{answer_to}
+use Rattle.run_model.specs.Register.{answer_to}
 use Rattle.std.proofs.lemmas.List.Folds.{concat-append}
 use Rattle.packet_run.specs.declared.reading.Stamped.{Stamped}
-use Rattle.mib_model.specs.declared.register.Answer.TheVariants as answer
-use Rattle.mib_model.specs.declared.register.Entry.TheVariants as entry
+use Rattle.run_model.specs.declared.register.Answer.TheVariants as answer
+use Rattle.run_model.specs.declared.register.Entry.TheVariants as entry
 
 next-is : (first : Database) (before : RegisterHistory) (n e : ℕ) (shown : Database)
     → answer.Stamped n e shown ≡ answer_to (register_after first before) entry.Stamp → n ≡ (register_after first before).next

@@ -5,7 +5,7 @@ use Rattle.decode_session.specs.Causes.{HasFillCause}
 use Rattle.decode_session.specs.Run.{most_packets}
 use Rattle.mib_model.specs.declared.database.Database.{Database}
 use Rattle.mib_model.specs.Interpreter.{StampedPacket}
-use Rattle.mib_model.specs.RegisterHistories.{RegisterHistory}
+use Rattle.run_model.specs.RegisterHistories.{RegisterHistory}
 use Rattle.struct_plan.specs.declared.structure.Structures as Structures
 use Rattle.tm_io.specs.Causes.{HasRisen}
 use Rattle.packet_run.specs.declared.in_use.InUse.{InUse}

@@ -8,13 +8,13 @@ use Rattle.fold_state.specs.Boards.{is_made_for}
 use Rattle.histories.specs.History.{move}
 use Rattle.histories.specs.declared.history.Move.{Move}
 use Rattle.mib_model.specs.declared.database.Database.{Database}
-use Rattle.mib_model.specs.declared.register.Answer.{Answer}
-use Rattle.mib_model.specs.declared.register.Answer.TheVariants as answer
-use Rattle.mib_model.specs.declared.register.Entry.{Entry}
-use Rattle.mib_model.specs.declared.register.Entry.TheVariants as entry
+use Rattle.run_model.specs.declared.register.Answer.{Answer}
+use Rattle.run_model.specs.declared.register.Answer.TheVariants as answer
+use Rattle.run_model.specs.declared.register.Entry.{Entry}
+use Rattle.run_model.specs.declared.register.Entry.TheVariants as entry
 use Rattle.mib_model.specs.Interpreter.{StampedPacket}
 use Rattle.mib_model.specs.Packets.{IsPacket}
-use Rattle.mib_model.specs.RegisterHistories.{RegisterHistory}
+use Rattle.run_model.specs.RegisterHistories.{RegisterHistory}
 use Rattle.packet_run.specs.declared.reading.Stamped.{Stamped}
 use Rattle.packet_run.specs.Stamped.{stamped_by_moves}
 

@@ -11,7 +11,7 @@ use Rattle.decode_session.specs.Run.{most_in_flight, most_packets}
 use Rattle.mib_model.specs.declared.database.Database.{Database}
 use Rattle.mib_model.specs.Interpreter.{StampedPacket, start}
 use Rattle.mib_model.specs.Packets.{IsCut}
-use Rattle.mib_model.specs.RegisterHistories.{RegisterHistory}
+use Rattle.run_model.specs.RegisterHistories.{RegisterHistory}
 use Rattle.mib_model.specs.Texts.{rest_unless}
 use Rattle.struct_plan.specs.declared.structure.Structures as Structures
 use Rattle.tm_io.specs.Causes.{RisesWhere}

@@ -2,7 +2,7 @@
 ghost use Rattle.std.specs.Prelude.{◌≡◌, ◌≢◌, ◌⊎◌, ◌≤◌, ◌+◌, ℕ, List, Option, Err, vec_len};
 ghost use Rattle.commit_order.specs.Windows.{next_of};
 ghost use Rattle.decode_session.specs.Causes.{HasOutCause};
-ghost use Rattle.mib_model.specs.RegisterHistories.{RegisterHistory};
+ghost use Rattle.run_model.specs.RegisterHistories.{RegisterHistory};
 ghost use Rattle.packet_run.specs.Ending.{EndsAs, PutsEnds};
 ghost use Rattle.packet_run.specs.Feeding.{Fed, HasUntilCause, HasWriteCause};
 ghost use Rattle.packet_run.specs.Told.{From};

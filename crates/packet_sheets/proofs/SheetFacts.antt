@@ -5,7 +5,7 @@ use Rattle.memory_laws.specs.Alike.{TellAlike}
 use Rattle.mib_model.specs.declared.database.Database.{Database}
 use Rattle.mib_model.specs.Interpreter.{StampedPacket}
 use Rattle.mib_model.specs.Kept.{Memory}
-use Rattle.mib_model.specs.Output.{stamped_first, stamped_from}
+use Rattle.mib_model.specs.Interpreter.{stamped_first, stamped_from}
 use Rattle.line_sheets.specs.Pieces.{Played, and_then, behind, played}
 use Rattle.line_sheets.specs.Sheets.{SheetView, no_sheet, pieces_of}
 use Rattle.line_sheets.specs.Drawings.{AddsFor, IsSheetFor, packet_played, packets_played}

@@ -6,7 +6,7 @@ ghost use Rattle.fold_state.specs.Demands.{AreDemandsOf};
 ghost use Rattle.line_sheets.specs.Drawings.{AddsFor, IsSheetFor, packet_played};
 ghost use Rattle.mib_model.specs.Fixed.{most_values};
 ghost use Rattle.mib_model.specs.Headers.{header_of};
-ghost use Rattle.mib_model.specs.Output.{stamped_first, stamped_from};
+ghost use Rattle.mib_model.specs.Interpreter.{stamped_first, stamped_from};
 ghost use Rattle.mib_model.specs.Packets.{IsPacket};
 
 use crate::stretch::Stretch;

@@ -1,7 +1,7 @@
 -- The worked examples, computed.
 use Rattle.std.proofs.Common.{refl}
 use Rattle.std.specs.Fmt.{digits}
-use Rattle.mib_model.specs.Faults.{code_line}
+use Rattle.run_model.specs.Faults.{code_line}
 use Rattle.mib_model.specs.Lines.{lines_of}
 use Rattle.page_texts.specs.Codes.{board_line, board_number}
 use Rattle.page_texts.specs.Examples.{EndExamples, PageFileExamples}

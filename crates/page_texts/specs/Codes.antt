@@ -1,10 +1,10 @@
 -- The exit statuses of a board, and the lines of its ends. [This profile.]
 use Rattle.std.specs.Prelude.{ℕ, List, [], ◌++◌, codes, decimal, Option, Some, None}
-use Rattle.mib_model.specs.declared.code.Code.{Code}
-use Rattle.mib_model.specs.declared.code.Code.TheVariants as plain
-use Rattle.mib_model.specs.declared.code.Input.TheVariants as input
-use Rattle.mib_model.specs.Codes.{code_number}
-use Rattle.mib_model.specs.Faults.{code_line}
+use Rattle.run_model.specs.declared.code.Code.{Code}
+use Rattle.run_model.specs.declared.code.Code.TheVariants as plain
+use Rattle.run_model.specs.declared.code.Input.TheVariants as input
+use Rattle.run_model.specs.Codes.{code_number}
+use Rattle.run_model.specs.Faults.{code_line}
 use Rattle.page_texts.specs.declared.code.BoardCode.{BoardCode}
 use Rattle.page_texts.specs.declared.code.BoardCode.TheVariants as code
 use Rattle.page_texts.specs.declared.code.BoardInput.TheVariants as board_input

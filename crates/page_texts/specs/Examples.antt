@@ -1,6 +1,6 @@
 -- Files of names, and the lines and numbers of a board's ends. [This profile.]
 use Rattle.std.specs.Prelude.{◌≡◌, [], codes, Some, None}
-use Rattle.mib_model.specs.declared.code.Misuse.TheVariants as misuse
+use Rattle.run_model.specs.declared.code.Misuse.TheVariants as misuse
 use Rattle.page_texts.specs.declared.code.BoardCode.TheVariants as code
 use Rattle.page_texts.specs.declared.code.BoardInput.TheVariants as input
 use Rattle.page_texts.specs.Codes.{board_line, board_number}

@@ -1,4 +1,5 @@
-use mib_model::{MibFault, Misuse};
+use mib_model::MibFault;
+use run_model::Misuse;
 
 /// An input of a board that isn't there.
 #[derive(Clone, Copy, Debug, PartialEq, Eq)]

@@ -3,8 +3,9 @@ ghost use Rattle.std.specs.Prelude.{◌≡◌, ◌≤◌, ◌++◌, codes, decim
 ghost use Rattle.page_texts.specs.Codes as Spec;
 
 use crate::code::{BoardCode, BoardInput};
-use mib_model::{Code, Input, Line};
-use record_text::{add_number, code_line};
+use mib_model::Line;
+use run_model::{Code, Input};
+use reply_text::{add_number, code_line};
 
 // Writes the line of a file of names that is refused into an empty line.
 fn add_bad_page(line: u32, out: &mut Line)

@@ -12,7 +12,7 @@ ghost use Rattle.page_texts.specs.declared.page_text.TheConstants.{CELL_ROOM, GA
 
 use display_pages::{Cell, Page};
 use mib_model::{Class, Line, Name};
-use record_text::add_number;
+use reply_text::add_number;
 use tm_io::{Failed, Sink, write_all};
 
 // The most octets of a line of a page.

@@ -6,18 +6,18 @@ use Rattle.std.specs.List.{IsAmong}
 use Rattle.std.specs.Arc.{arc_value}
 use Rattle.histories.specs.History.{move}
 use Rattle.mib_model.specs.declared.database.Database.{Database}
-use Rattle.mib_model.specs.declared.register.Answer.{Answer}
-use Rattle.mib_model.specs.declared.register.Answer.TheVariants as answer
-use Rattle.mib_model.specs.declared.register.Entry.{Entry}
-use Rattle.mib_model.specs.declared.register.Entry.TheVariants as entry
-use Rattle.mib_model.specs.declared.reply.Reply.{Reply}
-use Rattle.mib_model.specs.declared.reply.Reply.TheVariants as reply
-use Rattle.mib_model.specs.Desk.{DeskState, Done, Ask, Plain, Took}
-use Rattle.mib_model.specs.DeskLines as Spec
-use Rattle.mib_model.specs.DeskLines.{Request}
-use Rattle.mib_model.specs.DeskRuns.{Follows, look_of, may_want}
-use Rattle.mib_model.specs.DeskWays.{looked, took, use_reply, way_of}
-use Rattle.mib_model.specs.RegisterHistories.{RegisterHistory}
+use Rattle.run_model.specs.declared.register.Answer.{Answer}
+use Rattle.run_model.specs.declared.register.Answer.TheVariants as answer
+use Rattle.run_model.specs.declared.register.Entry.{Entry}
+use Rattle.run_model.specs.declared.register.Entry.TheVariants as entry
+use Rattle.run_model.specs.declared.reply.Reply.{Reply}
+use Rattle.run_model.specs.declared.reply.Reply.TheVariants as reply
+use Rattle.run_model.specs.Desk.{DeskState, Done, Ask, Plain, Took}
+use Rattle.run_model.specs.DeskLines as Spec
+use Rattle.run_model.specs.DeskLines.{Request}
+use Rattle.run_model.specs.DeskRuns.{Follows, look_of, may_want}
+use Rattle.run_model.specs.DeskWays.{looked, took, use_reply, way_of}
+use Rattle.run_model.specs.RegisterHistories.{RegisterHistory}
 use Rattle.turn_cell.specs.Seats.{own_moves}
 use Rattle.edition_register.specs.declared.outcome.UseFault.{UseFault}
 use Rattle.edition_register.specs.declared.start.Start.{Start}

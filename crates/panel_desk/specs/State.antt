@@ -1,5 +1,5 @@
 -- What contracts see of a desk among several. [This profile.]
-use Rattle.mib_model.specs.Desk.{DeskState}
+use Rattle.run_model.specs.Desk.{DeskState}
 use Rattle.desk.specs.Drafts.{state_by}
 use Rattle.panel_desk.specs.declared.panel_desk.PanelDesk.{PanelDesk}
 

@@ -5,10 +5,10 @@ use Rattle.edition_register.specs.declared.start.Start.{Start}
 use Rattle.edition_register.specs.Seats.{Moves, RegisterSeat}
 use Rattle.fold_state.specs.Boards.{Slots, is_made_for}
 use Rattle.mib_model.specs.declared.database.Database.{Database}
-use Rattle.mib_model.specs.declared.register.Answer.TheVariants as answer
-use Rattle.mib_model.specs.declared.register.Entry.TheVariants as entry
-use Rattle.mib_model.specs.declared.reply.Reply.{Reply}
-use Rattle.mib_model.specs.declared.reply.Reply.TheVariants as reply
+use Rattle.run_model.specs.declared.register.Answer.TheVariants as answer
+use Rattle.run_model.specs.declared.register.Entry.TheVariants as entry
+use Rattle.run_model.specs.declared.reply.Reply.{Reply}
+use Rattle.run_model.specs.declared.reply.Reply.TheVariants as reply
 
 module _ {P : Type 0} where
   -- a seat looked at an edition: a start came with its tables, for which its board was made; or there is no such edition; or memory was wanting

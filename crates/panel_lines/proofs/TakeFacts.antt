@@ -5,7 +5,7 @@ use Rattle.std.proofs.lemmas.Slice.Eq.{bytes_eq-Decides}
 use Rattle.std.specs.List.{starts_with}
 use Rattle.std.specs.Str.{bytes_eq}
 use Rattle.std.specs.Str.Lines.{strip_carriage_return}
-use Rattle.mib_model.specs.DeskLines as Spec
+use Rattle.run_model.specs.DeskLines as Spec
 use Rattle.desk_lines.specs.Requests.{cut}
 use Rattle.desk_lines.proofs.CutFacts.{words-some, words-one, words-more}
 

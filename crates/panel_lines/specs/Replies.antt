@@ -1,5 +1,5 @@
 -- The reply of a desk among several. [This profile.]
-use Rattle.mib_model.specs.Desk.{DeskReply, Plain, Stale, Took}
+use Rattle.run_model.specs.Desk.{DeskReply, Plain, Stale, Took}
 use Rattle.panel_lines.specs.declared.reply.PanelReply.{PanelReply}
 use Rattle.panel_lines.specs.declared.reply.PanelReply.TheVariants as reply
 

@@ -1,5 +1,5 @@
 -- The request that a line's form is at a desk among several. [This profile.]
-use Rattle.mib_model.specs.DeskLines as Spec
+use Rattle.run_model.specs.DeskLines as Spec
 use Rattle.desk_lines.specs.Requests.{asked}
 use Rattle.panel_lines.specs.declared.request.PanelRequest.{PanelRequest}
 use Rattle.panel_lines.specs.declared.request.PanelRequest.TheVariants as request

@@ -1,11 +1,13 @@
 //! The lines of replies.
 ghost use Rattle.std.specs.Prelude.{◌≡◌, ◌≤◌, ◌+◌, ◌++◌, [], length, codes, decimal, Some};
-ghost use Rattle.mib_model.specs.Replies.{desk_line, reply_text};
+ghost use Rattle.run_model.specs.Replies.{desk_line, reply_text};
 ghost use Rattle.mib_model.specs.declared.line.TheConstants.{LINE_ROOM};
 ghost use Rattle.panel_lines.specs.Replies.{told};
 
-use mib_model::{Line, Reply};
-use record_text::{add_number, reply_line};
+use mib_model::Line;
+
+use run_model::Reply;
+use reply_text::{add_number, reply_line};
 
 /// The answer to a line of a desk among several.
 #[derive(Clone, Copy, Debug, PartialEq, Eq)]

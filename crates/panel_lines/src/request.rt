@@ -2,7 +2,7 @@
 ghost use Rattle.std.specs.Prelude.{◌≡◌, ◌⊎◌, true, false, codes};
 ghost use Rattle.std.specs.Str.{bytes_eq};
 ghost use Rattle.std.specs.Str.Lines.{strip_carriage_return};
-ghost use Rattle.mib_model.specs.DeskLines as Spec;
+ghost use Rattle.run_model.specs.DeskLines as Spec;
 ghost use Rattle.panel_lines.specs.Requests.{panel_asked};
 
 use desk_lines::{Request, request_of};

@@ -6,7 +6,7 @@ use Rattle.histories.specs.History.{StartsWith, moves_of}
 use Rattle.live_desk.specs.declared.desk_end.DeskEnd.{DeskEnd}
 use Rattle.live_desk.specs.Scripts.{Worked}
 use Rattle.live_desk.specs.Standing.{Standing}
-use Rattle.mib_model.specs.RegisterHistories.{RegisterHistory}
+use Rattle.run_model.specs.RegisterHistories.{RegisterHistory}
 
 -- what has no move of a seat has none at its front
 pub none-in-front : (seat : ℕ) (front all : RegisterHistory) → StartsWith all front → moves_of seat all ≡ [] → moves_of seat front ≡ []

@@ -7,7 +7,7 @@ use Rattle.live_desk.specs.declared.desk_end.DeskEnd.{DeskEnd}
 use Rattle.live_desk.specs.declared.desk_end.DeskEnd.TheVariants as end
 use Rattle.live_desk.specs.DeskEnds.{is_desk_fault, is_reply_fault}
 use Rattle.live_session.specs.Live.{ending_of}
-use Rattle.mib_model.specs.Endings.{Ending, code_of_ending}
+use Rattle.run_model.specs.Endings.{Ending, code_of_ending}
 use Rattle.panel_session.specs.Codes.{graver, with_end}
 use Rattle.panel_session.specs.Lanes.{Lane}
 use Rattle.panel_session.specs.Panel.{Station, panel_ending}

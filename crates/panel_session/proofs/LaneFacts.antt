@@ -10,8 +10,8 @@ use Rattle.live_desk.specs.Scripts.{HasRepliesCause, Worked, fails_to_reply}
 use Rattle.live_desk.proofs.DeskFacts.{starts-more}
 use Rattle.live_session.proofs.LiveFacts.{unfailed}
 use Rattle.mib_model.specs.declared.database.Database.{Database}
-use Rattle.mib_model.specs.Desk.{DeskState}
-use Rattle.mib_model.specs.RegisterHistories.{RegisterHistory}
+use Rattle.run_model.specs.Desk.{DeskState}
+use Rattle.run_model.specs.RegisterHistories.{RegisterHistory}
 use Rattle.panel_session.specs.Lanes.{AllBegin, AllGoOn, BeginsSo, GoesOnFrom, Lane, Seen, Tells, standing_in}
 use Rattle.panel_session.specs.Panel.{AllKeep, HaveObjects, Keeps, StandInOrder, Stands, Station}
 use Rattle.panel_session.proofs.StandFacts.{IsNew, stands-both, stands-early, station_of}

@@ -14,11 +14,11 @@ use Rattle.live_session.specs.Live.{ending_of, object}
 use Rattle.live_session.proofs.EndFacts.{Known, code-is}
 use Rattle.live_session.proofs.LiveFacts.{prints-of}
 use Rattle.live_session.proofs.PlanFacts.{MovesPlanned, desk-planned, planned-of}
-use Rattle.mib_model.specs.declared.code.Code.{Code}
+use Rattle.run_model.specs.declared.code.Code.{Code}
 use Rattle.mib_model.specs.declared.database.Database.{Database}
-use Rattle.mib_model.specs.Desk.{desk_start}
-use Rattle.mib_model.specs.Endings.{code_of_ending}
-use Rattle.mib_model.specs.RegisterHistories.{IsRegisterHistory, MayEnter, RegisterHistory}
+use Rattle.run_model.specs.Desk.{desk_start}
+use Rattle.run_model.specs.Endings.{code_of_ending}
+use Rattle.run_model.specs.RegisterHistories.{IsRegisterHistory, MayEnter, RegisterHistory}
 use Rattle.packet_run.specs.Runs.{Runs, is_out_failed}
 use Rattle.packet_run.specs.Told.{Member, begun}
 use Rattle.panel_session.specs.declared.side.DeskSide.{DeskSide}

@@ -1,7 +1,7 @@
 -- What desks own and what is seen of their objects, one more or none.
 use Rattle.std.proofs.Common.{◌≡◌, ◌∙◌, ℕ, zero, suc, List, [], ◌∷◌, ◌++◌, map, length, take, refl, sym, ap, subst, arith}
 use Rattle.std.specs.List.{AllByRecursion}
-use Rattle.mib_model.specs.RegisterHistories.{RegisterHistory}
+use Rattle.run_model.specs.RegisterHistories.{RegisterHistory}
 use Rattle.panel_session.specs.declared.side.DeskSide.{DeskSide}
 use Rattle.panel_session.specs.Lanes.{AllBegin, AllGoOn, BeginsSo, GoesOn, HasRoom, Lane, Seen, lane_of, lanes}
 

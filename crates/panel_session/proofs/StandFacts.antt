@@ -10,9 +10,9 @@ use Rattle.live_desk.specs.Standing.{Standing}
 use Rattle.live_desk.proofs.DeskFacts.{desked-both, desked-early}
 use Rattle.live_session.specs.Live.{object}
 use Rattle.mib_model.specs.declared.database.Database.{Database}
-use Rattle.mib_model.specs.Desk.{desk_start}
-use Rattle.mib_model.specs.DeskRuns.{Calls}
-use Rattle.mib_model.specs.RegisterHistories.{RegisterHistory}
+use Rattle.run_model.specs.Desk.{desk_start}
+use Rattle.run_model.specs.DeskRuns.{Calls}
+use Rattle.run_model.specs.RegisterHistories.{RegisterHistory}
 use Rattle.panel_session.specs.Begun.{Begins}
 use Rattle.panel_session.specs.Panel.{Stands, Station}
 use Rattle.tm_io.specs.Causes.{RisesWhere}

@@ -4,7 +4,7 @@ use Rattle.histories.specs.History.{StartsWith, moves_of}
 use Rattle.live_desk.specs.declared.desk_end.DeskEnd.{DeskEnd}
 use Rattle.live_desk.specs.Scripts.{Worked}
 use Rattle.live_desk.specs.Standing.{Standing}
-use Rattle.mib_model.specs.RegisterHistories.{RegisterHistory}
+use Rattle.run_model.specs.RegisterHistories.{RegisterHistory}
 
 -- the desk of this number handled its lines up to the first `go`, or to the end of its script: from what was seen of the history before, in which
 -- it had no move, to what is seen now, in which all of its moves stand, and no stamp

@@ -6,8 +6,8 @@ use Rattle.histories.specs.History.{StartsWith}
 use Rattle.live_desk.specs.declared.desk_end.DeskEnd.{DeskEnd}
 use Rattle.live_desk.specs.Scripts.{HasDeskCause, HasRepliesCause, Worked, fails_to_reply}
 use Rattle.live_desk.specs.Standing.{Standing}
-use Rattle.mib_model.specs.Desk.{DeskState}
-use Rattle.mib_model.specs.RegisterHistories.{RegisterHistory}
+use Rattle.run_model.specs.Desk.{DeskState}
+use Rattle.run_model.specs.RegisterHistories.{RegisterHistory}
 use Rattle.panel_desk.specs.State.{panel_state}
 use Rattle.panel_session.specs.declared.side.DeskSide.{DeskSide}
 use Rattle.panel_session.specs.Begun.{Begins}

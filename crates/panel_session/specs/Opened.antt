@@ -7,7 +7,7 @@ use Rattle.edition_register.specs.Panels.{AreDesksFrom}
 use Rattle.edition_register.specs.Seats.{IsSeat, first_of}
 use Rattle.live_session.specs.Sides.{IsReady}
 use Rattle.mib_model.specs.declared.database.Database.{Database}
-use Rattle.mib_model.specs.Desk.{desk_start}
+use Rattle.run_model.specs.Desk.{desk_start}
 use Rattle.panel_desk.specs.State.{panel_state}
 use Rattle.panel_session.specs.declared.opening.PanelRun.{PanelRun}
 use Rattle.panel_session.specs.declared.side.DeskSide.{DeskSide}

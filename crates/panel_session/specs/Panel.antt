@@ -7,10 +7,10 @@ use Rattle.live_desk.specs.declared.desk_end.DeskEnd.{DeskEnd}
 use Rattle.live_desk.specs.DeskEnds.{is_desk_fault, is_reply_fault}
 use Rattle.live_desk.specs.Scripts.{DeskedAt}
 use Rattle.live_session.specs.Live.{Object, Prints, object}
-use Rattle.mib_model.specs.declared.code.Code.{Code}
+use Rattle.run_model.specs.declared.code.Code.{Code}
 use Rattle.mib_model.specs.declared.database.Database.{Database}
-use Rattle.mib_model.specs.Endings.{Ending, code_of_ending}
-use Rattle.mib_model.specs.RegisterHistories.{AddsItsPlans, IsRegisterHistory, MayEnter, RegisterHistory}
+use Rattle.run_model.specs.Endings.{Ending, code_of_ending}
+use Rattle.run_model.specs.RegisterHistories.{AddsItsPlans, IsRegisterHistory, MayEnter, RegisterHistory}
 use Rattle.panel_session.specs.Lanes.{Seen}
 use Rattle.tm_io.specs.Causes.{RisesWhere}
 

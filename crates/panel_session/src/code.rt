@@ -7,7 +7,7 @@ use crate::side::DeskSide;
 use decode_session::{RunEnd, RunFault};
 use live_desk::DeskEnd;
 use live_session::merged;
-use mib_model::Code;
+use run_model::Code;
 
 // The gravest of so many ends and that of one desk more, where it has ended.
 fn with_end(worst: DeskEnd, end: Option<DeskEnd>) -> DeskEnd

@@ -1,4 +1,4 @@
-use mib_model::Misuse;
+use run_model::Misuse;
 use std::env;
 use std::io::ErrorKind;
 use std::rt::Env;

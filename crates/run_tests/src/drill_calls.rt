@@ -1,5 +1,5 @@
 use crate::folders::{call, sink};
-use mib_model::Code;
+use run_model::Code;
 use std::test::Fail;
 use tm_io::MemShelf;
 

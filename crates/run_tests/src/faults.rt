@@ -1,7 +1,7 @@
 // A live run whose objects fail: each at the borders of what it gives or takes, and at every tenth place between.
 use crate::folders::{PACKET, feed, file, sink};
 use crate::lives::{CURVE, Objects, live};
-use mib_model::Code;
+use run_model::Code;
 use std::alloc::Global;
 use std::process::Abort;
 use std::sync::Wait;

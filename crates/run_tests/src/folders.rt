@@ -1,6 +1,6 @@
 ghost use Rattle.std.specs.Prelude.{◌≤◌};
 
-use mib_model::{Code, Input};
+use run_model::{Code, Input};
 use mibtm_tool::tool;
 use std::alloc::Global;
 use std::sync::Wait;

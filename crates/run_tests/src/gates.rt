@@ -2,7 +2,7 @@
 use crate::folders::{PACKET, feed, words};
 use crate::lives::Objects;
 use crate::pools::{COUPLED, Couples};
-use mib_model::Code;
+use run_model::Code;
 use mibtm_tool::tool;
 use std::sync::atomic::Ordering;
 use std::test::Fail;

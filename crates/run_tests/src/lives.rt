@@ -1,7 +1,7 @@
 // Live runs over objects in memory, by one worker, by two and by four.
 use crate::checks::{Change, folder, text};
 use crate::folders::{PACKET, feed, file, sink, words};
-use mib_model::Code;
+use run_model::Code;
 use mibtm_tool::tool;
 use std::alloc::Global;
 use std::sync::Wait;

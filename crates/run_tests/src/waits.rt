@@ -1,7 +1,7 @@
 // A desk that is answered while the feed waits.
 use crate::checks::folder;
 use crate::folders::{PACKET, sink, words};
-use mib_model::Code;
+use run_model::Code;
 use mibtm_tool::tool;
 use std::alloc::Global;
 use std::sync::Wait;

@@ -6,25 +6,25 @@ use Rattle.mib_model.specs.Database.{no_rows}
 use Rattle.mib_model.specs.declared.fault.MibFault.{MibFault}
 use Rattle.mib_model.specs.declared.key.Key.{Key}
 use Rattle.mib_model.specs.declared.kind.Kind.{Kind}
-use Rattle.mib_model.specs.declared.register.Answer.{Answer}
-use Rattle.mib_model.specs.declared.register.Answer.TheVariants as answer
-use Rattle.mib_model.specs.declared.register.Entry.{Entry}
-use Rattle.mib_model.specs.declared.register.Entry.TheVariants as entry
-use Rattle.mib_model.specs.declared.register.Register.{Register}
-use Rattle.mib_model.specs.declared.register.Scheduled.{Scheduled}
-use Rattle.mib_model.specs.declared.reply.Reply.{Reply}
-use Rattle.mib_model.specs.declared.reply.Reply.TheVariants as reply
+use Rattle.run_model.specs.declared.register.Answer.{Answer}
+use Rattle.run_model.specs.declared.register.Answer.TheVariants as answer
+use Rattle.run_model.specs.declared.register.Entry.{Entry}
+use Rattle.run_model.specs.declared.register.Entry.TheVariants as entry
+use Rattle.run_model.specs.declared.register.Register.{Register}
+use Rattle.run_model.specs.declared.register.Scheduled.{Scheduled}
+use Rattle.run_model.specs.declared.reply.Reply.{Reply}
+use Rattle.run_model.specs.declared.reply.Reply.TheVariants as reply
 use Rattle.mib_model.specs.declared.rows.Row.{Row}
-use Rattle.mib_model.specs.Desk.{DeskState, Plain, Way, Done, Ask, says}
-use Rattle.mib_model.specs.DeskLines as Lines
-use Rattle.mib_model.specs.DeskLines.{Request}
-use Rattle.mib_model.specs.DeskWays.{way_of, put_way, delete_way, save_way, saved, use_way, use_reply, put_reply}
+use Rattle.run_model.specs.Desk.{DeskState, Plain, Way, Done, Ask, says}
+use Rattle.run_model.specs.DeskLines as Lines
+use Rattle.run_model.specs.DeskLines.{Request}
+use Rattle.run_model.specs.DeskWays.{way_of, put_way, delete_way, save_way, saved, use_way, use_reply, put_reply}
 use Rattle.mib_model.specs.Drafts.{is_held, put_in, rows_of, with_rows, without_key}
 use Rattle.mib_model.specs.Keys.{key_in}
 use Rattle.mib_model.specs.Plans.{plans}
 use Rattle.mib_model.specs.Points.{first_of}
 use Rattle.mib_model.specs.Reading.{row_read, key_read}
-use Rattle.mib_model.specs.Register.{added, after, answer_to, with_activation, with_tables}
+use Rattle.run_model.specs.Register.{added, after, answer_to, with_activation, with_tables}
 use Rattle.mib_model.specs.RowTexts.{kind_in}
 use Rattle.mib_model.specs.Soundness.{IsSound, first_flaw}
 use Rattle.mib_tables.specs.Kinds.{kind_of_key}

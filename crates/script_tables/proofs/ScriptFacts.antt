@@ -4,8 +4,8 @@ use Rattle.std.specs.Io.KnownBytes.{Consumes}
 use Rattle.desk_lines.specs.Ahead.{Reading, reading_start, still}
 use Rattle.desk_lines.specs.Gives.{TakesLine}
 use Rattle.mib_model.specs.declared.database.Database.{Database}
-use Rattle.mib_model.specs.DeskLines.{Request, request_of}
-use Rattle.mib_model.specs.Script.{script}
+use Rattle.run_model.specs.DeskLines.{Request, request_of}
+use Rattle.run_model.specs.Script.{script}
 use Rattle.tm_audit.specs.Saved.{Desked, after_line, before_lines, saved_tables}
 use Rattle.script_tables.specs.Savings.{FollowsAll, GoesOn, IsDesked, Makes, Saving, StepsOn, saving_start}
 

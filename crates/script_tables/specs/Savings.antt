@@ -3,8 +3,8 @@ use Rattle.std.specs.Prelude.{◌≡◌, ◌+◌, ◌-◌, ◌∷◌, [], ℕ, B
 use Rattle.std.specs.List.{slice_index_or}
 use Rattle.mib_model.specs.declared.database.Database.{Database}
 use Rattle.mib_model.specs.Database.{no_rows}
-use Rattle.mib_model.specs.DeskLines.{Request}
-use Rattle.mib_model.specs.DeskWays.{way_of}
+use Rattle.run_model.specs.DeskLines.{Request}
+use Rattle.run_model.specs.DeskWays.{way_of}
 use Rattle.tm_audit.specs.Saved.{Desked, after_line, led}
 use Rattle.desk_lines.specs.Ahead.{Reading, still}
 use Rattle.script_tables.specs.declared.script.ScriptFault.{ScriptFault}

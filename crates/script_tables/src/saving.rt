@@ -2,7 +2,7 @@
 ghost use Rattle.std.specs.Prelude.{◌≡◌, ◌<◌, ◌≤◌, ◌∷◌, [], false, length, IfOk, OnOk};
 ghost use Rattle.std.specs.List.{All};
 ghost use Rattle.desk_lines.specs.Requests.{asked};
-ghost use Rattle.mib_model.specs.DeskLines as Lines;
+ghost use Rattle.run_model.specs.DeskLines as Lines;
 ghost use Rattle.mib_model.specs.Soundness.{IsSound};
 ghost use Rattle.script_tables.specs.Savings.{Makes, saving_start};
 

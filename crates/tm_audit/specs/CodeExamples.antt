@@ -1,6 +1,6 @@
 -- The lines and numbers of audits' ends. [This profile.]
 use Rattle.std.specs.Prelude.{◌≡◌, [], codes}
-use Rattle.mib_model.specs.declared.code.Misuse.TheVariants as misuse
+use Rattle.run_model.specs.declared.code.Misuse.TheVariants as misuse
 use Rattle.tm_audit.specs.declared.code.AuditCode.TheVariants as code
 use Rattle.tm_audit.specs.declared.code.AuditInput.TheVariants as input
 use Rattle.tm_audit.specs.Codes.{audit_line, audit_number, finding_text}

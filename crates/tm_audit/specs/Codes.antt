@@ -1,10 +1,10 @@
 -- The exit statuses of an audit, the lines of its findings and those of its other ends. [This profile.]
 use Rattle.std.specs.Prelude.{ℕ, List, [], ◌++◌, codes, decimal, Option, Some, None}
-use Rattle.mib_model.specs.declared.code.Code.{Code}
-use Rattle.mib_model.specs.declared.code.Code.TheVariants as plain
-use Rattle.mib_model.specs.declared.code.Input.TheVariants as input
-use Rattle.mib_model.specs.Codes.{code_number}
-use Rattle.mib_model.specs.Faults.{code_line}
+use Rattle.run_model.specs.declared.code.Code.{Code}
+use Rattle.run_model.specs.declared.code.Code.TheVariants as plain
+use Rattle.run_model.specs.declared.code.Input.TheVariants as input
+use Rattle.run_model.specs.Codes.{code_number}
+use Rattle.run_model.specs.Faults.{code_line}
 use Rattle.tm_audit.specs.declared.code.AuditCode.{AuditCode}
 use Rattle.tm_audit.specs.declared.code.AuditCode.TheVariants as code
 use Rattle.tm_audit.specs.declared.code.AuditInput.TheVariants as audit_input

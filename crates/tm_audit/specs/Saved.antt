@@ -1,12 +1,12 @@
 -- The tables that a script saves. [This profile.]
 use Rattle.std.specs.Prelude.{ℕ, false, List, fold}
 use Rattle.mib_model.specs.declared.database.Database.{Database}
-use Rattle.mib_model.specs.declared.register.Register.{Register}
-use Rattle.mib_model.specs.Desk.{DeskState, Way, Done, Ask, desk_start}
-use Rattle.mib_model.specs.DeskLines.{request_of}
-use Rattle.mib_model.specs.DeskWays.{way_of}
-use Rattle.mib_model.specs.Register.{opening, answer_to, after}
-use Rattle.mib_model.specs.Script.{script}
+use Rattle.run_model.specs.declared.register.Register.{Register}
+use Rattle.run_model.specs.Desk.{DeskState, Way, Done, Ask, desk_start}
+use Rattle.run_model.specs.DeskLines.{request_of}
+use Rattle.run_model.specs.DeskWays.{way_of}
+use Rattle.run_model.specs.Register.{opening, answer_to, after}
+use Rattle.run_model.specs.Script.{script}
 
 -- a desk, and the register that its lines alone move
 pub record Desked : Type 0 where

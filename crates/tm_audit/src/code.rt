@@ -1,4 +1,5 @@
-use mib_model::{MibFault, Misuse};
+use mib_model::MibFault;
+use run_model::Misuse;
 
 /// The most octets of a text that is audited.
 pub const TEXT_MOST: usize = 67_108_864;

@@ -3,8 +3,9 @@ ghost use Rattle.std.specs.Prelude.{◌≡◌, ◌≤◌, [], length};
 ghost use Rattle.tm_audit.specs.Codes as Spec;
 
 use crate::code::{AuditCode, AuditInput};
-use mib_model::{Code, Input, Line};
-use record_text::{add_number, code_line};
+use mib_model::Line;
+use run_model::{Code, Input};
+use reply_text::{add_number, code_line};
 
 impl AuditCode {
     // The code of a decoding that ends so too; none of an end that an audit alone has.

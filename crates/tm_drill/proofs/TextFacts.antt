@@ -13,7 +13,7 @@ use Rattle.std.proofs.lemmas.Bool.Decides.{nat_tests}
 use Rattle.std.proofs.lemmas.List.Elements.{All-map, All-append, All-cons, All-nil}
 use Rattle.std.proofs.lemmas.List.Quantifiers.{position-Some}
 use Rattle.mib_model.specs.Lines.{is_feed}
-use Rattle.mib_model.specs.Script.{whole_pieces}
+use Rattle.run_model.specs.Script.{whole_pieces}
 use Rattle.tm_drill.specs.declared.counts.Counts.{Counts}
 use Rattle.tm_drill.specs.declared.tables.TheConstants.{KINDS}
 use Rattle.tm_drill.specs.Counts.{counts_in, AreBelow, is_packet, is_unknown, is_alarm, is_clear}

@@ -1,7 +1,7 @@
 -- What is counted of a run's printed lines. [This profile; the lines are those of packets' records.]
 use Rattle.std.specs.Prelude.{ℕ, ◌+◌, ◌<◌, ◌&&◌, Bool, List, ◌++◌, map, codes, decimal, nat_eq, count_by, slice_index}
 use Rattle.std.specs.List.{All, starts_with, ends_with, concat, range_with_len}
-use Rattle.mib_model.specs.Script.{whole_pieces}
+use Rattle.run_model.specs.Script.{whole_pieces}
 use Rattle.tm_drill.specs.declared.counts.Counts.{Counts}
 use Rattle.tm_drill.specs.declared.tables.TheConstants.{KINDS}
 

@@ -4,9 +4,9 @@ use Rattle.std.specs.Prelude.{option_map, option_and_then, unwrap_or, String, st
 use Rattle.std.specs.Borrow.{Bor}
 use Rattle.std.specs.Str.{bytes_eq}
 use Rattle.std.proofs.lemmas.List.{take_all}
-use Rattle.mib_model.specs.declared.code.Misuse.{Misuse}
-use Rattle.mib_model.specs.declared.code.Misuse.TheVariants as misuse
-use Rattle.mib_model.specs.Words.{Command, parted, command_of, or_words, with_options, without_options, check_of_words, decode_of_words, live_of_words, drill_of_words}
+use Rattle.run_model.specs.declared.code.Misuse.{Misuse}
+use Rattle.run_model.specs.declared.code.Misuse.TheVariants as misuse
+use Rattle.run_model.specs.Words.{Command, parted, command_of, or_words, with_options, without_options, check_of_words, decode_of_words, live_of_words, drill_of_words}
 use Rattle.tool_words.specs.declared.request.Verb.{Verb}
 use Rattle.tool_words.specs.declared.request.Verb.TheVariants as verb
 use Rattle.tool_words.specs.Requests.{texts, verb_of, asked}

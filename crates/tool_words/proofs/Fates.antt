@@ -8,7 +8,7 @@ use Rattle.clap.specs.Kinds.{Kinds, or_else}
 use Rattle.clap.specs.Faults.{turn_fault, walk_fault, settle_fault, other_fault}
 use Rattle.clap.specs.Walk.{Row, Text, Walk, walked}
 use Rattle.clap.proofs.OnLiterals.{clap_on_literals}
-use Rattle.mib_model.specs.Words.{Parted, parted, workers_in}
+use Rattle.run_model.specs.Words.{Parted, parted, workers_in}
 use Rattle.tool_words.specs.Line.{values_of, IsBad}
 use Rattle.tool_words.proofs.RowFacts.{values-more, values-other}
 use Rattle.tool_words.proofs.LineFacts.{shape, rules, Stand, fresh, behind_word, behind_number, walk_at, rows_at, await, with_number, trailing-walked, trailing-fault, plain-walked, plain-fault, dashes-walked, dashes-fault, attached-walked, attached-fault, detached-walked, detached-fault, number-walked, number-fault, Plain}

@@ -10,7 +10,7 @@ use Rattle.clap.specs.Faults.{is_simple_and_free, turn_fault, word_fault, other_
 use Rattle.clap.specs.Lexer.{long_of, short_of}
 use Rattle.clap.specs.Walk.{Rule, Row, Text, Walk, Waiting, idle, positional, Held, Step, value, walked, word_met, after_step, settled_rows, finished, plain_word, option, trailing, subcommand_or_other, with_default, has_row, short_or_plain, long_or_other}
 use Rattle.clap.proofs.OnLiterals.{clap_on_literals}
-use Rattle.mib_model.specs.Words.{workers_prefix, workers_option, is_option}
+use Rattle.run_model.specs.Words.{workers_prefix, workers_option, is_option}
 use Rattle.tool_words.specs.Line.{line_app, workers_rule}
 use Rattle.tool_words.proofs.RowFacts.{no-default}
 

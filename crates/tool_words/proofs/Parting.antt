@@ -11,7 +11,7 @@ use Rattle.clap.specs.declared.error.Error.{Error}
 use Rattle.clap.specs.declared.error.kind.ErrorKind.{ErrorKind}
 use Rattle.clap.specs.declared.error.kind.ErrorKind.TheVariants as kind
 use Rattle.clap.proofs.OnLiterals.{clap_on_literals}
-use Rattle.mib_model.specs.Words.{Parted, parted}
+use Rattle.run_model.specs.Words.{Parted, parted}
 use Rattle.tool_words.specs.Line.{line_app, workers_rule, words_rule, values_of, parted_by, fault_by, IsBad, Parts}
 use Rattle.tool_words.specs.declared.request.WordsFault.{WordsFault}
 use Rattle.tool_words.proofs.LineFacts.{line-simple, shape, rules, Stand, fresh, walk_at, rows_at, held_at, settled-fault, all-finished}

@@ -18,7 +18,7 @@ use Rattle.clap.specs.Lexer.{long_of, long_of_rest, short_of, short_of_rest, str
 use Rattle.clap.specs.Walk.{Row, Text, Held, arg_by_long}
 use Rattle.clap.proofs.OnLiterals.{clap_on_literals}
 use Rattle.mib_model.specs.Digits.{digits_value}
-use Rattle.mib_model.specs.Words.{workers_prefix, workers_option, is_option, is_standard, workers_in}
+use Rattle.run_model.specs.Words.{workers_prefix, workers_option, is_option, is_standard, workers_in}
 use Rattle.tool_words.specs.Line.{workers_rule}
 use Rattle.tool_words.proofs.LineFacts.{shape, rules, Plain}
 

@@ -1,9 +1,9 @@
 -- What the words of a program ask for that has one command of its own. [This profile.]
 use Rattle.std.specs.Prelude.{◌≡◌, ℕ, List, [], ◌∷◌, Bool, nat_lt, count_by, if◌then◌else◌, Option, Some, None, option_and_then, Result, Ok, Err, ⊤}
 use Rattle.std.specs.Str.{bytes_eq}
-use Rattle.mib_model.specs.Words.{Parted, is_standard, parted}
-use Rattle.mib_model.specs.declared.code.Misuse.{Misuse}
-use Rattle.mib_model.specs.declared.code.Misuse.TheVariants as misuse
+use Rattle.run_model.specs.Words.{Parted, is_standard, parted}
+use Rattle.run_model.specs.declared.code.Misuse.{Misuse}
+use Rattle.run_model.specs.declared.code.Misuse.TheVariants as misuse
 use Rattle.tool_words.specs.declared.request.WordsFault.{WordsFault}
 use Rattle.tool_words.specs.declared.request.WordsFault.TheVariants as fault
 

@@ -1,7 +1,7 @@
 -- The words of a board: `board`, a folder of tables, a feed, a desk and a file of names. [This profile.]
 use Rattle.std.specs.Prelude.{ℕ, List, [], ◌∷◌, codes, if◌then◌else◌, Option, Some, None, option_and_then, Result}
-use Rattle.mib_model.specs.Words.{Parted, workers_of}
-use Rattle.mib_model.specs.declared.code.Misuse.{Misuse}
+use Rattle.run_model.specs.Words.{Parted, workers_of}
+use Rattle.run_model.specs.declared.code.Misuse.{Misuse}
 use Rattle.tool_words.specs.declared.board.BoardRequest.{BoardRequest}
 use Rattle.tool_words.specs.declared.request.WordsFault.{WordsFault}
 use Rattle.tool_words.specs.Behind.{AsksAs, asked_behind, share_standard}

@@ -10,10 +10,10 @@ use Rattle.clap.specs.Walk.{rows_of}
 use Rattle.clap.specs.declared.parser.matches.ArgMatches.{ArgMatches}
 use Rattle.clap.specs.declared.error.kind.ErrorKind.{ErrorKind}
 use Rattle.clap.specs.declared.error.kind.ErrorKind.TheVariants as kind
-use Rattle.mib_model.specs.declared.code.Misuse.TheVariants as misuse
+use Rattle.run_model.specs.declared.code.Misuse.TheVariants as misuse
 use Rattle.tool_words.specs.declared.request.WordsFault.{WordsFault}
 use Rattle.tool_words.specs.declared.request.WordsFault.TheVariants as fault
-use Rattle.mib_model.specs.Words.{Parted, parted, workers_in}
+use Rattle.run_model.specs.Words.{Parted, parted, workers_in}
 
 -- the option `--workers`
 abbrev pub workers_rule : Rule

@@ -1,7 +1,7 @@
 -- The words of a panel: `panel`, a folder of tables, a feed, and one to four desks. [This profile.]
 use Rattle.std.specs.Prelude.{ℕ, List, [], ◌∷◌, length, codes, Bool, ◌||◌, nat_eq, nat_lt, if◌then◌else◌, Option, Some, None, option_and_then, Result}
-use Rattle.mib_model.specs.Words.{Parted, workers_of}
-use Rattle.mib_model.specs.declared.code.Misuse.{Misuse}
+use Rattle.run_model.specs.Words.{Parted, workers_of}
+use Rattle.run_model.specs.declared.code.Misuse.{Misuse}
 use Rattle.tool_words.specs.declared.panel_request.PanelRequest.{PanelRequest}
 use Rattle.tool_words.specs.declared.panel_request.TheConstants.{MOST_DESKS}
 use Rattle.tool_words.specs.declared.request.WordsFault.{WordsFault}

@@ -2,8 +2,8 @@
 use Rattle.std.specs.Prelude.{◌≡◌, ℕ, List, map, codes, Option, Some, None, option_and_then, if◌then◌else◌, Result, Ok, Err, ⊤}
 use Rattle.std.specs.Borrow.{Bor}
 use Rattle.std.specs.Str.{bytes_eq}
-use Rattle.mib_model.specs.Words.{Command, Check, Decode, Live, Drill, Parted, if_none, workers_of, check_of_words, decode_of_words, live_of_words, drill_of_words}
-use Rattle.mib_model.specs.declared.code.Misuse.{Misuse}
+use Rattle.run_model.specs.Words.{Command, Check, Decode, Live, Drill, Parted, if_none, workers_of, check_of_words, decode_of_words, live_of_words, drill_of_words}
+use Rattle.run_model.specs.declared.code.Misuse.{Misuse}
 use Rattle.tool_words.specs.declared.request.Request.{Request}
 use Rattle.tool_words.specs.declared.request.Request.TheVariants as request
 use Rattle.tool_words.specs.declared.request.Verb.{Verb}

@@ -1,6 +1,6 @@
 // The words of a program that has one command of its own.
 ghost use Rattle.std.specs.Prelude.{◌≡◌, [], codes, map, string_bytes, Some, option_map};
-ghost use Rattle.mib_model.specs.Words as Words;
+ghost use Rattle.run_model.specs.Words as Words;
 ghost use Rattle.tool_words.specs.Behind as Spec;
 ghost use Rattle.tool_words.specs.Requests.{texts};
 

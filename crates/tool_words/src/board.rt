@@ -1,6 +1,6 @@
 // The words of a board.
 ghost use Rattle.std.specs.Prelude.{◌≡◌, map, string_bytes, option_map, option_and_then};
-ghost use Rattle.mib_model.specs.Words.{parted};
+ghost use Rattle.run_model.specs.Words.{parted};
 ghost use Rattle.tool_words.specs.Behind.{or_wrong};
 ghost use Rattle.tool_words.specs.Boards.{AsksBoard, board_asked, board_in, board_of_words, words_by};
 ghost use Rattle.tool_words.specs.Requests.{texts};
@@ -8,7 +8,7 @@ ghost use Rattle.tool_words.specs.Requests.{texts};
 use crate::behind::{share_standard, words_behind};
 use crate::line::{line_matches, values};
 use crate::request::{WordsFault, workers_of};
-use mib_model::Misuse;
+use run_model::Misuse;
 use std::alloc::Global;
 
 /// What the words of a board ask for: the names of a folder of tables, a feed, a desk and a file of names, and the number of workers.

@@ -8,7 +8,7 @@ ghost use Rattle.tool_words.specs.Line.{line_app, values_of, fault_by, Parts};
 use crate::request::WordsFault;
 use clap::error::ErrorKind;
 use clap::{Arg, ArgAction, ArgMatches, Command, Error};
-use mib_model::Misuse;
+use run_model::Misuse;
 use std::alloc::Global;
 
 // The words as `clap` is told of them.

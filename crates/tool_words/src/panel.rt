@@ -1,6 +1,6 @@
 // The words of a panel.
 ghost use Rattle.std.specs.Prelude.{◌≡◌, map, string_bytes, option_and_then};
-ghost use Rattle.mib_model.specs.Words as Words;
+ghost use Rattle.run_model.specs.Words as Words;
 ghost use Rattle.tool_words.specs.Behind.{or_wrong};
 ghost use Rattle.tool_words.specs.Panels as Spec;
 ghost use Rattle.tool_words.specs.Panels.{AsksPanel, panel_asked, panel_in, panel_of_words};
@@ -10,7 +10,7 @@ use crate::behind::{share_standard, words_behind};
 use crate::line::{line_matches, values};
 use crate::panel_request::{MOST_DESKS, PanelRequest};
 use crate::request::{WordsFault, workers_of};
-use mib_model::Misuse;
+use run_model::Misuse;
 use std::alloc::Global;
 
 // Whether a panel can't have so many desks.

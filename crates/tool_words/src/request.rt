@@ -1,11 +1,11 @@
 ghost use Rattle.std.specs.Prelude.{◌≡◌, map, string_bytes, option_map, option_and_then};
 ghost use Rattle.mib_model.specs.Digits as Digits;
-ghost use Rattle.mib_model.specs.Words as Words;
+ghost use Rattle.run_model.specs.Words as Words;
 ghost use Rattle.tool_words.specs.Requests.{texts, verb_of, asked, command_by, Asks};
 
 use crate::line::{line_matches, values};
 use dec_num::{are_digits, digits_number};
-use mib_model::Misuse;
+use run_model::Misuse;
 use std::alloc::Global;
 
 /// What the words ask for.

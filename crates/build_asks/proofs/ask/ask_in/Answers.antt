@@ -1,6 +1,6 @@
 use Rattle.std.proofs.Common.{◌∙◌, true, false, None, ap, sym}
 use Rattle.build_rules.specs.Asks.{asked_of, items_in}
-use Rattle.mib_model.specs.DeskLines.{words_of}
+use Rattle.run_model.specs.DeskLines.{words_of}
 use Rattle.build_asks.proofs.AskFacts.{all-items, by-words, too-long}
 use Rattle.build_asks.proofs.ask.ask_in.Goals as goal
 

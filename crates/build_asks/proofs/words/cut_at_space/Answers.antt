@@ -1,7 +1,7 @@
 use Rattle.std.proofs.Common.{◌+◌}
 use Rattle.std.proofs.lemmas.List.{take_rest}
 use Rattle.desk_lines.proofs.CutFacts.{cut-none, cut-some}
-use Rattle.mib_model.specs.DeskLines.{is_blank}
+use Rattle.run_model.specs.DeskLines.{is_blank}
 use Rattle.build_asks.proofs.words.cut_at_space.Goals as goal
 
 pub returns-in-Some : goal.returns-in-Some

@@ -7,7 +7,7 @@ use Rattle.decode_session.proofs.alone.add_next.Goals as goal
 use Rattle.edition_plans.specs.Params.{param_slices}
 use Rattle.fold_state.specs.Demands.{asked_in}
 use Rattle.mib_model.specs.Interpreter.{course_after}
-use Rattle.mib_model.specs.Output.{stamped_first}
+use Rattle.mib_model.specs.Interpreter.{stamped_first}
 
 pub returns-in-Packet-clause-adds : goal.returns-in-Packet-clause-adds
 returns-in-Packet-clause-adds g c =

@@ -4,7 +4,7 @@ use Rattle.decode_session.proofs.playing.add_record.Goals as goal
 use Rattle.edition_plans.specs.Params.{param_slices}
 use Rattle.fold_state.specs.Demands.{asked_in}
 use Rattle.mib_model.specs.Interpreter.{course_after}
-use Rattle.mib_model.specs.Output.{stamped_first}
+use Rattle.mib_model.specs.Interpreter.{stamped_first}
 use Rattle.std.proofs.Common.{refl}
 
 pub returns-clause-finishes : goal.returns-clause-finishes

@@ -5,7 +5,7 @@ use Rattle.decode_session.specs.Turns.{Prints}
 use Rattle.decode_session.proofs.TurnFacts.{prints-more, prints-none, prints-stopped}
 use Rattle.decode_session.proofs.playing.write_each.Goals as goal
 use Rattle.fold_state.specs.Boards.{memory_of}
-use Rattle.mib_model.specs.Output.{stamped_first}
+use Rattle.mib_model.specs.Interpreter.{stamped_first}
 use Rattle.tm_io.specs.Octets.{AppendsPrefix}
 
 pub loop-k-init : goal.loop-k-init

@@ -8,7 +8,7 @@ use Rattle.edition_plans.specs.Params.{param_slices}
 use Rattle.fold_state.specs.Demands.{asked_in}
 use Rattle.line_sheets.specs.Drawings.{IsSheetFor}
 use Rattle.mib_model.specs.Interpreter.{course_after_all}
-use Rattle.mib_model.specs.Output.{stamped_from}
+use Rattle.mib_model.specs.Interpreter.{stamped_from}
 use Rattle.tm_io.specs.Octets.{AppendsPrefix}
 
 pub returns-clause-done : goal.returns-clause-done

@@ -1,7 +1,7 @@
 use Rattle.std.proofs.Common.{Err, Some, subst, sym}
-use Rattle.mib_model.specs.DeskLines as Spec
-use Rattle.mib_model.specs.declared.reply.Reply.{Reply}
-use Rattle.mib_model.specs.declared.reply.Reply.TheVariants as reply
+use Rattle.run_model.specs.DeskLines as Spec
+use Rattle.run_model.specs.declared.reply.Reply.{Reply}
+use Rattle.run_model.specs.declared.reply.Reply.TheVariants as reply
 use Rattle.desk.specs.Drafts.{Drafted}
 use Rattle.desk.specs.Handling.{Edits}
 use Rattle.desk.proofs.KeyFacts.{key-of-table}

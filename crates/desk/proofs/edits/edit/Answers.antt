@@ -1,7 +1,7 @@
 use Rattle.std.proofs.Common.{None, Some, subst, sym}
 use Rattle.desk.specs.Handling.{Edits}
 use Rattle.desk_lines.specs.Requests.{asked}
-use Rattle.mib_model.specs.declared.reply.Reply.TheVariants as reply
+use Rattle.run_model.specs.declared.reply.Reply.TheVariants as reply
 use Rattle.desk.proofs.HandlingFacts.{edits-bad_line, edits-bad_table, edits-comment, edits-go, edits-too_long}
 use Rattle.desk.proofs.edits.edit.Goals as goal
 

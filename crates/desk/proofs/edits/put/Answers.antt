@@ -1,6 +1,6 @@
 use Rattle.std.proofs.Common.{◌∙◌, Some, subst, sym}
-use Rattle.mib_model.specs.DeskLines as Spec
-use Rattle.mib_model.specs.declared.reply.Reply.{Reply}
+use Rattle.run_model.specs.DeskLines as Spec
+use Rattle.run_model.specs.declared.reply.Reply.{Reply}
 use Rattle.mib_tables.specs.declared.table.Put.TheVariants as put_row
 use Rattle.row_laws.proofs.RowFitFacts.{read_fits}
 use Rattle.desk.specs.Handling.{Edits}

@@ -1,5 +1,5 @@
 use Rattle.std.proofs.Common.{sym}
-use Rattle.mib_model.specs.DeskLines as Spec
+use Rattle.run_model.specs.DeskLines as Spec
 use Rattle.desk_lines.proofs.request.delete_request.Goals as goal
 
 pub returns-in-Ok : goal.returns-in-Ok

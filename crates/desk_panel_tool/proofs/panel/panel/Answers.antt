@@ -5,7 +5,7 @@ use Rattle.desk_panel_tool.proofs.StationFacts.{idle}
 use Rattle.desk_panel_tool.specs.Panel.{StaysReplied}
 use Rattle.desk_panel_tool.specs.Stations.{AreIdle, stations}
 use Rattle.edition_register.specs.Seats.{history_of}
-use Rattle.mib_model.specs.declared.code.Code.TheVariants as code
+use Rattle.run_model.specs.declared.code.Code.TheVariants as code
 use Rattle.tool_objects.specs.Objects.{shelf, sink}
 use Rattle.tool_objects.specs.Told.{HasTurned}
 use Rattle.tool_words.specs.Panels.{words_by}

@@ -3,7 +3,7 @@ use Rattle.std.specs.Result.{is_err}
 use Rattle.edition_register.specs.Seats.{history_of}
 use Rattle.live_session.specs.Live.{object}
 use Rattle.live_session.specs.Opened.{first_in, watch_in}
-use Rattle.mib_model.specs.declared.code.Code.{Code}
+use Rattle.run_model.specs.declared.code.Code.{Code}
 use Rattle.mib_model.specs.declared.database.Database.{Database}
 use Rattle.packet_run.specs.Told.{Member}
 use Rattle.page_board.specs.Views.{IsShownBy}

@@ -3,9 +3,9 @@ use denote.Param.Send.{IsSend, IsSync, sendable}
 use Rattle.std.proofs.Common.{rules, ◌≡◌, List, subst}
 use Rattle.std.proofs.Crossing.{crosses}
 use Rattle.live_session.specs.Live.{IsWatched, Object, object}
-use Rattle.mib_model.specs.declared.code.Code.{Code}
+use Rattle.run_model.specs.declared.code.Code.{Code}
 use Rattle.mib_model.specs.declared.database.Database.{Database}
-use Rattle.mib_model.specs.RegisterHistories.{RegisterHistory}
+use Rattle.run_model.specs.RegisterHistories.{RegisterHistory}
 use Rattle.packet_run.specs.Told.{Member}
 use Rattle.page_screen.proofs.display.Display.TheSendSync as display
 use Rattle.live_board_tool.proofs.board.run_shown.Given.{Over}

@@ -4,7 +4,7 @@ use Rattle.live_desk.specs.Operators.{is_several, number_if}
 use Rattle.live_desk.specs.Standing.{standing_of}
 use Rattle.live_desk.proofs.ComesFacts.{answers-as, comes-of}
 use Rattle.live_desk.proofs.line.next_line.Goals as goal
-use Rattle.mib_model.specs.DeskLines.{request_of}
+use Rattle.run_model.specs.DeskLines.{request_of}
 
 pub returns-in-TooLong-clause-comes : goal.returns-in-TooLong-clause-comes
 returns-in-TooLong-clause-comes g c =

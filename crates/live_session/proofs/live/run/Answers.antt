@@ -7,7 +7,7 @@ use Rattle.live_desk.specs.Scripts.{DeskedFrom, EndsEarly, Worked}
 use Rattle.live_desk.specs.Standing.{Standing, standing_of}
 use Rattle.live_desk.proofs.DeskFacts.{desked-both, desked-early}
 use Rattle.live_session.proofs.live.run.Goals as goal
-use Rattle.mib_model.specs.RegisterHistories.{RegisterHistory}
+use Rattle.run_model.specs.RegisterHistories.{RegisterHistory}
 use Rattle.turn_cell.specs.Seats.{own_moves, seen_by}
 use Rattle.turn_cell.specs.Views.{least, listed}
 

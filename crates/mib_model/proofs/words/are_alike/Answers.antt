@@ -1,4 +1,4 @@
-use Rattle.std.proofs.Common.{◌≡◌, ◌≤◌, ◌+◌, ◌-◌, ◌*◌, ◌/◌, ◌∙◌, ap, sym, arith, drop, length, take, ℕ, List, bytes_eq}
+use Rattle.std.proofs.Common.{◌≡◌, ◌+◌, ◌-◌, ◌*◌, ◌/◌, ◌∙◌, ap, sym, arith, drop, length, take, ℕ, List, bytes_eq}
 use Rattle.std.proofs.lemmas.Bool.Decides.{Decides-eqb}
 use Rattle.mib_model.proofs.WordFacts.{same-fronts, same-rests, same-wholes, slice-to-end}
 use Rattle.mib_model.proofs.words.are_alike.Goals as goal

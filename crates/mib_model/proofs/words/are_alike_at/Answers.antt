@@ -1,4 +1,4 @@
-use Rattle.std.proofs.Common.{◌≡◌, ◌≤◌, ◌+◌, arith, drop, length, take, ℕ}
+use Rattle.std.proofs.Common.{arith, drop, take}
 use Rattle.mib_model.proofs.WordFacts.{same-numbers, AreOctets-word, length-word}
 use Rattle.mib_model.proofs.words.are_alike_at.Goals as goal
 

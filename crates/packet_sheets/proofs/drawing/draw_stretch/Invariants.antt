@@ -4,7 +4,7 @@ use Rattle.fold_state.specs.Boards.{plan_names}
 use Rattle.fold_state.specs.Demands.{AreDemandsOf}
 use Rattle.line_sheets.specs.Drawings.{IsSheetFor}
 use Rattle.mib_model.specs.Fixed.{most_values}
-use Rattle.mib_model.specs.Output.{stamped_from}
+use Rattle.mib_model.specs.Interpreter.{stamped_from}
 use Rattle.packet_sheets.proofs.drawing.draw_stretch.Given as goal
 
 abbrev pub invariant-loop-k : goal.invariant-loop-k

@@ -1,7 +1,7 @@
 use Rattle.std.proofs.Common.{true, Some, ap, arith, refl, subst}
 use Rattle.std.specs.Arc.{arc_value}
-use Rattle.mib_model.specs.declared.register.Entry.TheVariants as entry
-use Rattle.mib_model.specs.DeskLines as Spec
+use Rattle.run_model.specs.declared.register.Entry.TheVariants as entry
+use Rattle.run_model.specs.DeskLines as Spec
 use Rattle.edition_register.specs.Panels.{IsDeskSeat}
 use Rattle.edition_register.specs.Seats.{UsesAt, first_of}
 use Rattle.edition_register.proofs.PanelFacts.{starts-more}

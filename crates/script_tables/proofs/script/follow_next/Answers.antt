@@ -1,5 +1,5 @@
 use Rattle.std.proofs.Common.{◌∙◌, ap, false, refl}
-use Rattle.mib_model.specs.DeskLines.{request_of}
+use Rattle.run_model.specs.DeskLines.{request_of}
 use Rattle.script_tables.proofs.ScriptFacts.{steps}
 use Rattle.script_tables.proofs.script.follow_next.Goals as goal
 

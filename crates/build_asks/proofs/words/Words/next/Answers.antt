@@ -1,6 +1,6 @@
 use Rattle.std.proofs.Common.{◌≡◌, ◌∙◌, sym}
 use Rattle.desk_lines.proofs.CutFacts.{words-more, words-one}
-use Rattle.mib_model.specs.DeskLines.{words_of}
+use Rattle.run_model.specs.DeskLines.{words_of}
 use Rattle.build_asks.proofs.words.Words.next.Goals as goal
 
 pub returns-in-Some : goal.returns-in-Some

@@ -2,7 +2,7 @@ use Rattle.turn_cell.specs.Seats.{own_moves}
 use Rattle.desk_lines.specs.Requests.{asked}
 use Rattle.std.proofs.Common.{false}
 use Rattle.std.specs.Prelude.{option_map}
-use Rattle.mib_model.specs.Desk.{Plain}
+use Rattle.run_model.specs.Desk.{Plain}
 use Rattle.desk.proofs.HandlingFacts.{handled-edit, ticks-none}
 use Rattle.desk.proofs.desk.Desk.handle.Goals as goal
 

@@ -1,8 +1,8 @@
 use Rattle.std.proofs.Common.{Some, false, subst, refl, sym}
-use Rattle.mib_model.specs.DeskLines as Spec
-use Rattle.mib_model.specs.declared.register.Answer.TheVariants as answer
-use Rattle.mib_model.specs.declared.reply.Reply.TheVariants as reply
-use Rattle.mib_model.specs.Desk.{Plain}
+use Rattle.run_model.specs.DeskLines as Spec
+use Rattle.run_model.specs.declared.register.Answer.TheVariants as answer
+use Rattle.run_model.specs.declared.reply.Reply.TheVariants as reply
+use Rattle.run_model.specs.Desk.{Plain}
 use Rattle.desk.specs.Drafts.{Drafted, state_by}
 use Rattle.desk.specs.Handling.{HandlesAt}
 use Rattle.turn_cell.specs.Seats.{own_moves}

@@ -1,6 +1,6 @@
 use Rattle.std.proofs.Common.{false}
-use Rattle.mib_model.specs.declared.register.Entry.TheVariants as entry
-use Rattle.mib_model.specs.DeskLines as Spec
+use Rattle.run_model.specs.declared.register.Entry.TheVariants as entry
+use Rattle.run_model.specs.DeskLines as Spec
 use Rattle.edition_register.specs.Seats.{first_of}
 use Rattle.desk.specs.State.{desk_of}
 use Rattle.desk.proofs.HandlingFacts.{way-use_from}

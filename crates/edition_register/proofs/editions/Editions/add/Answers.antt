@@ -2,8 +2,8 @@ use Rattle.std.proofs.Common.{ap, sym, subst, refl, ◌∙◌, ◌∷◌, [], �
 use Rattle.std.proofs.lemmas.Bool.{le-leb, lt-leb}
 use Rattle.std.proofs.lemmas.List.{map-append, length-map}
 use Rattle.std.specs.Arc.{arc_value}
-use Rattle.mib_model.specs.declared.register.Answer.TheVariants as answer
-use Rattle.mib_model.specs.declared.register.Scheduled.{Scheduled}
+use Rattle.run_model.specs.declared.register.Answer.TheVariants as answer
+use Rattle.run_model.specs.declared.register.Scheduled.{Scheduled}
 use Rattle.edition_register.specs.Starts.{AllReady, pair_of}
 use Rattle.edition_register.proofs.KeptFacts.{kept, add-full, add-takes}
 use Rattle.edition_register.proofs.StoredFacts.{ready-more}

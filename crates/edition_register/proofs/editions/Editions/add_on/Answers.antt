@@ -1,8 +1,8 @@
 use Rattle.std.proofs.Common.{ap, sym, refl, ◌∙◌, ◌-◌, map, length}
 use Rattle.std.proofs.lemmas.Bool.{eq-eqb}
 use Rattle.std.specs.Arc.{arc_value}
-use Rattle.mib_model.specs.declared.register.Answer.TheVariants as answer
-use Rattle.mib_model.specs.declared.register.Scheduled.{Scheduled}
+use Rattle.run_model.specs.declared.register.Answer.TheVariants as answer
+use Rattle.run_model.specs.declared.register.Scheduled.{Scheduled}
 use Rattle.edition_register.specs.Starts.{pair_of}
 use Rattle.edition_register.specs.Stored.{state_of}
 use Rattle.edition_register.proofs.KeptFacts.{add-on, add-stale}

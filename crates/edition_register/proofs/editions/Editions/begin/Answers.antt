@@ -1,10 +1,10 @@
 use Rattle.std.proofs.Common.{ap, sym, subst, ◌∙◌, ◌≡◌, ◌+◌, ◌-◌, map, arith, true}
 use Rattle.std.proofs.lemmas.List.{length-map}
 use Rattle.std.specs.Arc.{arc_value}
-use Rattle.mib_model.specs.declared.register.Answer.TheVariants as answer
-use Rattle.mib_model.specs.declared.register.Entry.TheVariants as event
-use Rattle.mib_model.specs.declared.register.Scheduled.{Scheduled}
-use Rattle.mib_model.specs.Register.{answer_to}
+use Rattle.run_model.specs.declared.register.Answer.TheVariants as answer
+use Rattle.run_model.specs.declared.register.Entry.TheVariants as event
+use Rattle.run_model.specs.declared.register.Scheduled.{Scheduled}
+use Rattle.run_model.specs.Register.{answer_to}
 use Rattle.edition_register.specs.Bounded.{bounded_after}
 use Rattle.edition_register.specs.Starts.{AllReady, IsStart, Rises, pair_of}
 use Rattle.edition_register.specs.Stored.{begins}

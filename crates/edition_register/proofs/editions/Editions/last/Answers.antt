@@ -1,6 +1,6 @@
 use Rattle.std.proofs.Common.{sym, refl, ◌∙◌, ◌-◌, map, arith, None}
 use Rattle.std.specs.Arc.{arc_value}
-use Rattle.mib_model.specs.declared.register.Scheduled.{Scheduled}
+use Rattle.run_model.specs.declared.register.Scheduled.{Scheduled}
 use Rattle.edition_register.specs.Starts.{pair_of}
 use Rattle.edition_register.proofs.KeptFacts.{last-kept}
 use Rattle.edition_register.proofs.StoredFacts.{last-is}

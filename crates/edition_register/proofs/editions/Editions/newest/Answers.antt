@@ -1,8 +1,8 @@
 use Rattle.std.proofs.Common.{ap, sym, ◌∙◌, ◌<◌, ◌-◌, map, length, arith, slice_index_or}
 use Rattle.std.proofs.lemmas.List.{length-map}
 use Rattle.std.specs.Arc.{arc_value}
-use Rattle.mib_model.specs.declared.register.Answer.TheVariants as answer
-use Rattle.mib_model.specs.declared.register.Scheduled.{Scheduled}
+use Rattle.run_model.specs.declared.register.Answer.TheVariants as answer
+use Rattle.run_model.specs.declared.register.Scheduled.{Scheduled}
 use Rattle.mib_model.specs.Database.{no_rows}
 use Rattle.edition_register.specs.Starts.{pair_of}
 use Rattle.edition_register.proofs.KeptFacts.{looks-newest}

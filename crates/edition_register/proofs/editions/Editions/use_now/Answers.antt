@@ -1,7 +1,7 @@
 use Rattle.std.proofs.Common.{ap, sym, subst, ◌∙◌, ◌∷◌, [], ◌++◌, ◌+◌, ◌-◌, map, arith}
 use Rattle.std.specs.Arc.{arc_value}
-use Rattle.mib_model.specs.declared.register.Answer.TheVariants as answer
-use Rattle.mib_model.specs.declared.register.Scheduled.{Scheduled}
+use Rattle.run_model.specs.declared.register.Answer.TheVariants as answer
+use Rattle.run_model.specs.declared.register.Scheduled.{Scheduled}
 use Rattle.edition_register.specs.Starts.{AllReady, IsReady, Rises, pair_of}
 use Rattle.edition_register.specs.Stored.{state_of, FitsUse}
 use Rattle.edition_register.proofs.KeptFacts.{kept, use-none, use-takes}

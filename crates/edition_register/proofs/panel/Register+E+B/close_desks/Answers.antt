@@ -1,7 +1,7 @@
 use Rattle.std.proofs.Common.{◌≡◌, [], ap, sym, subst, ◌∙◌, length}
 use Rattle.std.proofs.lemmas.List.{append-nil}
 use Rattle.histories.specs.History.{StartsWith, moves_of}
-use Rattle.mib_model.specs.RegisterHistories.{IsRegisterHistory, register_after}
+use Rattle.run_model.specs.RegisterHistories.{IsRegisterHistory, register_after}
 use Rattle.turn_cell.specs.Seats.{own_moves, seen_by}
 use Rattle.edition_register.specs.Panels.{ListFrom}
 use Rattle.edition_register.specs.Seats.{first_of}

@@ -1,6 +1,6 @@
 use Rattle.std.proofs.Common.{◌≡◌, ◌≢◌, ◌<◌, ◌+◌, ℕ, length, reverse}
 use Rattle.histories.specs.History.{StartsWith, moves_of}
-use Rattle.mib_model.specs.RegisterHistories.{RegisterHistory}
+use Rattle.run_model.specs.RegisterHistories.{RegisterHistory}
 use Rattle.turn_cell.specs.Seats.{callers_of, holdings_of, own_moves, seen_by, HoldsAllBelow, IsIdle, IsSeatOf}
 use Rattle.turn_cell.specs.Views.{AreListed}
 use Rattle.edition_register.specs.Panels.{AreDesksFrom, ListFrom}

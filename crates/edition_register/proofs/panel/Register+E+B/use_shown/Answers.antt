@@ -1,5 +1,5 @@
 use Rattle.std.proofs.Common.{Some, ap, sym, subst, ◌∙◌}
-use Rattle.mib_model.specs.declared.register.Entry.TheVariants as event
+use Rattle.run_model.specs.declared.register.Entry.TheVariants as event
 use Rattle.turn_cell.specs.Views.{least, listed}
 use Rattle.turn_cell.specs.Seats.{callers_of, holdings_of, number_of, own_moves, seen_by}
 use Rattle.edition_register.specs.Seats.{first_of}

@@ -1,7 +1,7 @@
 use Rattle.std.proofs.Common.{arith, ap, subst, ◌∙◌}
 use Rattle.std.specs.Arc.{arc_value}
-use Rattle.mib_model.specs.declared.register.Answer.TheVariants as answer
-use Rattle.mib_model.specs.declared.register.Entry.TheVariants as event
+use Rattle.run_model.specs.declared.register.Answer.TheVariants as answer
+use Rattle.run_model.specs.declared.register.Entry.TheVariants as event
 use Rattle.turn_cell.specs.Views.{least, listed}
 use Rattle.turn_cell.specs.Seats.{callers_of, seen_by}
 use Rattle.edition_register.specs.declared.outcome.AddFault.TheVariants as add_fault

@@ -1,5 +1,5 @@
 use Rattle.std.proofs.Common.{ap, sym, subst, ◌∙◌, length}
-use Rattle.mib_model.specs.RegisterHistories.{IsRegisterHistory, register_after}
+use Rattle.run_model.specs.RegisterHistories.{IsRegisterHistory, register_after}
 use Rattle.turn_cell.specs.Seats.{seen_by}
 use Rattle.edition_register.specs.Seats.{first_of}
 use Rattle.edition_register.proofs.SeatFacts.{legal-of, state-of}

@@ -1,9 +1,9 @@
 use Rattle.std.proofs.Common.{ap, sym, subst, ◌∙◌, length, arith}
 use Rattle.std.specs.List.{AllByRecursion}
-use Rattle.mib_model.specs.RegisterHistories.{register_after}
+use Rattle.run_model.specs.RegisterHistories.{register_after}
 use Rattle.edition_register.specs.Shown.{HasItsTables}
-use Rattle.mib_model.specs.declared.register.Answer.TheVariants as answer
-use Rattle.mib_model.specs.declared.register.Entry.TheVariants as event
+use Rattle.run_model.specs.declared.register.Answer.TheVariants as answer
+use Rattle.run_model.specs.declared.register.Entry.TheVariants as event
 use Rattle.turn_cell.specs.Views.{least, listed}
 use Rattle.turn_cell.specs.Seats.{callers_of, holdings_of, own_moves, seen_by}
 use Rattle.edition_register.specs.Seats.{first_of}

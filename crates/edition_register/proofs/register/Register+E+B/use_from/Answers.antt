@@ -1,6 +1,6 @@
 use Rattle.std.proofs.Common.{arith, ap, sym, subst, ◌∙◌}
 use Rattle.histories.specs.History.{IsOfSeatsBelow}
-use Rattle.mib_model.specs.declared.register.Entry.TheVariants as event
+use Rattle.run_model.specs.declared.register.Entry.TheVariants as event
 use Rattle.turn_cell.specs.Views.{least, listed}
 use Rattle.turn_cell.specs.Seats.{callers_of, holdings_of, own_moves, seen_by}
 use Rattle.edition_register.specs.Seats.{first_of}

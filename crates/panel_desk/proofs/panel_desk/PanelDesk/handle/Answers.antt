@@ -1,6 +1,6 @@
 use Rattle.std.proofs.Common.{true, Option, subst, sym}
 use Rattle.std.specs.Prelude.{option_map}
-use Rattle.mib_model.specs.Desk.{DeskReply, Plain}
+use Rattle.run_model.specs.Desk.{DeskReply, Plain}
 use Rattle.turn_cell.specs.Seats.{number_of, own_moves}
 use Rattle.desk_lines.specs.Requests.{asked}
 use Rattle.desk.specs.Drafts.{state_by}

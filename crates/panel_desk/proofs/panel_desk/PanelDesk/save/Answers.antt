@@ -1,14 +1,14 @@
 use Rattle.std.proofs.Common.{Err, Some, true, subst, refl, sym}
 use Rattle.std.specs.Arc.{arc_value}
 use Rattle.mib_model.specs.declared.database.Database.{Database}
-use Rattle.mib_model.specs.DeskLines as Spec
+use Rattle.run_model.specs.DeskLines as Spec
 use Rattle.mib_model.specs.Plans.{plans}
 use Rattle.edition_register.specs.declared.outcome.AddOnFault.{AddOnFault}
 use Rattle.edition_register.specs.Panels.{AddsOn}
 use Rattle.edition_register.specs.Seats.{first_of}
-use Rattle.mib_model.specs.declared.register.Answer.TheVariants as answer
-use Rattle.mib_model.specs.declared.reply.Reply.TheVariants as reply
-use Rattle.mib_model.specs.Desk.{Plain, Stale}
+use Rattle.run_model.specs.declared.register.Answer.TheVariants as answer
+use Rattle.run_model.specs.declared.reply.Reply.TheVariants as reply
+use Rattle.run_model.specs.Desk.{Plain, Stale}
 use Rattle.desk.specs.Drafts.{Drafted, state_by}
 use Rattle.desk.specs.Handling.{HandlesAt}
 use Rattle.turn_cell.specs.Seats.{number_of, own_moves}

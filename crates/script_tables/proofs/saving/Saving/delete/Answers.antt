@@ -1,6 +1,6 @@
 use Rattle.std.proofs.Common.{Err, ap, refl, subst}
 use Rattle.mib_model.specs.declared.database.Database.{Database}
-use Rattle.mib_model.specs.DeskLines as Lines
+use Rattle.run_model.specs.DeskLines as Lines
 use Rattle.mib_model.specs.Reading.{key_read}
 use Rattle.mib_rows.specs.Answers.{Fails}
 use Rattle.mib_rows.specs.declared.read_fault.ReadFault.{ReadFault}

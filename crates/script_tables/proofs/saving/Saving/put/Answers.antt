@@ -1,5 +1,5 @@
 use Rattle.std.proofs.Common.{subst, refl}
-use Rattle.mib_model.specs.DeskLines as Lines
+use Rattle.run_model.specs.DeskLines as Lines
 use Rattle.mib_model.specs.Reading.{row_read}
 use Rattle.mib_rows.specs.Answers.{Fails}
 use Rattle.mib_rows.specs.declared.read_fault.ReadFault.{ReadFault}

@@ -1,7 +1,7 @@
 use Rattle.std.proofs.Common.{◌≡◌, ◌∙◌, ◌-◌, ℕ, ap, arith, get_or, length, refl, subst}
 use Rattle.std.proofs.lemmas.List.{get_or_read}
 use Rattle.mib_model.specs.Database.{no_rows}
-use Rattle.mib_model.specs.DeskLines as Lines
+use Rattle.run_model.specs.DeskLines as Lines
 use Rattle.script_tables.proofs.SavingFacts.{drops}
 use Rattle.script_tables.specs.Savings.{Makes, Saving}
 use Rattle.script_tables.proofs.saving.Saving.restore.Goals as goal

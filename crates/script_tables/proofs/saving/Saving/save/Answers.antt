@@ -2,7 +2,7 @@ use Rattle.std.proofs.Common.{◌∙◌, ◌∷◌, ◌++◌, [], List, ap, arit
 use Rattle.mib_keys.specs.Answers.{Names}
 use Rattle.mib_keys.specs.declared.fault.SoundFault.{SoundFault}
 use Rattle.mib_model.specs.declared.database.Database.{Database}
-use Rattle.mib_model.specs.DeskLines as Lines
+use Rattle.run_model.specs.DeskLines as Lines
 use Rattle.script_tables.proofs.SavingFacts.{saves, stays-full, stays-unsound}
 use Rattle.script_tables.specs.Savings.{Makes, Saving}
 use Rattle.script_tables.proofs.saving.Saving.save.Goals as goal

@@ -1,5 +1,0 @@
-use Rattle.mib_laws.proofs.DeskFirst.{goes-first, first-decides}
-use Rattle.mib_laws.proofs.desk.desk_first_decides.Goals as goal
-
-pub returns : goal.returns
-returns c = record { first = goes-first; decides = first-decides }

@@ -1,5 +1,0 @@
-use Rattle.mib_laws.proofs.RegisterFacts.{seats-show}
-use Rattle.mib_laws.proofs.register.seat_shows_stamps.Goals as goal
-
-pub returns : goal.returns
-returns c = seats-show

@@ -1,5 +1,0 @@
-use Rattle.mib_laws.proofs.RegisterFacts.{count-up}
-use Rattle.mib_laws.proofs.register.stamps_count_up.Goals as goal
-
-pub returns : goal.returns
-returns c = count-up

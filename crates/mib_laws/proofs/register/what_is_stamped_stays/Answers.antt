@@ -1,5 +1,0 @@
-use Rattle.mib_laws.proofs.RegisterFacts.{stays-stamped}
-use Rattle.mib_laws.proofs.register.what_is_stamped_stays.Goals as goal
-
-pub returns : goal.returns
-returns c = stays-stamped

@@ -1,0 +1,5 @@
+pub mod OneEdition
+pub mod RegisterFacts
+pub mod DeskFacts
+pub mod AloneFacts
+pub mod DeskFirst

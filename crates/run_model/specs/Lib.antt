@@ -1,0 +1,13 @@
+pub mod Register
+pub mod RegisterHistories
+pub mod Script
+pub mod DeskLines
+pub mod Desk
+pub mod DeskWays
+pub mod DeskRuns
+pub mod Output
+pub mod Codes
+pub mod Endings
+pub mod Faults
+pub mod Replies
+pub mod Words
