@@ -9,7 +9,7 @@ use Rattle.mib_model.specs.declared.packet.Value.{Value}
 use Rattle.mib_model.specs.Attempts.{◌>>=◌}
 use Rattle.mib_model.specs.Bits.{raw_number}
 use Rattle.mib_model.specs.Encodings.{Encoding}
-use Rattle.struct_plan.specs.declared.entry.Field.{Field}
+use Rattle.struct_plan.specs.declared.entry.ValueField.{ValueField}
 use Rattle.struct_plan.specs.declared.numbers.WalkEnd.{WalkEnd}
 use Rattle.struct_plan.specs.declared.numbers.WalkEnd.TheVariants.{Ended, Missing, Unfit}
 use Rattle.struct_plan.specs.Sources.{of_packet}
@@ -23,7 +23,7 @@ pub record IsRead (packet : List ℕ) (v : Value) : Type 0 where
   pub inside : v.at + v.shape.width ≤ 8 * length packet
 
 -- a value is of an item behind so many others, for a field: it has its name, and a number of its shape
-pub record IsItem (items : List Item) (given : ℕ) (field : Field) (v : Value) : Type 0 where
+pub record IsItem (items : List Item) (given : ℕ) (field : ValueField) (v : Value) : Type 0 where
   pub item : slice_get items given ≡ Some (item_of v)
   pub shape : field.shape ≡ v.shape
   pub fit : fits v.shape v.raw ≡ true
@@ -31,14 +31,14 @@ pub record IsItem (items : List Item) (given : ℕ) (field : Field) (v : Value) 
 -- ---- one item
 
 -- what an item gives at a cursor
-pub record Given (items : List Item) (cursor : ℤ) (field : Field) (given : ℕ) (v : Value) : Type 0 where
+pub record Given (items : List Item) (cursor : ℤ) (field : ValueField) (given : ℕ) (v : Value) : Type 0 where
   pub is_item : IsItem items given field v
   pub name : v.name ≡ field.name
   pub at : ℕ
   pub cursor_is : cursor ≡ pos at
   pub at_is : v.at ≡ min at last_bit
 
-if-fit : (items : List Item) (cursor : ℤ) (field : Field) (given at : ℕ) (raw : ℤ) (v : Value) → cursor ≡ pos at → slice_get items given ≡ Some (record { name = field.name; raw = raw })
+if-fit : (items : List Item) (cursor : ℤ) (field : ValueField) (given at : ℕ) (raw : ℤ) (v : Value) → cursor ≡ pos at → slice_get items given ≡ Some (record { name = field.name; raw = raw })
     → (b : Bool) → fits field.shape raw ≡ b → cond b (Ok (record { name = field.name; at = min at last_bit; raw = raw; shape = field.shape })) (Err Unfit) ≡ Ok v → Given items cursor field given v
 if-fit items cursor field given at raw v stands has true fit is =
     let made : Value = record { name = field.name; at = min at last_bit; raw = raw; shape = field.shape } in
@@ -46,12 +46,12 @@ if-fit items cursor field given at raw v stands has true fit is =
     subst (Given items cursor field given) same (record { is_item = record { item = has; shape = refl; fit = fit }; name = refl; at = at; cursor_is = stands; at_is = refl })
 if-fit items cursor field given at raw v stands has false fit is = absurd (cc is)
 
-at-cursor : (items : List Item) (cursor : ℤ) (field : Field) (given : ℕ) (raw : ℤ) (v : Value) → slice_get items given ≡ Some (record { name = field.name; raw = raw })
+at-cursor : (items : List Item) (cursor : ℤ) (field : ValueField) (given : ℕ) (raw : ℤ) (v : Value) → slice_get items given ≡ Some (record { name = field.name; raw = raw })
     → value_laid field.name field.shape cursor raw ≡ Ok v → Given items cursor field given v
 at-cursor items (negsuc n) field given raw v has is = absurd (cc is)
 at-cursor items (pos at) field given raw v has is = if-fit items (pos at) field given at raw v refl has (fits field.shape raw) refl is
 
-by-item : (items : List Item) (cursor : ℤ) (field : Field) (given : ℕ) (o : Option Item) (v : Value) → slice_get items given ≡ o
+by-item : (items : List Item) (cursor : ℤ) (field : ValueField) (given : ℕ) (o : Option Item) (v : Value) → slice_get items given ≡ o
     → (raw_of o field.name >>= value_laid field.name field.shape cursor) ≡ Ok v → Given items cursor field given v
 by-item items cursor field given None v has is = absurd (cc is)
 by-item items cursor field given (Some item) v has is = go (bytes_eq item.name field.name) refl is where
@@ -61,11 +61,11 @@ by-item items cursor field given (Some item) v has is = go (bytes_eq item.name f
       let name : item.name ≡ field.name = (bytes_eq-Decides item.name field.name).0 named in
       at-cursor items cursor field given item.raw v (has ∙ ap (λ (n : List ℕ). Some (record { name = n; raw = item.raw })) name) is
 
-pub item-given : (items : List Item) (cursor : ℤ) (field : Field) (given : ℕ) (v : Value) → of_items items cursor field given ≡ Ok v → Given items cursor field given v
+pub item-given : (items : List Item) (cursor : ℤ) (field : ValueField) (given : ℕ) (v : Value) → of_items items cursor field given ≡ Ok v → Given items cursor field given v
 item-given items cursor field given v is = by-item items cursor field given (slice_get items given) v refl is
 
 -- an item never ends values whole
-pub not-whole : (items : List Item) (cursor : ℤ) (field : Field) (given : ℕ) (why : WalkEnd) → of_items items cursor field given ≡ Err why → why ≡ Ended ended.Whole → ⊥
+pub not-whole : (items : List Item) (cursor : ℤ) (field : ValueField) (given : ℕ) (why : WalkEnd) → of_items items cursor field given ≡ Err why → why ≡ Ended ended.Whole → ⊥
 not-whole items cursor field given why is whole = by (slice_get items given) is where
   placed : (raw : ℤ) (c : ℤ) → value_laid field.name field.shape c raw ≡ Err why → ⊥
   placed raw (negsuc n) e = let same : Ended (ended.Short field.name) ≡ why = cc e in absurd (cc (same ∙ whole))
@@ -91,14 +91,14 @@ module _ (packet : List ℕ) (short : length packet < 2 ^ 61) where
       ∙ (ap (λ (e : Encoding). record { name = v.name; at = v.at; raw = raw_number e packet v.at; shape = e }) shaped
       ∙ ap (λ (r : ℤ). record { name = v.name; at = v.at; raw = r; shape = v.shape }) read.number))
 
-  read-at : (cursor : ℤ) (field : Field) (given at : ℕ) (v : Value) → cursor ≡ pos at → v.name ≡ field.name → v.at ≡ at → field.shape ≡ v.shape → IsRead packet v
+  read-at : (cursor : ℤ) (field : ValueField) (given at : ℕ) (v : Value) → cursor ≡ pos at → v.name ≡ field.name → v.at ≡ at → field.shape ≡ v.shape → IsRead packet v
       → of_packet packet cursor field given ≡ Ok v
   read-at cursor field given at v stands named same shaped read =
       let width : field.shape.width ≡ v.shape.width = ap (λ (e : Encoding). e.width) shaped in
       let inside : at + field.shape.width ≤ 8 * length packet = omega (arith, same, width, read.inside) in
       rw (stands, le-ltb (8 * length packet) (at + field.shape.width) inside) (ap (λ (x : Value). Ok x) (made v field.name at field.shape named same shaped read))
 
-  pub item-read : (items : List Item) (cursor : ℤ) (field : Field) (given : ℕ) (v : Value) → of_items items cursor field given ≡ Ok v → IsRead packet v → of_packet packet cursor field given ≡ Ok v
+  pub item-read : (items : List Item) (cursor : ℤ) (field : ValueField) (given : ℕ) (v : Value) → of_items items cursor field given ≡ Ok v → IsRead packet v → of_packet packet cursor field given ≡ Ok v
   item-read items cursor field given v is read =
       let g = item-given items cursor field given v is in
       let at : v.at ≡ g.at = omega (arith, g.at_is, read.inside, short) in

@@ -12,7 +12,7 @@ use Rattle.mib_model.specs.Attempts.{◌>>=◌}
 use Rattle.mib_model.specs.Encodings.{Encoding}
 use Rattle.mib_model.specs.Fixed.{Place, places, most_values, has_layout}
 use Rattle.mib_model.specs.Walk.{walk_limit, walk_start}
-use Rattle.struct_plan.specs.declared.entry.Field.{Field}
+use Rattle.struct_plan.specs.declared.entry.ValueField.{ValueField}
 use Rattle.struct_plan.specs.declared.numbers.WalkEnd.{WalkEnd}
 use Rattle.struct_plan.specs.declared.numbers.WalkEnd.TheVariants.{Ended, Missing, Unfit}
 use Rattle.struct_plan.specs.Sources.{Source, Walked, walked_by}
@@ -59,7 +59,7 @@ of_items items cursor field given = raw_of (slice_get items given) field.name >>
 -- ---- a fixed layout
 
 -- what a value at a place is of
-abbrev pub field_there : Place → Field
+abbrev pub field_there : Place → ValueField
 field_there place = record { name = place.name; shape = place.shape; moves = 0 }
 
 -- values with one more in front, or none where it isn't there

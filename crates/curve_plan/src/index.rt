@@ -9,7 +9,7 @@ pub const NEAR: usize = 8;
 /// For so many numbers at a time, from the least on, the place of the last of ascending numbers that comes no later, and the
 /// last place of all. It is a guess, which whoever asks for it tests.
 #[derive(Drop)]
-pub struct Index {
+pub struct PointIndex {
     least: u64,
     shift: u32,
     beyond: u16,
@@ -90,14 +90,14 @@ fn places_of(
     Ok(places)
 }
 
-impl Index {
+impl PointIndex {
     /// The index of ascending numbers.
-    pub fn compile(alloc: Global, numbers: &[i64]) -> Result<Index, AllocError> {
+    pub fn compile(alloc: Global, numbers: &[i64]) -> Result<PointIndex, AllocError> {
         let least = numbers.first().copied().unwrap_or(0);
         let most = numbers.last().copied().unwrap_or(0);
         let reach = most.abs_diff(least);
         let shift = shift_for(reach, numbers.len());
-        Ok(Index {
+        Ok(PointIndex {
             least: least.cast_unsigned(),
             shift,
             beyond: place_word(numbers.len().saturating_sub(1)),

@@ -8,7 +8,7 @@ ghost use Rattle.curve_plan.specs.Knots.{knot_at, knots_at, Climbs, AreApart, Ar
 ghost use Rattle.curve_plan.specs.Pairs.{pair_at};
 ghost use Rattle.curve_plan.specs.Slopes.{IsSlope};
 
-use crate::index::{Index, NEAR, near_number, nearest};
+use crate::index::{NEAR, PointIndex, near_number, nearest};
 use crate::pair::Pair;
 use crate::slope::{Slope, slope_of};
 use dec_num::{Point, eng_of, interp, whole_number};
@@ -20,7 +20,7 @@ use std::alloc::{AllocError, Global};
 pub struct PointCurve {
     points: Vec<Point>,
     slopes: Vec<Option<Slope>>,
-    index: Index,
+    index: PointIndex,
     inter: u8,
 }
 
@@ -184,7 +184,7 @@ impl PointCurve {
     {
         let points = sorted_points(alloc, caf, caps)?;
         let slopes = slopes_of(alloc, &points)?;
-        let index = Index::compile(alloc, &starts_of(alloc, &points)?)?;
+        let index = PointIndex::compile(alloc, &starts_of(alloc, &points)?)?;
         Ok(PointCurve {
             points,
             slopes,

@@ -5,7 +5,7 @@ ghost use Rattle.std.specs.Option.{option_copied};
 ghost use Rattle.mib_model.specs.CalibrationViews.{calibrated_as};
 ghost use Rattle.curve_plan.specs.Ranges.{range_of, holds_raw, text_of_range, precedes, AreSeparate};
 
-use crate::index::{Index, NEAR, lower_word, nearest};
+use crate::index::{NEAR, PointIndex, lower_word, nearest};
 use dec_num::decimal_whole;
 use mib_model::{Cal, Text, TxpRow};
 use std::alloc::{AllocError, Global};
@@ -37,7 +37,7 @@ impl Range {
 pub struct RangeCurve {
     ranges: Vec<Range>,
     separate: bool,
-    index: Index,
+    index: PointIndex,
 }
 
 // The range of a row, where its bounds are whole numbers.
@@ -137,7 +137,7 @@ impl RangeCurve {
         let ranges = ranges_of(alloc, txps)?;
         let mut ascending = Vec::from_slice(alloc, &ranges)?;
         ascending.sort_by_key(|range| range.low)?;
-        let index = Index::compile(alloc, &starts_of(alloc, &ascending)?)?;
+        let index = PointIndex::compile(alloc, &starts_of(alloc, &ascending)?)?;
         if are_separate(&ascending) {
             Ok(RangeCurve {
                 ranges: ascending,

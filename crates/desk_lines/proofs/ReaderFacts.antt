@@ -10,7 +10,7 @@ use Rattle.mib_model.specs.Lines.{is_feed}
 use Rattle.run_model.specs.Script.{most_script, most_lines}
 use Rattle.desk_lines.specs.declared.next_line.NextLine.{NextLine}
 use Rattle.desk_lines.specs.declared.next_line.NextLine.TheVariants as next_line
-use Rattle.desk_lines.specs.declared.piece.Piece.{Piece}
+use Rattle.desk_lines.specs.declared.piece.ScriptPiece.{ScriptPiece}
 use Rattle.desk_lines.specs.declared.piece.PieceEnd.TheVariants as end
 use Rattle.desk_lines.specs.Ahead.{Reading}
 use Rattle.desk_lines.specs.Gives.{Gives, HasNextCause, TakesLine, line_of}
@@ -18,7 +18,7 @@ use Rattle.desk_lines.specs.Pieces.{TakesPiece, Ends}
 use Rattle.desk_lines.proofs.AheadFacts.{line-feed, line-last, none-end, none-lines, none-octets}
 
 -- the line that was taken stands in the buffer
-gives-line : (piece : Piece) (room : ℕ) (was now : Reading) (old new : Option (List ℕ)) (buffer : List ℕ) → length buffer ≡ 4097 → (t : TakesPiece piece room old new buffer)
+gives-line : (piece : ScriptPiece) (room : ℕ) (was now : Reading) (old new : Option (List ℕ)) (buffer : List ℕ) → length buffer ≡ 4097 → (t : TakesPiece piece room old new buffer)
     → TakesLine was now old new t.part → Gives (line_of piece.octets) was now old new buffer
 gives-line piece room was now old new buffer size t takes = elim (cases_Bool (nat_le 4097 piece.octets)) [
   | inl long ↦
@@ -40,7 +40,7 @@ cause-line n before now same = elim (cases_Bool (nat_le 4097 n)) [
 ]
 
 -- a piece ended with an LF
-pub gives-feed : (lines taken further : ℕ) (piece : Piece) (answer : NextLine) (old new : Option (List ℕ)) (buffer : List ℕ) → length buffer ≡ 4097
+pub gives-feed : (lines taken further : ℕ) (piece : ScriptPiece) (answer : NextLine) (old new : Option (List ℕ)) (buffer : List ℕ) → length buffer ≡ 4097
     → lines < most_lines → taken ≤ most_script → TakesPiece piece (most_script - taken) old new buffer → piece.end ≡ end.Feed
     → further ≡ taken + piece.octets + 1 → answer ≡ line_of piece.octets
     → Gives answer (record { lines = lines; octets = taken }) (record { lines = lines + 1; octets = further }) old new buffer
@@ -50,7 +50,7 @@ gives-feed lines taken further piece answer old new buffer size few fits t is su
     rw (told, same) (gives-line piece (most_script - taken) _ _ old new buffer size t (line-feed lines taken old new t.part t.no_feed few (omega (arith, fits, ends.0)) ends.1))
 
 -- a piece ended with the script
-pub gives-last : (lines taken further : ℕ) (piece : Piece) (answer : NextLine) (old new : Option (List ℕ)) (buffer : List ℕ) → length buffer ≡ 4097
+pub gives-last : (lines taken further : ℕ) (piece : ScriptPiece) (answer : NextLine) (old new : Option (List ℕ)) (buffer : List ℕ) → length buffer ≡ 4097
     → lines < most_lines → taken ≤ most_script → TakesPiece piece (most_script - taken) old new buffer → piece.end ≡ end.Source
     → 0 < piece.octets → further ≡ taken + piece.octets → answer ≡ line_of piece.octets
     → Gives answer (record { lines = lines; octets = taken }) (record { lines = lines + 1; octets = further }) old new buffer
@@ -61,7 +61,7 @@ gives-last lines taken further piece answer old new buffer size few fits t is so
     (line-last lines taken old new t.part t.no_feed few (omega (arith, fits, ends.0)) (omega (arith, some, t.count)) ends.1 ends.2))
 
 -- nothing was left
-pub gives-end : (lines taken further : ℕ) (piece : Piece) (old new : Option (List ℕ)) (buffer : List ℕ)
+pub gives-end : (lines taken further : ℕ) (piece : ScriptPiece) (old new : Option (List ℕ)) (buffer : List ℕ)
     → lines < most_lines → taken ≤ most_script → TakesPiece piece (most_script - taken) old new buffer → piece.end ≡ end.Source
     → piece.octets ≡ 0 → further ≡ taken + piece.octets
     → Gives next_line.End (record { lines = lines; octets = taken }) (record { lines = lines; octets = further }) old new buffer
@@ -77,7 +77,7 @@ gives-end lines taken further piece old new buffer few fits t is none sum =
     nil_of (x ∷ xs) is = absurd (omega (arith, is))
 
 -- as many octets were taken as are taken of a script
-pub gives-room : (lines taken further : ℕ) (piece : Piece) (old new : Option (List ℕ)) (buffer : List ℕ)
+pub gives-room : (lines taken further : ℕ) (piece : ScriptPiece) (old new : Option (List ℕ)) (buffer : List ℕ)
     → taken ≤ most_script → TakesPiece piece (most_script - taken) old new buffer → piece.end ≡ end.Room → further ≡ taken + piece.octets
     → Gives next_line.Limit (record { lines = lines; octets = taken }) (record { lines = lines; octets = further }) old new buffer
 gives-room lines taken further piece old new buffer fits t is sum =

@@ -2,7 +2,7 @@
 use Rattle.std.specs.Prelude.{◌≡◌, ℕ, ◌<◌, ◌≤◌, List, [], ◌∷◌, ◌++◌, length, take, Option, Result, MatchOption, MatchResult}
 use Rattle.std.specs.Io.KnownBytes.{Consumes, IsAtEnd}
 use Rattle.tm_io.specs.Causes.{Rose}
-use Rattle.desk_lines.specs.declared.piece.Piece.{Piece}
+use Rattle.desk_lines.specs.declared.piece.ScriptPiece.{ScriptPiece}
 use Rattle.desk_lines.specs.declared.piece.PieceEnd.{PieceEnd}
 use Rattle.desk_lines.specs.declared.piece.PieceEnd.TheVariants as end
 use Rattle.desk_lines.specs.Ahead.{HasNoFeed}
@@ -20,7 +20,7 @@ Ends end.Room part room old new = (length part ≡ room) × Consumes old new par
 Ends end.Failed part room old new = Consumes old new part
 
 -- octets of one line were taken, and the first of them stand at the front of the buffer
-pub record TakesPiece (piece : Piece) (room : ℕ) (old new : Option (List ℕ)) (buffer : List ℕ) : Type 0 where
+pub record TakesPiece (piece : ScriptPiece) (room : ℕ) (old new : Option (List ℕ)) (buffer : List ℕ) : Type 0 where
   pub part : List ℕ
   pub no_feed : HasNoFeed part
   pub count : length part ≡ piece.octets

@@ -20,7 +20,7 @@ pub(crate) enum PieceEnd {
 
 /// How many octets of a line were taken, its LF apart.
 #[derive(Clone, Copy)]
-pub(crate) struct Piece {
+pub(crate) struct ScriptPiece {
     pub octets: u32,
     pub end: PieceEnd,
 }
@@ -53,7 +53,7 @@ fn keep(into: &mut [u8], place: usize, octet: u8)
 
 /// Takes the octets up to the next LF and the LF itself, but no more than there is room for. The first of them are
 /// put at the front of `into`.
-pub(crate) fn take_piece<S: Source>(source: &mut S, room: u32, into: &mut [u8]) -> Piece
+pub(crate) fn take_piece<S: Source>(source: &mut S, room: u32, into: &mut [u8]) -> ScriptPiece
     ensures piece { TakesPiece result room (S.left source.old) (S.left source.new) into.new }
     ensures cause { HasPieceCause result.end (S.faults source.old) (S.faults source.new) }
     ensures holds { S.holds source.new ≡ S.holds source.old }
@@ -72,9 +72,9 @@ pub(crate) fn take_piece<S: Source>(source: &mut S, room: u32, into: &mut [u8]) 
             Ok(None) => PieceEnd::Source,
             Err(Failed) => PieceEnd::Failed,
         };
-        return Piece { octets, end };
+        return ScriptPiece { octets, end };
     }
-    Piece {
+    ScriptPiece {
         octets,
         end: PieceEnd::Room,
     }

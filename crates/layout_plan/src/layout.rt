@@ -8,7 +8,7 @@ ghost use Rattle.layout_plan.specs.Spans.{span_places, spans_places};
 ghost use Rattle.layout_plan.specs.Stops.{ended_at};
 
 use crate::items::ByName;
-use crate::span::{Span, Stop};
+use crate::span::{Span, SpanStop};
 use bit_field::{Values, shape_of};
 use first_rows::FirstRows;
 use mib_model::{Ended, PidRow, PlfRow, Shape, Steps, TypeItem};
@@ -80,7 +80,11 @@ fn spans_of(
 
 // Reads the values at the places of spans; where they stop before the last of them, tells why, and in which span.
 #[inline(always)]
-fn read_spans<'a>(spans: &'a [Span], packet: &[u8], values: &mut Values) -> Option<(Stop, &'a Span)>
+fn read_spans<'a>(
+    spans: &'a [Span],
+    packet: &[u8],
+    values: &mut Values,
+) -> Option<(SpanStop, &'a Span)>
     requires slots { HasSlots values.old }
     ensures reads { Reads packet.now (spans_places spans.now) (option_map (λ stopped. ended_at stopped.1.now.name stopped.0) result) values.old values.new }
     ensures stays { KeepsSlots values.old values.new }
@@ -95,7 +99,11 @@ fn read_spans<'a>(spans: &'a [Span], packet: &[u8], values: &mut Values) -> Opti
 
 // Reads them by values of its own, which the loop may keep in registers.
 #[inline(never)]
-fn read_apart<'a>(spans: &'a [Span], packet: &[u8], values: &mut Values) -> Option<(Stop, &'a Span)>
+fn read_apart<'a>(
+    spans: &'a [Span],
+    packet: &[u8],
+    values: &mut Values,
+) -> Option<(SpanStop, &'a Span)>
     requires slots { HasSlots values.old }
     ensures reads { Reads packet.now (spans_places spans.now) (option_map (λ stopped. ended_at stopped.1.now.name stopped.0) result) values.old values.new }
     ensures stays { KeepsSlots values.old values.new }

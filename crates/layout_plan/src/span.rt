@@ -37,21 +37,21 @@ impl Model for Span {
 
 /// Why values end before the last place of a span.
 #[derive(Clone, Copy)]
-pub enum Stop {
+pub enum SpanStop {
     /// A value's bits aren't in the packet.
     Short,
     /// There is no room for a value.
     Many,
 }
 
-impl Stop {
+impl SpanStop {
     /// How the values of a packet end that stop at a value of this name.
     pub fn ended(self, name: Name) -> Ended
         ensures { result ≡ ended_at name self }
     {
         match self {
-            Stop::Short => Ended::Short { name },
-            Stop::Many => Ended::Many,
+            SpanStop::Short => Ended::Short { name },
+            SpanStop::Many => Ended::Many,
         }
     }
 }
@@ -64,16 +64,16 @@ fn read_value(
     name: &Name,
     shape: Shape,
     values: &mut Values,
-) -> Option<Stop>
+) -> Option<SpanStop>
     requires slots { HasSlots values.old }
     ensures reads { Reads packet.now (record { name = name.now; at = at; shape = shape } ∷ []) (ended_by name.now result) values.old values.new }
     ensures stays { KeepsSlots values.old values.new }
 {
     if values.used == MOST_VALUES {
-        return Some(Stop::Many);
+        return Some(SpanStop::Many);
     }
     let Some(value) = take(packet, at, *name, shape) else {
-        return Some(Stop::Short);
+        return Some(SpanStop::Short);
     };
     values.push(value);
     None
@@ -154,7 +154,7 @@ impl Span {
 
     // Reads the values at its places, however many there are, and tells why where they stop before the last of them.
     #[inline(never)]
-    fn read_each(&self, packet: &[u8], values: &mut Values) -> Option<Stop>
+    fn read_each(&self, packet: &[u8], values: &mut Values) -> Option<SpanStop>
         requires slots { HasSlots values.old }
         ensures reads { Reads packet.now (span_places self.now) (ended_by self.now.name result) values.old values.new }
         ensures stays { KeepsSlots values.old values.new }
@@ -170,7 +170,7 @@ impl Span {
 
     // Reads them by values of its own, so that the caller may keep its own in registers.
     #[inline(always)]
-    fn read_apart(&self, packet: &[u8], values: &mut Values) -> Option<Stop>
+    fn read_apart(&self, packet: &[u8], values: &mut Values) -> Option<SpanStop>
         requires slots { HasSlots values.old }
         ensures reads { Reads packet.now (span_places self.now) (ended_by self.now.name result) values.old values.new }
         ensures stays { KeepsSlots values.old values.new }
@@ -186,7 +186,7 @@ impl Span {
 
     /// Reads the values at its places, and tells why where they stop before the last of them.
     #[inline(always)]
-    pub fn read(&self, packet: &[u8], values: &mut Values) -> Option<Stop>
+    pub fn read(&self, packet: &[u8], values: &mut Values) -> Option<SpanStop>
         requires slots { HasSlots values.old }
         ensures reads { Reads packet.now (span_places self.now) (ended_by self.now.name result) values.old values.new }
         ensures stays { KeepsSlots values.old values.new }

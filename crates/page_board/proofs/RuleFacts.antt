@@ -8,7 +8,7 @@ use lib.ListN.{get_elem?}
 use Rattle.crossbeam_utils.specs.Register.{Turns, Forks, Merges}
 use Rattle.atomic_table.proofs.Lists.{at_set, at_snoc, set_again}
 use Rattle.display_pages.specs.declared.page.Page.{Page}
-use Rattle.page_board.specs.declared.view.View.{View}
+use Rattle.page_board.specs.declared.view.BoardView.{BoardView}
 use Rattle.page_board.specs.Sheets.{page_in}
 use Rattle.page_board.specs.Views.{no_page, last_behind, page_shown, BeginsWith, RisesAbove, IsShownBy, publisher, onlooker, Knows, Kept, Publishes, Looks, told_of}
 
@@ -71,7 +71,7 @@ knows-front : (pages front : List Page) → BeginsWith pages front → Knows pag
 knows-front pages front s = record { seen = s; all = λ is. absurd (false≢true is); told = tt; got = tt }
 
 -- an onlooker's knowledge where more was published
-knows-longer : (pages more : List Page) (v : View) → BeginsWith more pages → v.publishes ≡ false → Knows pages v → Knows more v
+knows-longer : (pages more : List Page) (v : BoardView) → BeginsWith more pages → v.publishes ≡ false → Knows pages v → Knows more v
 knows-longer pages more v s looks k = record {
   seen = begins-trans more pages v.seen s k.seen;
   all = λ is. absurd (false≢true (sym looks ∙ is));
@@ -82,32 +82,32 @@ knows-longer pages more v s looks k = record {
 -- ---- which end publishes
 
 -- each seat that publishes did so before
-abbrev Stems : List View → List View → Type 0
-Stems after before = (seat : ℕ) (v : View) → get_elem? after seat ≡ some v → v.publishes ≡ true → (u : View) × (get_elem? before seat ≡ some u) × (u.publishes ≡ true)
+abbrev Stems : List BoardView → List BoardView → Type 0
+Stems after before = (seat : ℕ) (v : BoardView) → get_elem? after seat ≡ some v → v.publishes ≡ true → (u : BoardView) × (get_elem? before seat ≡ some u) × (u.publishes ≡ true)
 
 -- at most one seat publishes
-abbrev One : List View → Type 0
-One views = (seat other : ℕ) (v w : View) → get_elem? views seat ≡ some v → get_elem? views other ≡ some w
+abbrev One : List BoardView → Type 0
+One views = (seat other : ℕ) (v w : BoardView) → get_elem? views seat ≡ some v → get_elem? views other ≡ some w
     → v.publishes ≡ true → w.publishes ≡ true → seat ≡ other
 
-one-stems : (after before : List View) → Stems after before → One before → One after
+one-stems : (after before : List BoardView) → Stems after before → One before → One after
 one-stems after before stems one seat other v w at there is also =
     let a = stems seat v at is in let b = stems other w there also in one seat other a.0 b.0 a.1 b.1 a.2 b.2
 
-stems-set : (views : List View) (seat : ℕ) (v w : View) → get_elem? views seat ≡ some v → (w.publishes ≡ true → v.publishes ≡ true) → Stems (set views seat w) views
+stems-set : (views : List BoardView) (seat : ℕ) (v w : BoardView) → get_elem? views seat ≡ some v → (w.publishes ≡ true → v.publishes ≡ true) → Stems (set views seat w) views
 stems-set views seat v w at keeps j u there is =
-    ⊎_elim (λ (t : (j ≡ seat) × (w ≡ u)). (v, subst (λ (k : ℕ). get_elem? views k ≡ some v) (sym t.0) at, keeps (ap (λ (z : View). z.publishes) t.1 ∙ is)))
+    ⊎_elim (λ (t : (j ≡ seat) × (w ≡ u)). (v, subst (λ (k : ℕ). get_elem? views k ≡ some v) (sym t.0) at, keeps (ap (λ (z : BoardView). z.publishes) t.1 ∙ is)))
     (λ (t : (j ≢ seat) × (get_elem? views j ≡ some u)). (u, t.1, is)) (at_set views seat j w u there)
 
-stems-snoc : (views : List View) (pages : List Page) → Stems (views ++ onlooker pages ∷ []) views
+stems-snoc : (views : List BoardView) (pages : List Page) → Stems (views ++ onlooker pages ∷ []) views
 stems-snoc views pages j u there is =
-    ⊎_elim (λ was. (u, was, is)) (λ (same : onlooker pages ≡ u). absurd (false≢true (ap (λ (z : View). z.publishes) same ∙ is))) (at_snoc views (onlooker pages) u j there)
+    ⊎_elim (λ was. (u, was, is)) (λ (same : onlooker pages ≡ u). absurd (false≢true (ap (λ (z : BoardView). z.publishes) same ∙ is))) (at_snoc views (onlooker pages) u j there)
 
 -- each view is known where one of them is set
-each-set : (pages : List Page) (views : List View) (seat : ℕ) (w : View) → ((j : ℕ) (u : View) → j ≢ seat → get_elem? views j ≡ some u → Knows pages u) → Knows pages w
-    → (j : ℕ) (u : View) → get_elem? (set views seat w) j ≡ some u → Knows pages u
+each-set : (pages : List Page) (views : List BoardView) (seat : ℕ) (w : BoardView) → ((j : ℕ) (u : BoardView) → j ≢ seat → get_elem? views j ≡ some u → Knows pages u) → Knows pages w
+    → (j : ℕ) (u : BoardView) → get_elem? (set views seat w) j ≡ some u → Knows pages u
 each-set pages views seat w others own j u at =
-    ⊎_elim (λ (t : (j ≡ seat) × (w ≡ u)). subst (λ (z : View). Knows pages z) t.1 own) (λ (t : (j ≢ seat) × (get_elem? views j ≡ some u)). others j u t.0 t.1) (at_set views seat j w u at)
+    ⊎_elim (λ (t : (j ≡ seat) × (w ≡ u)). subst (λ (z : BoardView). Knows pages z) t.1 own) (λ (t : (j ≢ seat) × (get_elem? views j ≡ some u)). others j u t.0 t.1) (at_set views seat j w u at)
 
 -- ---- the steps
 
@@ -115,8 +115,8 @@ each-set pages views seat w others own j u at =
 pub begins : (page : Page) → page ≡ no_page → Kept page (publisher ∷ [])
 begins page is = record { pages = []; shows = is; rises = tt; each = one-view; one = one-seat }
   where
-    one-view : (seat : ℕ) (v : View) → get_elem? (publisher ∷ []) seat ≡ some v → Knows [] v
-    one-view zero v at = subst (λ (u : View). Knows [] u) (some-injective publisher v at) (record { seen = begins-all []; all = λ _. refl; told = tt; got = tt })
+    one-view : (seat : ℕ) (v : BoardView) → get_elem? (publisher ∷ []) seat ≡ some v → Knows [] v
+    one-view zero v at = subst (λ (u : BoardView). Knows [] u) (some-injective publisher v at) (record { seen = begins-all []; all = λ _. refl; told = tt; got = tt })
     one-view (suc seat) v at = absurd (some-ne-none v (sym at))
 
     one-seat : One (publisher ∷ [])
@@ -125,10 +125,10 @@ begins page is = record { pages = []; shows = is; rises = tt; each = one-view; o
     one-seat (suc seat) other v w at there is also = absurd (some-ne-none v (sym at))
 
 -- the view after a look at all pages
-abbrev looked : View → List Page → Page → View
+abbrev looked : BoardView → List Page → Page → BoardView
 looked v pages page = record v { seen = pages; got = v.got ++ page ∷ [] }
 
-pub looks : (seat : ℕ) (v : View) → Turns (λ (sheet : List ℕ). Kept (page_in sheet)) seat v (λ x. x) (λ v x y w. Looks v (page_in x) w)
+pub looks : (seat : ℕ) (v : BoardView) → Turns (λ (sheet : List ℕ). Kept (page_in sheet)) seat v (λ x. x) (λ v x y w. Looks v (page_in x) w)
 looks seat v sheet views h at =
     let k = h.each seat v at in
     let page : Page = page_in sheet in
@@ -147,12 +147,12 @@ looks seat v sheet views h at =
     )
 
 -- the view after a page was published
-abbrev published : View → Page → View
+abbrev published : BoardView → Page → BoardView
 published v page = record v { seen = v.seen ++ page ∷ [] }
 
 -- an end beside the one that publishes, where more was published
-others-know : (seat : ℕ) (pages more : List Page) (views : List View) (v u : View) (j : ℕ) → BeginsWith more pages → One views
-    → ((j : ℕ) (u : View) → get_elem? views j ≡ some u → Knows pages u) → v.publishes ≡ true → get_elem? views seat ≡ some v → j ≢ seat
+others-know : (seat : ℕ) (pages more : List Page) (views : List BoardView) (v u : BoardView) (j : ℕ) → BeginsWith more pages → One views
+    → ((j : ℕ) (u : BoardView) → get_elem? views j ≡ some u → Knows pages u) → v.publishes ≡ true → get_elem? views seat ≡ some v → j ≢ seat
     → get_elem? views j ≡ some u → Knows more u
 others-know seat pages more views v u j on one each is at apart there = go u.publishes refl
   where
@@ -160,7 +160,7 @@ others-know seat pages more views v u j on one each is at apart there = go u.pub
     go true also = absurd (apart (one j seat u v there at also is))
     go false looks_on = knows-longer pages more u on looks_on (each j u there)
 
-pub publishes : (seat : ℕ) (v : View) (next : List ℕ) → v.publishes ≡ true → (page_shown v.seen).number < (page_in next).number
+pub publishes : (seat : ℕ) (v : BoardView) (next : List ℕ) → v.publishes ≡ true → (page_shown v.seen).number < (page_in next).number
     → Turns (λ (sheet : List ℕ). Kept (page_in sheet)) seat v (λ _. next) (λ v x y w. Publishes v (page_in y) w)
 publishes seat v next is later sheet views h at =
     let k = h.each seat v at in
@@ -168,7 +168,7 @@ publishes seat v next is later sheet views h at =
     let all : v.seen ≡ h.pages = k.all is in
     let more : List Page = v.seen ++ page ∷ [] in
     let on : BeginsWith more h.pages = subst (λ (l : List Page). BeginsWith more l) all (begins-snoc v.seen page) in
-    let others : (j : ℕ) (u : View) → j ≢ seat → get_elem? views j ≡ some u → Knows more u = λ j u apart there. others-know seat h.pages more views v u j on h.one h.each is at apart there in (
+    let others : (j : ℕ) (u : BoardView) → j ≢ seat → get_elem? views j ≡ some u → Knows more u = λ j u apart there. others-know seat h.pages more views v u j on h.one h.each is at apart there in (
       published v page,
       record {
         pages = more;
@@ -181,25 +181,25 @@ publishes seat v next is later sheet views h at =
       refl,
     )
 
-pub forks : (seat : ℕ) (v : View) → Forks (λ (sheet : List ℕ). Kept (page_in sheet)) seat v v (onlooker v.seen)
+pub forks : (seat : ℕ) (v : BoardView) → Forks (λ (sheet : List ℕ). Kept (page_in sheet)) seat v v (onlooker v.seen)
 forks seat v sheet views h at = record {
   pages = h.pages;
   shows = h.shows;
   rises = h.rises;
-  each = λ j u there. ⊎_elim (λ was. h.each j u (subst (λ (l : List View). get_elem? l j ≡ some u) (set_again views seat v at) was))
-      (λ (same : onlooker v.seen ≡ u). subst (λ (z : View). Knows h.pages z) same (knows-front h.pages v.seen (h.each seat v at).seen))
+  each = λ j u there. ⊎_elim (λ was. h.each j u (subst (λ (l : List BoardView). get_elem? l j ≡ some u) (set_again views seat v at) was))
+      (λ (same : onlooker v.seen ≡ u). subst (λ (z : BoardView). Knows h.pages z) same (knows-front h.pages v.seen (h.each seat v at).seen))
       (at_snoc (set views seat v) (onlooker v.seen) u j there);
   one = one-stems (set views seat v ++ onlooker v.seen ∷ []) (set views seat v) (stems-snoc (set views seat v) v.seen)
       (one-stems (set views seat v) views (stems-set views seat v v at (λ is. is)) h.one);
 }
 
-pub merges : (seat : ℕ) (v : View) (other : ℕ) (w : View) → Merges (λ (sheet : List ℕ). Kept (page_in sheet)) seat v other w (told_of v w) (onlooker [])
+pub merges : (seat : ℕ) (v : BoardView) (other : ℕ) (w : BoardView) → Merges (λ (sheet : List ℕ). Kept (page_in sheet)) seat v other w (told_of v w) (onlooker [])
 merges seat v other w sheet views h at apart there =
     let k = h.each seat v at in
     let one : Knows h.pages w = ⊎_elim (λ (t : (other ≡ seat) × (told_of v w ≡ w)). absurd (apart t.0))
     (λ (t : (other ≢ seat) × (get_elem? views other ≡ some w)). h.each other w t.1) (at_set views seat other (told_of v w) w there) in
     let knows : Knows h.pages (told_of v w) = record { seen = k.seen; all = k.all; told = (one.seen, k.told); got = k.got } in
-    let first : List View = set views seat (told_of v w) in record {
+    let first : List BoardView = set views seat (told_of v w) in record {
       pages = h.pages;
       shows = h.shows;
       rises = h.rises;
@@ -210,7 +210,7 @@ merges seat v other w sheet views h at apart there =
     }
 
 -- what an end has seen is what it was told of last, where both show the same number
-pub seen-is-told : (v : View) (pages : List Page) (told : List (List Page)) → RisesAbove 0 v.seen → AllByRecursion (BeginsWith v.seen) v.told
+pub seen-is-told : (v : BoardView) (pages : List Page) (told : List (List Page)) → RisesAbove 0 v.seen → AllByRecursion (BeginsWith v.seen) v.told
     → v.told ≡ pages ∷ told → (page_shown v.seen).number ≡ (page_shown pages).number → v.seen ≡ pages
 seen-is-told v pages told rises all e same =
     same-pages v.seen pages rises (subst (λ (l : List (List Page)). AllByRecursion (BeginsWith v.seen) l) e all).0 same

@@ -5,7 +5,7 @@ use Rattle.crossbeam_utils.specs.Seq.{cell_view}
 use Rattle.display_pages.specs.declared.page.Page.{Page}
 use Rattle.page_board.specs.declared.note.Note.{Note}
 use Rattle.page_board.specs.declared.publisher.Publisher.{Publisher}
-use Rattle.page_board.specs.declared.view.View.{View}
+use Rattle.page_board.specs.declared.view.BoardView.{BoardView}
 use Rattle.page_board.specs.declared.viewer.Viewer.{Viewer}
 
 -- the pages that were published
@@ -17,7 +17,7 @@ abbrev pub board_of : Publisher → TableId
 board_of p = p.pass.table_id
 
 -- what a viewer knows
-abbrev pub known_by : Viewer → View
+abbrev pub known_by : Viewer → BoardView
 known_by v = cell_view v.pass
 
 -- the board of a viewer

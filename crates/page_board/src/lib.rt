@@ -19,5 +19,5 @@ pub use catching::catch_up;
 pub use note::Note;
 pub use publisher::Publisher;
 pub use sheet::{Sheet, empty_sheet, lay_cell, lay_head, page_of};
-pub use view::View;
+pub use view::BoardView;
 pub use viewer::Viewer;

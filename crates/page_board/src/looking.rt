@@ -4,7 +4,7 @@ ghost use Rattle.page_board.specs.Ends.{board_noted, board_seen_by, known_by, pa
 ghost use Rattle.page_board.specs.Views.{Looks, onlooker, told_of};
 
 use crate::note::Note;
-use crate::rule::{Learn, Look};
+use crate::rule::{BoardLook, Learn};
 use crate::sheet::page_of;
 use crate::viewer::Viewer;
 use display_pages::Page;
@@ -17,7 +17,7 @@ impl Viewer {
         ensures looks { Looks (known_by self.old) result (known_by self.new) }
         ensures board { board_seen_by self.new ≡ board_seen_by self.old }
     {
-        let sheet = self.cell.load_as::<Look, R>(rt, &mut self.pass);
+        let sheet = self.cell.load_as::<BoardLook, R>(rt, &mut self.pass);
         self.looked.store(true, Ordering::Release);
         page_of(&sheet)
     }

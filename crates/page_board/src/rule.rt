@@ -4,7 +4,7 @@ ghost use Rattle.page_board.specs.Sheets.{page_in};
 ghost use Rattle.page_board.specs.Views.{Kept, Looks, Publishes, onlooker, publisher, told_of};
 
 use crate::sheet::Sheet;
-use crate::view::View;
+use crate::view::BoardView;
 use atomic_table::{Join, Split};
 use crossbeam_utils::atomic::seq_cell::{Pass, RuledSeqCell};
 use crossbeam_utils::rule::{Outcome, Protocol};
@@ -12,7 +12,7 @@ use crossbeam_utils::rule::{Outcome, Protocol};
 /// The rule: one end publishes, and each knows some of the pages.
 pub struct Pages;
 
-impl Protocol<Sheet, View> for Pages {
+impl Protocol<Sheet, BoardView> for Pages {
     ghost holds = { λ sheet. Kept (page_in sheet) };
 
     ghost first = { publisher };
@@ -21,21 +21,21 @@ impl Protocol<Sheet, View> for Pages {
 /// Publishes a page.
 pub struct Publish;
 
-impl Outcome<Sheet, View> for Publish {
+impl Outcome<Sheet, BoardView> for Publish {
     ghost then = { λ v x y w. Publishes v (page_in y) w };
 }
 
 /// Takes the last page.
-pub struct Look;
+pub struct BoardLook;
 
-impl Outcome<Sheet, View> for Look {
+impl Outcome<Sheet, BoardView> for BoardLook {
     ghost then = { λ v x y w. Looks v (page_in x) w };
 }
 
 /// Makes an end that knows what was published.
 pub struct Tell;
 
-impl Split<View> for Tell {
+impl Split<BoardView> for Tell {
     ghost left = { λ v. v };
 
     ghost right = { λ v. onlooker v.seen };
@@ -44,14 +44,14 @@ impl Split<View> for Tell {
 /// Takes in what another end knew.
 pub struct Learn;
 
-impl Join<View> for Learn {
+impl Join<BoardView> for Learn {
     ghost both = { told_of };
 
     ghost spent = { onlooker [] };
 }
 
 /// The cell of a board.
-pub type BoardCell = RuledSeqCell<Sheet, View, Pages, 130>;
+pub type BoardCell = RuledSeqCell<Sheet, BoardView, Pages, 130>;
 
 /// What an end of a board holds of its cell.
-pub type BoardPass = Pass<Sheet, View>;
+pub type BoardPass = Pass<Sheet, BoardView>;

@@ -1,6 +1,6 @@
 ghost use Rattle.std.specs.Prelude.{◌≡◌, [], IfOk};
 
-use crate::page::Page;
+use crate::page::LinePage;
 use bit_field::MOST_VALUES;
 use line_text::ShortTexts;
 use mib_model::Line;
@@ -37,7 +37,7 @@ const _: () = prove!(
 /// The text of records that are being written, with room for 40,000,000 octets that is reserved once. Contracts see the
 /// octets so far.
 pub struct Lines {
-    pub(crate) page: Page,
+    pub(crate) page: LinePage,
     pub(crate) shorts: ShortTexts,
     pub(crate) number: Line,
 }
@@ -67,7 +67,7 @@ impl Lines {
         ensures { IfOk result (λ lines. lines ≡ []) }
     {
         Ok(Lines {
-            page: Page::new(alloc)?,
+            page: LinePage::new(alloc)?,
             shorts: ShortTexts::new(alloc)?,
             number: Line::new(),
         })

@@ -11,22 +11,22 @@ const READY: usize = 16_384;
 
 /// The octets so far of lines that are being written. Others stand ready behind them, so that an octet is appended by
 /// storing it. Contracts see the octets, and how many there may be before more are made ready.
-pub(crate) struct Page {
+pub(crate) struct LinePage {
     pub octets: Vec<u8>,
     pub used: usize,
 }
 
 /// By hand, so that whoever lets one go proves one call.
-impl Drop for Page {
+impl Drop for LinePage {
     fn drop(self) {
-        let Page {
+        let LinePage {
             octets: _octets,
             used: _,
         } = self;
     }
 }
 
-impl Model for Page {
+impl Model for LinePage {
     ghost use Rattle.std.specs.Prelude.{◌≤◌, length, take, vec_capacity};
     ghost use Rattle.record_text.specs.Pages.{Written};
     ghost use Rattle.record_text.specs.declared.lines.TheConstants.{LINES_ROOM};
@@ -38,12 +38,12 @@ impl Model for Page {
     ghost invariant = { λ page. (page.used ≤ length page.octets.items) × (LINES_ROOM ≤ vec_capacity page.octets) };
 }
 
-impl Page {
+impl LinePage {
     /// An empty page. An error is want of memory.
-    pub(crate) fn new(alloc: Global) -> Result<Page, AllocError>
+    pub(crate) fn new(alloc: Global) -> Result<LinePage, AllocError>
         ensures { IfOk result (λ page. page.octets ≡ []) }
     {
-        Ok(Page {
+        Ok(LinePage {
             octets: Vec::with_capacity(alloc, LINES_ROOM)?,
             used: 0,
         })

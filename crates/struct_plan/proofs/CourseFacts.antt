@@ -10,8 +10,8 @@ use Rattle.mib_model.specs.Structures.{Typed}
 use Rattle.mib_model.specs.Walk.{Walking, Goes, Ends, after_value}
 use Rattle.struct_plan.specs.declared.numbers.WalkEnd.{WalkEnd}
 use Rattle.struct_plan.specs.declared.numbers.WalkEnd.TheVariants.{Ended}
-use Rattle.struct_plan.specs.declared.course.Course.{Course}
-use Rattle.struct_plan.specs.declared.entry.Field.{Field}
+use Rattle.struct_plan.specs.declared.course.WalkCourse.{WalkCourse}
+use Rattle.struct_plan.specs.declared.entry.ValueField.{ValueField}
 use Rattle.struct_plan.specs.Courses.{Gives, Leads, Moves, walking, value_or_end}
 use Rattle.struct_plan.specs.Sources.{Source, Walked, Move, Steps, Halts, move, on_given, on_move, on_row_by, on_subject_by, walked_by}
 use Rattle.struct_plan.specs.Entries.{field_of}
@@ -32,21 +32,21 @@ module _ (db : Database) (source : Source) (end : Walked) where
   gives-step w (suc k, h) = leads_by k (move db source w) h
 
   -- the step of the next row
-  pub gives-row : (row : VpdRow) (rest : List VpdRow) (course : Course) (values : List Value) → Gives db source end (walking (row ∷ rest) course values)
+  pub gives-row : (row : VpdRow) (rest : List VpdRow) (course : WalkCourse) (values : List Value) → Gives db source end (walking (row ∷ rest) course values)
       → Moves db source end (on_row_by db source row rest (walking (row ∷ rest) (record course { cursor = course.cursor +ℤ row.offset }) values))
   unfolding move
   gives-row row rest course values gives = gives-step (walking (row ∷ rest) course values) gives
 
-  pub gives-none : (course : Course) (values : List Value) → Gives db source end (walking [] course values) → (values, Ended ended.Whole) ≡ end
+  pub gives-none : (course : WalkCourse) (values : List Value) → Gives db source end (walking [] course values) → (values, Ended ended.Whole) ≡ end
   unfolding move
   gives-none course values gives = gives-step (walking [] course values) gives
 
   -- rows in place of others
-  pub gives-todo : (todo todo' : List VpdRow) (course : Course) (values : List Value) → todo ≡ todo' → Gives db source end (walking todo course values) → Gives db source end (walking todo' course values)
+  pub gives-todo : (todo todo' : List VpdRow) (course : WalkCourse) (values : List Value) → todo ≡ todo' → Gives db source end (walking todo course values) → Gives db source end (walking todo' course values)
   gives-todo todo todo' course values is gives = subst (λ rows. Gives db source end (walking rows course values)) is gives
 
   -- the value of a known parameter
-  with-field : (t : Typed) (field : Field) → Some field ≡ option_map field_of (Some t) → field_of t ≡ field
+  with-field : (t : Typed) (field : ValueField) → Some field ≡ option_map field_of (Some t) → field_of t ≡ field
   with-field t field is = sym (some-same field (field_of t) is)
 
   given-none : (row : VpdRow) (rest : List VpdRow) (w : Walking) (o : Option Typed) → None ≡ option_map field_of o → Moves db source end (on_subject_by db source row rest w o) → (w.values, Ended (ended.NoParameter w.last)) ≡ end
@@ -60,13 +60,13 @@ module _ (db : Database) (source : Source) (end : Walked) where
   either-given row rest w t given false leads = leads
 
   -- the move of a row's value, by what comes of it
-  of-value : (row : VpdRow) (rest : List VpdRow) (w : Walking) (o : Option Typed) (field : Field) (given : Result Value WalkEnd)
+  of-value : (row : VpdRow) (rest : List VpdRow) (w : Walking) (o : Option Typed) (field : ValueField) (given : Result Value WalkEnd)
       → Some field ≡ option_map field_of o → value_or_end source w.cursor field (length w.values) ≡ given
       → Moves db source end (on_subject_by db source row rest w o) → (t : Typed) × (field_of t ≡ field) × Moves db source end (on_given db row rest w t given)
   of-value row rest w None field given is same leads = absurd (cc is)
   of-value row rest w (Some t) field given is same leads =
       let here = with-field t field is in
-      let value : value_or_end source w.cursor (field_of t) (length w.values) ≡ given = ap (λ (f : Field). value_or_end source w.cursor f (length w.values)) here ∙ same in (
+      let value : value_or_end source w.cursor (field_of t) (length w.values) ≡ given = ap (λ (f : ValueField). value_or_end source w.cursor f (length w.values)) here ∙ same in (
         t,
         here,
         subst (λ (r : Result Value WalkEnd). Moves db source end (on_given db row rest w t r)) value
@@ -74,18 +74,18 @@ module _ (db : Database) (source : Source) (end : Walked) where
       )
 
   -- behind a value that was given
-  pub given-value : (row : VpdRow) (rest : List VpdRow) (w : Walking) (o : Option Typed) (field : Field) (v : Value) (values : List Value) (cursor : ℤ)
+  pub given-value : (row : VpdRow) (rest : List VpdRow) (w : Walking) (o : Option Typed) (field : ValueField) (v : Value) (values : List Value) (cursor : ℤ)
       → Some field ≡ option_map field_of o → value_or_end source w.cursor field (length w.values) ≡ Ok v → values ≡ w.values ++ v ∷ [] → cursor ≡ pos (v.at + field.moves)
       → Moves db source end (on_subject_by db source row rest w o) → Leads db source end (after_value db row rest v.raw (record { todo = rest; cursor = cursor; last = w.last; values = values }))
   given-value row rest w o field v values cursor is ok more moved leads =
       let (t, same, here) = of-value row rest w o field (Ok v) is ok leads in
-      let moves : (field_of t).moves ≡ field.moves = ap (λ (f : Field). f.moves) same in
+      let moves : (field_of t).moves ≡ field.moves = ap (λ (f : ValueField). f.moves) same in
       let cursors : pos (v.at + (field_of t).moves) ≡ cursor = ap (λ (m : ℕ). pos (v.at + m)) moves ∙ sym moved in
       subst (λ (x : ℤ). Leads db source end (after_value db row rest v.raw (record { todo = rest; cursor = x; last = w.last; values = values }))) cursors
       (subst (λ (vs : List Value). Leads db source end (after_value db row rest v.raw (record { todo = rest; cursor = pos (v.at + (field_of t).moves); last = w.last; values = vs }))) (sym more) here)
 
   -- where there is none
-  pub not-given : (row : VpdRow) (rest : List VpdRow) (w : Walking) (o : Option Typed) (field : Field) (why : WalkEnd)
+  pub not-given : (row : VpdRow) (rest : List VpdRow) (w : Walking) (o : Option Typed) (field : ValueField) (why : WalkEnd)
       → Some field ≡ option_map field_of o → value_or_end source w.cursor field (length w.values) ≡ Err why
       → Moves db source end (on_subject_by db source row rest w o) → (w.values, why) ≡ end
   not-given row rest w o field why is err leads = let (t, same, here) = of-value row rest w o field (Err why) is err leads in here

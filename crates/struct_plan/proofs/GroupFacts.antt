@@ -6,7 +6,7 @@ use Rattle.std.specs.List.{repeat}
 use Rattle.mib_model.specs.declared.rows.VpdRow.{VpdRow}
 use Rattle.mib_model.specs.Structures.{group_repeated}
 use Rattle.mib_laws.proofs.Nesting.{Nested}
-use Rattle.struct_plan.specs.declared.group.Group.{Group}
+use Rattle.struct_plan.specs.declared.group.RowGroup.{RowGroup}
 use Rattle.struct_plan.specs.Groups.{size_at, end_of, body, still_to_walk, Enclose, Ahead, once_less, settled_at, settled, entered_at, entered}
 use Rattle.struct_plan.proofs.NestFacts.{within-group, within-rows}
 
@@ -27,24 +27,24 @@ not_one n true is = let same = eqb-true (suc (suc n)) 1 is in absurd (omega (ari
 
 module _ (rows : List VpdRow) where
   -- groups that hold some rows hold fewer
-  pub enclose-fewer : (low high low' high' : ℕ) (gs : List Group) → low ≤ low' → high' ≤ high → Enclose rows low high gs → Enclose rows low' high' gs
+  pub enclose-fewer : (low high low' high' : ℕ) (gs : List RowGroup) → low ≤ low' → high' ≤ high → Enclose rows low high gs → Enclose rows low' high' gs
   enclose-fewer low high low' high' [] up down around = omega (arith, down, around)
   enclose-fewer low high low' high' (g ∷ gs) up down around =
       let a = around.0 in let b = around.1 in
       (omega (arith, up, a), omega (arith, down, b), around.2, around.3, around.4)
 
-  pub enclose-length : (low high : ℕ) (gs : List Group) → Enclose rows low high gs → high ≤ length rows
+  pub enclose-length : (low high : ℕ) (gs : List RowGroup) → Enclose rows low high gs → high ≤ length rows
   enclose-length low high [] around = around
   enclose-length low high (g ∷ gs) around = let le = enclose-length g.row (end_of rows g) gs around.4 in let b = around.1 in omega (arith, le, b)
 
   -- the innermost of them
-  pub enclose-take : (n low high : ℕ) (gs : List Group) → Enclose rows low high gs → Enclose rows low high (take n gs)
+  pub enclose-take : (n low high : ℕ) (gs : List RowGroup) → Enclose rows low high gs → Enclose rows low high (take n gs)
   enclose-take zero low high gs around = enclose-length low high gs around
   enclose-take (suc n) low high [] around = around
   enclose-take (suc n) low high (g ∷ gs) around = (around.0, around.1, around.2, around.3, enclose-take n g.row (end_of rows g) gs around.4)
 
   -- the next rows that lie in the innermost group
-  pub take-still : (low at k : ℕ) (gs : List Group) → Enclose rows low (at + k) gs → take k (still_to_walk rows at gs) ≡ take k (drop at rows)
+  pub take-still : (low at k : ℕ) (gs : List RowGroup) → Enclose rows low (at + k) gs → take k (still_to_walk rows at gs) ≡ take k (drop at rows)
   take-still low at k [] around = refl
   take-still low at k (g ∷ gs) around =
       let e = end_of rows g in
@@ -56,7 +56,7 @@ module _ (rows : List VpdRow) where
       (take-append-le k (take (e - at) (drop at rows)) more (omega (arith, front, b)) ∙ take-take k (e - at) (drop at rows) (omega (arith, b)))
 
   -- the rows behind them
-  pub drop-still : (low at k : ℕ) (gs : List Group) → Enclose rows low (at + k) gs → drop k (still_to_walk rows at gs) ≡ still_to_walk rows (at + k) gs
+  pub drop-still : (low at k : ℕ) (gs : List RowGroup) → Enclose rows low (at + k) gs → drop k (still_to_walk rows at gs) ≡ still_to_walk rows (at + k) gs
   drop-still low at k [] around = drop-drop k at rows
   drop-still low at k (g ∷ gs) around =
       let e = end_of rows g in
@@ -73,21 +73,21 @@ module _ (rows : List VpdRow) where
       (ap (λ (xs : List VpdRow). xs ++ (reps ++ behind)) rest ∙ sym (append_assoc (take (e - (at + k)) (drop (at + k) rows)) reps behind)))
 
   -- the next row and those behind it
-  pub next-still : (low at : ℕ) (gs : List Group) (row : VpdRow) (rest : List VpdRow) → Enclose rows low (at + 1) gs → drop at rows ≡ row ∷ rest → still_to_walk rows at gs ≡ row ∷ still_to_walk rows (at + 1) gs
+  pub next-still : (low at : ℕ) (gs : List RowGroup) (row : VpdRow) (rest : List VpdRow) → Enclose rows low (at + 1) gs → drop at rows ≡ row ∷ rest → still_to_walk rows at gs ≡ row ∷ still_to_walk rows (at + 1) gs
   next-still low at gs row rest around is =
       sym (take-append-drop 1 (still_to_walk rows at gs)) ∙
       (ap (λ (xs : List VpdRow). xs ++ drop 1 (still_to_walk rows at gs)) (take-still low at 1 gs around ∙ ap (take 1) is) ∙
       ap (λ (xs : List VpdRow). row ∷ xs) (drop-still low at 1 gs around))
 
   -- a group at a place is the rows up to its end
-  pub still-split : (low at k : ℕ) (gs : List Group) → Enclose rows low (at + k) gs → still_to_walk rows at gs ≡ take k (drop at rows) ++ still_to_walk rows (at + k) gs
+  pub still-split : (low at k : ℕ) (gs : List RowGroup) → Enclose rows low (at + k) gs → still_to_walk rows at gs ≡ take k (drop at rows) ++ still_to_walk rows (at + k) gs
   still-split low at k gs around =
       sym (take-append-drop k (still_to_walk rows at gs)) ∙
       (ap (λ (xs : List VpdRow). xs ++ drop k (still_to_walk rows at gs)) (take-still low at k gs around) ∙
       ap (λ (xs : List VpdRow). take k (drop at rows) ++ xs) (drop-still low at k gs around))
 
   -- the group of the row at a place, walked so often
-  module _ (at : ℕ) (gs : List Group) (around : Enclose rows at (at + 1 + size_at rows at) gs) where
+  module _ (at : ℕ) (gs : List RowGroup) (around : Enclose rows at (at + 1 + size_at rows at) gs) where
     abbrev s : ℕ
     s = size_at rows at
 
@@ -135,14 +135,14 @@ module _ (rows : List VpdRow) where
     entered-enclose some (suc (suc n)) = inside (nat_eq (suc (suc n)) 0) (nat_lt 1 (suc (suc n))) (suc (suc n) - 1) n some (not_none n (nat_eq (suc (suc n)) 0) refl) (more n) (less n)
 
   -- the innermost group where its end was reached: the walk goes on with its next repetition
-  module _ (g : Group) (gs : List Group) (around : Enclose rows (end_of rows g) (end_of rows g) (g ∷ gs)) where
+  module _ (g : RowGroup) (gs : List RowGroup) (around : Enclose rows (end_of rows g) (end_of rows g) (g ∷ gs)) where
     abbrev e : ℕ
     e = end_of rows g
 
     holds : Enclose rows g.row (g.row + 1 + size_at rows g.row) gs
     holds = around.4
 
-    settled-groups : List Group
+    settled-groups : List RowGroup
     settled-groups = once_less g gs
 
     at_end : (n : ℕ) → g.left ≡ suc n → still_to_walk rows e (g ∷ gs) ≡ body rows g ++ (repeat n (body rows g) ++ still_to_walk rows e gs)
@@ -178,7 +178,7 @@ module _ (rows : List VpdRow) where
     repeated-enclose (suc zero) some = enclose-fewer g.row e (g.row + 1) (g.row + 1) gs (omega arith) (omega arith) holds
     repeated-enclose (suc (suc n)) some = next_enclose (nat_eq (suc (suc n)) 1) (suc (suc n) - 1) n (not_one n (nat_eq (suc (suc n)) 1) refl) (less n)
 
-    ahead-outer : (hs : List Group) → Enclose rows g.row e hs → Ahead rows (g.row + 1) hs
+    ahead-outer : (hs : List RowGroup) → Enclose rows g.row e hs → Ahead rows (g.row + 1) hs
     ahead-outer [] within = let some = around.2 in omega (arith, some, within)
     ahead-outer (h ∷ hs) within = let some = around.2 in let b = within.1 in omega (arith, some, b)
 
@@ -188,7 +188,7 @@ module _ (rows : List VpdRow) where
 
   -- what a settled place comes to
   module _ (at : ℕ) where
-    at-choice : (b : Bool) (g : Group) (gs : List Group) → nat_eq at (end_of rows g) ≡ b → Enclose rows at at (g ∷ gs)
+    at-choice : (b : Bool) (g : RowGroup) (gs : List RowGroup) → nat_eq at (end_of rows g) ≡ b → Enclose rows at at (g ∷ gs)
         → still_to_walk rows (cond b (g.row + 1) at) (cond b (once_less g gs) (g ∷ gs)) ≡ still_to_walk rows at (g ∷ gs)
     at-choice false g gs is around = refl
     at-choice true g gs is around =
@@ -196,37 +196,37 @@ module _ (rows : List VpdRow) where
         let there = subst (λ n. Enclose rows n n (g ∷ gs)) here around in
         repeated-still g gs there g.left refl around.3 ∙ ap (λ n. still_to_walk rows n (g ∷ gs)) (sym here)
 
-    pub settled-still : (gs : List Group) → Enclose rows at at gs → still_to_walk rows (settled_at rows at gs) (settled rows at gs) ≡ still_to_walk rows at gs
+    pub settled-still : (gs : List RowGroup) → Enclose rows at at gs → still_to_walk rows (settled_at rows at gs) (settled rows at gs) ≡ still_to_walk rows at gs
     settled-still [] around = refl
     settled-still (g ∷ gs) around = at-choice (nat_eq at (end_of rows g)) g gs refl around
 
-    enclose-choice : (b : Bool) (g : Group) (gs : List Group) → nat_eq at (end_of rows g) ≡ b → Enclose rows at at (g ∷ gs)
+    enclose-choice : (b : Bool) (g : RowGroup) (gs : List RowGroup) → nat_eq at (end_of rows g) ≡ b → Enclose rows at at (g ∷ gs)
         → Enclose rows (cond b (g.row + 1) at) (cond b (g.row + 1) at) (cond b (once_less g gs) (g ∷ gs))
     enclose-choice false g gs is around = around
     enclose-choice true g gs is around =
         let here : at ≡ end_of rows g = eqb-true at (end_of rows g) is in
         repeated-enclose g gs (subst (λ n. Enclose rows n n (g ∷ gs)) here around) g.left around.3
 
-    pub settled-enclose : (gs : List Group) → Enclose rows at at gs → Enclose rows (settled_at rows at gs) (settled_at rows at gs) (settled rows at gs)
+    pub settled-enclose : (gs : List RowGroup) → Enclose rows at at gs → Enclose rows (settled_at rows at gs) (settled_at rows at gs) (settled rows at gs)
     settled-enclose [] around = around
     settled-enclose (g ∷ gs) around = enclose-choice (nat_eq at (end_of rows g)) g gs refl around
 
-    ahead-choice : (b : Bool) (g : Group) (gs : List Group) → nat_eq at (end_of rows g) ≡ b → Enclose rows at at (g ∷ gs)
+    ahead-choice : (b : Bool) (g : RowGroup) (gs : List RowGroup) → nat_eq at (end_of rows g) ≡ b → Enclose rows at at (g ∷ gs)
         → Ahead rows (cond b (g.row + 1) at) (cond b (once_less g gs) (g ∷ gs))
     ahead-choice false g gs is around = let other = eqb-false at (end_of rows g) is in let b = around.1 in omega (arith, other, b)
     ahead-choice true g gs is around =
         let here : at ≡ end_of rows g = eqb-true at (end_of rows g) is in
         repeated-ahead g gs (subst (λ n. Enclose rows n n (g ∷ gs)) here around) (nat_eq g.left 1) (g.left - 1)
 
-    pub settled-ahead : (gs : List Group) → Enclose rows at at gs → Ahead rows (settled_at rows at gs) (settled rows at gs)
+    pub settled-ahead : (gs : List RowGroup) → Enclose rows at at gs → Ahead rows (settled_at rows at gs) (settled rows at gs)
     settled-ahead [] around = around
     settled-ahead (g ∷ gs) around = ahead-choice (nat_eq at (end_of rows g)) g gs refl around
 
   -- what a row's group stands in
-  pub row-enclose : Nested rows → (at : ℕ) (gs : List Group) → at < length rows → Ahead rows at gs → Enclose rows at at gs → Enclose rows at (at + 1 + size_at rows at) gs
+  pub row-enclose : Nested rows → (at : ℕ) (gs : List RowGroup) → at < length rows → Ahead rows at gs → Enclose rows at at gs → Enclose rows at (at + 1 + size_at rows at) gs
   row-enclose nested at [] lt ahead around = within-rows rows nested at lt
   row-enclose nested at (g ∷ gs) lt ahead around = (around.0, within-group rows nested g.row at around.0 ahead, around.2, around.3, around.4)
 
-  pub ahead-length : (at : ℕ) (gs : List Group) → Ahead rows at gs → Enclose rows at at gs → at ≡ length rows → gs ≡ []
+  pub ahead-length : (at : ℕ) (gs : List RowGroup) → Ahead rows at gs → Enclose rows at at gs → at ≡ length rows → gs ≡ []
   ahead-length at [] ahead around is = refl
   ahead-length at (g ∷ gs) ahead around is = let le = enclose-length g.row (end_of rows g) gs around.4 in absurd (omega (arith, ahead, le, is))

@@ -10,7 +10,7 @@ use Rattle.mib_model.specs.Structures.{group_repeated}
 use Rattle.mib_model.specs.Walk.{Walking}
 use Rattle.struct_plan.specs.Sources.{Source, walked_by}
 use Rattle.mib_laws.proofs.Nesting.{Nested, nested-append, nested-drop, nested-take, nested-repeat}
-use Rattle.struct_plan.specs.declared.group.Group.{Group}
+use Rattle.struct_plan.specs.declared.group.RowGroup.{RowGroup}
 use Rattle.struct_plan.specs.Groups.{size_at, end_of, body, to_end, still_to_walk, Ahead, Enclose}
 use Rattle.struct_plan.proofs.NestFacts.{group-fits, end-fits}
 use Rattle.struct_plan.proofs.GroupFacts.{enclose-take, enclose-length, take-still}
@@ -22,15 +22,15 @@ repeat-sum (suc m) k zero xs is = absurd (omega (arith, is))
 repeat-sum (suc m) k (suc n) xs is = ap (λ (ys : List VpdRow). xs ++ ys) (repeat-sum m k n xs (omega (arith, is))) ∙ sym (append_assoc xs (repeat m xs) (repeat k xs))
 
 module _ (rows : List VpdRow) where
-  known : ℕ → List Group → List VpdRow
+  known : ℕ → List RowGroup → List VpdRow
   known at [] = []
   known at (g ∷ gs) = to_end rows at g ++ known (end_of rows g) gs
 
-  last_end : ℕ → List Group → ℕ
+  last_end : ℕ → List RowGroup → ℕ
   last_end at [] = at
   last_end at (g ∷ gs) = last_end (end_of rows g) gs
 
-  known-split : (at : ℕ) (gs hs : List Group) → still_to_walk rows at (gs ++ hs) ≡ known at gs ++ still_to_walk rows (last_end at gs) hs
+  known-split : (at : ℕ) (gs hs : List RowGroup) → still_to_walk rows at (gs ++ hs) ≡ known at gs ++ still_to_walk rows (last_end at gs) hs
   unfolding known last_end
   known-split at [] hs = refl
   known-split at (g ∷ gs) hs =
@@ -38,7 +38,7 @@ module _ (rows : List VpdRow) where
       sym (append_assoc (to_end rows at g) (known (end_of rows g) gs) (still_to_walk rows (last_end (end_of rows g) gs) hs))
 
   module _ (nested : Nested rows) where
-    module _ (at : ℕ) (g : Group) (above : g.row < at) (below : at ≤ end_of rows g) (some : 0 < size_at rows g.row) (left : 0 < g.left) (inside : end_of rows g ≤ length rows) where
+    module _ (at : ℕ) (g : RowGroup) (above : g.row < at) (below : at ≤ end_of rows g) (some : 0 < size_at rows g.row) (left : 0 < g.left) (inside : end_of rows g ≤ length rows) where
       own-nested : Nested (body rows g)
       own-nested = nested-take (size_at rows g.row) (drop (g.row + 1) rows) (group-fits rows nested g.row) (nested-drop (g.row + 1) rows nested)
 
@@ -68,7 +68,7 @@ module _ (rows : List VpdRow) where
           let again = least-repeat g.left (body rows g) own-nested one in
           omega (arith, all, again, left, here)
 
-    known-nested : (low at : ℕ) (gs : List Group) → low ≤ at → Enclose rows low at gs → Nested (known at gs)
+    known-nested : (low at : ℕ) (gs : List RowGroup) → low ≤ at → Enclose rows low at gs → Nested (known at gs)
     unfolding known
     known-nested low at [] le around = tt
     known-nested low at (g ∷ gs) le around =
@@ -78,7 +78,7 @@ module _ (rows : List VpdRow) where
         nested-append (to_end rows at g) (known (end_of rows g) gs) (end-nested at g (omega (arith, a, le)) around.1 s around.3 inside)
         (known-nested g.row (end_of rows g) gs (omega arith) around.4)
 
-    known-least : (low at : ℕ) (gs : List Group) → low ≤ at → Enclose rows low at gs → length gs ≤ least (known at gs)
+    known-least : (low at : ℕ) (gs : List RowGroup) → low ≤ at → Enclose rows low at gs → length gs ≤ least (known at gs)
     unfolding known
     known-least low at [] le around = omega arith
     known-least low at (g ∷ gs) le around =
@@ -91,7 +91,7 @@ module _ (rows : List VpdRow) where
         let more = known-least g.row (end_of rows g) gs (omega arith) around.4 in
         omega (arith, one, all, more)
 
-    known-least-more : (at : ℕ) (gs : List Group) → 0 < length gs → Ahead rows at gs → Enclose rows at at gs → length gs + 1 ≤ least (known at gs)
+    known-least-more : (at : ℕ) (gs : List RowGroup) → 0 < length gs → Ahead rows at gs → Enclose rows at at gs → length gs + 1 ≤ least (known at gs)
     unfolding known
     known-least-more at [] some before around = absurd (omega (arith, some))
     known-least-more at (g ∷ gs) some before around =
@@ -103,14 +103,14 @@ module _ (rows : List VpdRow) where
         omega (arith, two, all, more)
 
     -- the innermost groups suffice, so many that no more values have room behind them
-    pub innermost-suffice : (db : Database) (source : Source) (n k at : ℕ) (gs : List Group) (w : Walking) → Enclose rows at at gs → length w.values ≤ most_values → most_values < length w.values + n
+    pub innermost-suffice : (db : Database) (source : Source) (n k at : ℕ) (gs : List RowGroup) (w : Walking) → Enclose rows at at gs → length w.values ≤ most_values → most_values < length w.values + n
         → walked_by db source k (record w { todo = still_to_walk rows at gs }) ≡ walked_by db source k (record w { todo = still_to_walk rows at (take n gs) })
     innermost-suffice db source n k at gs w around few many = sides (nat_le (length gs) n) refl where
       sides : (b : Bool) → nat_le (length gs) n ≡ b → walked_by db source k (record w { todo = still_to_walk rows at gs }) ≡ walked_by db source k (record w { todo = still_to_walk rows at (take n gs) })
-      sides true is = ap (λ (hs : List Group). walked_by db source k (record w { todo = still_to_walk rows at hs })) (sym (take_all n gs (leb-true (length gs) n is)))
+      sides true is = ap (λ (hs : List RowGroup). walked_by db source k (record w { todo = still_to_walk rows at hs })) (sym (take_all n gs (leb-true (length gs) n is)))
       sides false is =
           let long : n < length gs = leb-false (length gs) n is in
-          let hs : List Group = take n gs in
+          let hs : List RowGroup = take n gs in
           let count : length hs ≡ n = length-take-le n gs (omega (arith, long)) in
           let within = enclose-take rows n at at gs around in
           let least = known-least at at hs (omega arith) within in
@@ -122,20 +122,20 @@ module _ (rows : List VpdRow) where
           (rows-behind db source (still_to_walk rows (last_end at hs) (drop n gs)) (still_to_walk rows (last_end at hs) []) k (known at hs) (known-nested at at hs (omega arith) within) w few (omega (arith, many, count, least)) ∙
           ap (λ (todo : List VpdRow). walked_by db source k (record w { todo = todo })) (sym part))
 
-    pub ahead-take : (n at : ℕ) (gs : List Group) → 0 < n → Ahead rows at gs → Ahead rows at (take n gs)
+    pub ahead-take : (n at : ℕ) (gs : List RowGroup) → 0 < n → Ahead rows at gs → Ahead rows at (take n gs)
     ahead-take zero at gs some before = absurd (omega (arith, some))
     ahead-take (suc n) at [] some before = before
     ahead-take (suc n) at (g ∷ gs) some before = before
 
     -- and one less before a value
-    pub fewer-suffice : (db : Database) (source : Source) (n k at : ℕ) (gs : List Group) (w : Walking) → Ahead rows at gs → Enclose rows at at gs → length w.values ≤ most_values → 0 < n → most_values ≤ length w.values + n
+    pub fewer-suffice : (db : Database) (source : Source) (n k at : ℕ) (gs : List RowGroup) (w : Walking) → Ahead rows at gs → Enclose rows at at gs → length w.values ≤ most_values → 0 < n → most_values ≤ length w.values + n
         → walked_by db source k (record w { todo = still_to_walk rows at gs }) ≡ walked_by db source k (record w { todo = still_to_walk rows at (take n gs) })
     fewer-suffice db source n k at gs w before around few some many = sides (nat_le (length gs) n) refl where
       sides : (b : Bool) → nat_le (length gs) n ≡ b → walked_by db source k (record w { todo = still_to_walk rows at gs }) ≡ walked_by db source k (record w { todo = still_to_walk rows at (take n gs) })
-      sides true is = ap (λ (hs : List Group). walked_by db source k (record w { todo = still_to_walk rows at hs })) (sym (take_all n gs (leb-true (length gs) n is)))
+      sides true is = ap (λ (hs : List RowGroup). walked_by db source k (record w { todo = still_to_walk rows at hs })) (sym (take_all n gs (leb-true (length gs) n is)))
       sides false is =
           let long : n < length gs = leb-false (length gs) n is in
-          let hs : List Group = take n gs in
+          let hs : List RowGroup = take n gs in
           let count : length hs ≡ n = length-take-le n gs (omega (arith, long)) in
           let within = enclose-take rows n at at gs around in
           let least = known-least-more at hs (omega (arith, count, some)) (ahead-take n at gs some before) within in
@@ -148,7 +148,7 @@ module _ (rows : List VpdRow) where
           ap (λ (todo : List VpdRow). walked_by db source k (record w { todo = todo })) (sym part))
 
     -- a group that is walked so often that no more values have room behind it may be walked less often
-    pub rounds-suffice : (db : Database) (source : Source) (n m k at : ℕ) (gs : List Group) (w : Walking) → 0 < size_at rows at → Enclose rows at (at + 1 + size_at rows at) gs → length w.values ≤ most_values → most_values < length w.values + m
+    pub rounds-suffice : (db : Database) (source : Source) (n m k at : ℕ) (gs : List RowGroup) (w : Walking) → 0 < size_at rows at → Enclose rows at (at + 1 + size_at rows at) gs → length w.values ≤ most_values → most_values < length w.values + m
         → walked_by db source k (record w { todo = group_repeated (size_at rows at) n (still_to_walk rows (at + 1) gs) }) ≡ walked_by db source k (record w { todo = group_repeated (size_at rows at) (min n m) (still_to_walk rows (at + 1) gs) })
     rounds-suffice db source n m k at gs w some around few many = sides (nat_le n m) refl where
       sides : (b : Bool) → nat_le n m ≡ b → walked_by db source k (record w { todo = group_repeated (size_at rows at) n (still_to_walk rows (at + 1) gs) }) ≡ walked_by db source k (record w { todo = group_repeated (size_at rows at) (min n m) (still_to_walk rows (at + 1) gs) })

@@ -16,8 +16,8 @@ use Rattle.struct_plan.specs.Sources.{Source, Walked, walked_by}
 use Rattle.mib_laws.proofs.LimitFacts.{structure-rows}
 use Rattle.mib_laws.proofs.Nesting.{Nested}
 use Rattle.mib_laws.proofs.SoundStructures.{structures-good}
-use Rattle.struct_plan.specs.declared.course.Course.{Course}
-use Rattle.struct_plan.specs.declared.group.Group.{Group}
+use Rattle.struct_plan.specs.declared.course.WalkCourse.{WalkCourse}
+use Rattle.struct_plan.specs.declared.group.RowGroup.{RowGroup}
 use Rattle.struct_plan.specs.Courses.{Gives, IsFurther, IsStructure, walking}
 use Rattle.struct_plan.specs.Groups.{size_at, end_of, still_to_walk, Enclose, Ahead, IsOfRows, rounds, entered, entered_at, settled, settled_at}
 use Rattle.struct_plan.specs.Slices.{StructureRows}
@@ -32,19 +32,19 @@ structure-nested db rows is =
     subst Nested (sym (ap (λ (r : StructureRows). r.vpds) same)) nested
 
 -- groups round a place are of the rows
-pub enclose-rows : (rows : List VpdRow) (low high : ℕ) (gs : List Group) → Enclose rows low high gs → IsOfRows rows gs
+pub enclose-rows : (rows : List VpdRow) (low high : ℕ) (gs : List RowGroup) → Enclose rows low high gs → IsOfRows rows gs
 enclose-rows rows low high [] around = tt
 enclose-rows rows low high (g ∷ gs) around = (enclose-length rows g.row (end_of rows g) gs around.4, around.3)
 
 -- as many of the groups as matter
-pub gives-innermost : (db : Database) (source : Source) (end : Walked) (rows : List VpdRow) (course : Course) (values : List Value) (at : ℕ) (gs gs' : List Group) → Nested rows → Enclose rows at at gs → length values ≤ most_values → gs' ≡ take (most_values - length values + 1) gs
+pub gives-innermost : (db : Database) (source : Source) (end : Walked) (rows : List VpdRow) (course : WalkCourse) (values : List Value) (at : ℕ) (gs gs' : List RowGroup) → Nested rows → Enclose rows at at gs → length values ≤ most_values → gs' ≡ take (most_values - length values + 1) gs
     → Gives db source end (walking (still_to_walk rows at gs) course values) → Gives db source end (walking (still_to_walk rows at gs') course values)
 gives-innermost db source end rows course values at gs gs' nested around few is (steps, gives) =
     let same = innermost-suffice rows nested db source (most_values - length values + 1) steps at gs (walking [] course values) around few (omega (arith, few)) in
-    (steps, ap (λ (hs : List Group). walked_by db source steps (walking (still_to_walk rows at hs) course values)) is ∙ (sym same ∙ gives))
+    (steps, ap (λ (hs : List RowGroup). walked_by db source steps (walking (still_to_walk rows at hs) course values)) is ∙ (sym same ∙ gives))
 
 -- a group that is walked as often as matters
-pub gives-rounds : (db : Database) (source : Source) (end : Walked) (rows : List VpdRow) (course : Course) (values : List Value) (at size : ℕ) (raw : ℤ) (gs : List Group) → Nested rows → size ≡ size_at rows at → 0 < size → Enclose rows at (at + 1 + size) gs → length values ≤ most_values
+pub gives-rounds : (db : Database) (source : Source) (end : Walked) (rows : List VpdRow) (course : WalkCourse) (values : List Value) (at size : ℕ) (raw : ℤ) (gs : List RowGroup) → Nested rows → size ≡ size_at rows at → 0 < size → Enclose rows at (at + 1 + size) gs → length values ≤ most_values
     → Gives db source end (walking (group_repeated size (times raw) (still_to_walk rows (at + 1) gs)) course values) → Gives db source end (walking (group_repeated size (rounds raw) (still_to_walk rows (at + 1) gs)) course values)
 gives-rounds db source end rows course values at size raw gs nested sized some around few (steps, gives) =
     let some_at : 0 < size_at rows at = omega (arith, sized, some) in
@@ -60,25 +60,25 @@ not-none n false is some = refl
 not-none n true is some = let none = eqb-true n 0 is in absurd (omega (arith, none, some))
 
 -- a place where the walk goes on
-module _ (rows : List VpdRow) (at n count : ℕ) (gs gs' : List Group) (some : 0 < size_at rows at) (around : Enclose rows at (at + 1 + size_at rows at) gs) (is' : gs' ≡ take n (entered at count gs)) where
+module _ (rows : List VpdRow) (at n count : ℕ) (gs gs' : List RowGroup) (some : 0 < size_at rows at) (around : Enclose rows at (at + 1 + size_at rows at) gs) (is' : gs' ≡ take n (entered at count gs)) where
   abbrev next : ℕ
   next = entered_at at (size_at rows at) count
 
   pub entered-around : Enclose rows next next gs'
   entered-around = subst (Enclose rows next next) (sym is') (enclose-take rows n next next (entered at count gs) (entered-enclose rows at gs around some count))
 
-  pub entered-gives : (db : Database) (source : Source) (end : Walked) (course : Course) (values : List Value) → Nested rows → length values ≤ most_values → n ≡ most_values - length values + 1
+  pub entered-gives : (db : Database) (source : Source) (end : Walked) (course : WalkCourse) (values : List Value) → Nested rows → length values ≤ most_values → n ≡ most_values - length values + 1
       → Gives db source end (walking (group_repeated (size_at rows at) count (still_to_walk rows (at + 1) gs)) course values) → Gives db source end (walking (still_to_walk rows next gs') course values)
   entered-gives db source end course values nested few room gives =
       gives-innermost db source end rows course values next (entered at count gs) gs' nested (entered-enclose rows at gs around some count) few
       (is' ∙ ap (λ k. take k (entered at count gs)) room)
       (subst (λ todo. Gives db source end (walking todo course values)) (sym (entered-still rows at gs around count)) gives)
 
-  ahead-next : (hs : List Group) → Enclose rows at (at + 1 + size_at rows at) hs → Ahead rows (at + 1) hs
+  ahead-next : (hs : List RowGroup) → Enclose rows at (at + 1 + size_at rows at) hs → Ahead rows (at + 1) hs
   ahead-next [] within = omega (arith, within)
   ahead-next (h ∷ hs) within = let b = within.1 in omega (arith, b, some)
 
-  ahead-first : (m : ℕ) (hs : List Group) → 0 < m → Ahead rows (at + 1) hs → Ahead rows (at + 1) (take m hs)
+  ahead-first : (m : ℕ) (hs : List RowGroup) → 0 < m → Ahead rows (at + 1) hs → Ahead rows (at + 1) (take m hs)
   ahead-first zero hs more ahead = absurd (omega (arith, more))
   ahead-first (suc m) [] more ahead = ahead
   ahead-first (suc m) (h ∷ hs) more ahead = ahead
@@ -99,21 +99,21 @@ module _ (rows : List VpdRow) (at n count : ℕ) (gs gs' : List Group) (some : 0
       subst (Ahead rows next) (sym is') (subst (λ m. Ahead rows m (take n (entered at count gs))) (sym (next-place k is)) here)
 
 -- a place that was settled
-module _ (rows : List VpdRow) (at at' : ℕ) (gs gs' : List Group) (around : Enclose rows at at gs) (there : at' ≡ settled_at rows at gs) (is : gs' ≡ settled rows at gs) where
+module _ (rows : List VpdRow) (at at' : ℕ) (gs gs' : List RowGroup) (around : Enclose rows at at gs) (there : at' ≡ settled_at rows at gs) (is : gs' ≡ settled rows at gs) where
   pub settled-todo : still_to_walk rows at' gs' ≡ still_to_walk rows at gs
   settled-todo =
-      ap (λ n. still_to_walk rows n gs') there ∙ (ap (λ (hs : List Group). still_to_walk rows (settled_at rows at gs) hs) is ∙ settled-still rows at gs around)
+      ap (λ n. still_to_walk rows n gs') there ∙ (ap (λ (hs : List RowGroup). still_to_walk rows (settled_at rows at gs) hs) is ∙ settled-still rows at gs around)
 
   pub settled-around : Enclose rows at' at' gs'
   settled-around =
-      subst (λ n. Enclose rows n n gs') (sym there) (subst (λ (hs : List Group). Enclose rows (settled_at rows at gs) (settled_at rows at gs) hs) (sym is) (settled-enclose rows at gs around))
+      subst (λ n. Enclose rows n n gs') (sym there) (subst (λ (hs : List RowGroup). Enclose rows (settled_at rows at gs) (settled_at rows at gs) hs) (sym is) (settled-enclose rows at gs around))
 
   pub settled-before : Ahead rows at' gs'
   settled-before =
-      subst (λ n. Ahead rows n gs') (sym there) (subst (λ (hs : List Group). Ahead rows (settled_at rows at gs) hs) (sym is) (settled-ahead rows at gs around))
+      subst (λ n. Ahead rows n gs') (sym there) (subst (λ (hs : List RowGroup). Ahead rows (settled_at rows at gs) hs) (sym is) (settled-ahead rows at gs around))
 
 -- a place behind the row of a group
-module _ (rows : List VpdRow) (at at' size used count : ℕ) (gs gs' : List Group) (sized : size ≡ size_at rows at) (some : 0 < size) (around : Enclose rows at (at + 1 + size) gs) (there : at' ≡ entered_at at size count) (is : gs' ≡ take (most_values - used + 1) (entered at count gs)) where
+module _ (rows : List VpdRow) (at at' size used count : ℕ) (gs gs' : List RowGroup) (sized : size ≡ size_at rows at) (some : 0 < size) (around : Enclose rows at (at + 1 + size) gs) (there : at' ≡ entered_at at size count) (is : gs' ≡ take (most_values - used + 1) (entered at count gs)) where
   some_at : 0 < size_at rows at
   some_at = omega (arith, sized, some)
 
@@ -126,7 +126,7 @@ module _ (rows : List VpdRow) (at at' size used count : ℕ) (gs gs' : List Grou
   pub behind-around : Enclose rows at' at' gs'
   behind-around = subst (λ m. Enclose rows m m gs') (sym there_at) (entered-around rows at (most_values - used + 1) count gs gs' some_at around_at is)
 
-  pub behind-gives : (db : Database) (source : Source) (end : Walked) (course : Course) (values : List Value) → Nested rows → used ≤ most_values → length values ≡ used
+  pub behind-gives : (db : Database) (source : Source) (end : Walked) (course : WalkCourse) (values : List Value) → Nested rows → used ≤ most_values → length values ≡ used
       → Gives db source end (walking (group_repeated size count (still_to_walk rows (at + 1) gs)) course values) → Gives db source end (walking (still_to_walk rows at' gs') course values)
   behind-gives db source end course values nested few same gives =
       let room : most_values - used + 1 ≡ most_values - length values + 1 = omega (arith, same) in
@@ -137,25 +137,25 @@ module _ (rows : List VpdRow) (at at' size used count : ℕ) (gs gs' : List Grou
   pub behind-ahead : (k : ℕ) → count ≡ suc k → Ahead rows at' gs'
   behind-ahead k one = subst (λ m. Ahead rows m gs') (sym there_at) (entered-ahead rows at (most_values - used + 1) count gs gs' some_at around_at is k one (omega arith))
 
-take_none : (n : ℕ) → let none : List Group = [] in take n none ≡ none
+take_none : (n : ℕ) → let none : List RowGroup = [] in take n none ≡ none
 take_none zero = refl
 take_none (suc n) = refl
 
 -- where none were kept, none are when a value was given
-pub none-given : (kept kept' : List Group) (room : ℕ) → kept ≡ [] → kept' ≡ take room kept → kept' ≡ []
+pub none-given : (kept kept' : List RowGroup) (room : ℕ) → kept ≡ [] → kept' ≡ take room kept → kept' ≡ []
 none-given kept kept' room none is = is ∙ (ap (take room) none ∙ take_none room)
 
 -- the groups round a place when a value was given: as many as matter
-pub groups-given : (o : Option Group) (kept kept' : List Group) (room : ℕ) → (o ≡ None → kept ≡ []) → kept' ≡ take room kept → cons_option o kept' ≡ take (room + 1) (cons_option o kept)
+pub groups-given : (o : Option RowGroup) (kept kept' : List RowGroup) (room : ℕ) → (o ≡ None → kept ≡ []) → kept' ≡ take room kept → cons_option o kept' ≡ take (room + 1) (cons_option o kept)
 groups-given None kept kept' room alone is =
     let none : kept ≡ [] = alone refl in
     none-given kept kept' room none is ∙ sym (ap (take (room + 1)) none ∙ take_none (room + 1))
 groups-given (Some g) kept kept' room alone is =
     let more : room + 1 ≡ suc room = omega arith in
-    ap (λ (gs : List Group). g ∷ gs) is ∙ ap (λ n. take n (g ∷ kept)) (sym more)
+    ap (λ (gs : List RowGroup). g ∷ gs) is ∙ ap (λ n. take n (g ∷ kept)) (sym more)
 
 -- where no row is left
-pub gives-whole : (db : Database) (source : Source) (end : Walked) (rows : List VpdRow) (course : Course) (values : List Value) (at : ℕ) (gs : List Group) → Enclose rows at at gs → Ahead rows at gs → length rows ≤ at
+pub gives-whole : (db : Database) (source : Source) (end : Walked) (rows : List VpdRow) (course : WalkCourse) (values : List Value) (at : ℕ) (gs : List RowGroup) → Enclose rows at at gs → Ahead rows at gs → length rows ≤ at
     → Gives db source end (walking (still_to_walk rows at gs) course values) → (values, Ended ended.Whole) ≡ end
 gives-whole db source end rows course values at gs around before past gives =
     let within = enclose-length rows at at gs around in

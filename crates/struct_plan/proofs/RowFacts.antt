@@ -21,14 +21,14 @@ use Rattle.mib_model.specs.Walk.{Goes}
 use Rattle.struct_plan.specs.Sources.{Source, Walked, Steps, on_row_by, on_subject_by}
 use Rattle.mib_laws.proofs.Nesting.{Nested, nested-drop}
 use Rattle.mib_laws.proofs.SliceFacts.{item_from, named}
-use Rattle.struct_plan.specs.declared.course.Course.{Course}
+use Rattle.struct_plan.specs.declared.course.WalkCourse.{WalkCourse}
 use Rattle.struct_plan.specs.declared.entry.Act.TheVariants as act
-use Rattle.struct_plan.specs.declared.entry.Entry.{Entry}
-use Rattle.struct_plan.specs.declared.entry.Field.{Field}
+use Rattle.struct_plan.specs.declared.entry.StructureRow.{StructureRow}
+use Rattle.struct_plan.specs.declared.entry.ValueField.{ValueField}
 use Rattle.struct_plan.specs.declared.entry.Subject.{Subject}
 use Rattle.struct_plan.specs.declared.entry.Then.{Then}
 use Rattle.struct_plan.specs.declared.entry.Then.TheVariants as then
-use Rattle.struct_plan.specs.declared.group.Group.{Group}
+use Rattle.struct_plan.specs.declared.group.RowGroup.{RowGroup}
 use Rattle.struct_plan.specs.Courses.{Gives, Moves, IsStructure, walking}
 use Rattle.struct_plan.specs.Entries.{entry_of, act_of, field_of, field_at, item_field, subject_by, own, then_of}
 use Rattle.struct_plan.specs.Groups.{size_at, still_to_walk, Enclose, Ahead}
@@ -49,7 +49,7 @@ deduced-field : (found : Option PcfRow) → option_and_then item_field (option_m
 deduced-field None = refl
 deduced-field (Some row) = field-typed row (encoding_of row.ptc row.pfc (endian_of row.endian)) refl
 
-own-field : (db : Database) (last : ℤ) (field : Option Field) → field_at db last (own field) ≡ field
+own-field : (db : Database) (last : ℤ) (field : Option ValueField) → field_at db last (own field) ≡ field
 own-field db last None = refl
 own-field db last (Some field) = refl
 
@@ -95,7 +95,7 @@ counted-then false false d h = refl
 counted-then false true true h = absurd (cc h)
 counted-then false true false h = absurd (cc h)
 
-module _ (db : Database) (rows : StructureRows) (is : IsStructure db rows) (at : ℕ) (gs : List Group) (entry : Entry) (inside : at < length rows.vpds)
+module _ (db : Database) (rows : StructureRows) (is : IsStructure db rows) (at : ℕ) (gs : List RowGroup) (entry : StructureRow) (inside : at < length rows.vpds)
     (around : Enclose rows.vpds at at gs) (before : Ahead rows.vpds at gs) (sized : entry.size ≡ size_at rows.vpds at)
     (compiled : (row : VpdRow) (rest : List VpdRow) → drop at rows.vpds ≡ row ∷ rest → entry ≡ entry_of rows.types row) where
   nested : Nested rows.vpds
@@ -113,15 +113,15 @@ module _ (db : Database) (rows : StructureRows) (is : IsStructure db rows) (at :
   behind : List VpdRow
   behind = still_to_walk rows.vpds (at + 1) gs
 
-  moved : Course → Course
+  moved : WalkCourse → WalkCourse
   moved course = record course { cursor = course.cursor +ℤ entry.offset }
 
   -- the step of the row
-  row-step : (source : Source) (end : Walked) (course : Course) (values : List Value) (row : VpdRow) (rest : List VpdRow) → drop at rows.vpds ≡ row ∷ rest
+  row-step : (source : Source) (end : Walked) (course : WalkCourse) (values : List Value) (row : VpdRow) (rest : List VpdRow) → drop at rows.vpds ≡ row ∷ rest
       → Gives db source end (walking (still_to_walk rows.vpds at gs) course values) → Moves db source end (on_row_by db source row behind (walking (row ∷ behind) (moved course) values))
   unfolding behind moved
   row-step source end course values row rest here gives =
-      let same : row.offset ≡ entry.offset = ap (λ (e : Entry). e.offset) (sym (compiled row rest here)) in
+      let same : row.offset ≡ entry.offset = ap (λ (e : StructureRow). e.offset) (sym (compiled row rest here)) in
       subst (λ (z : ℤ). Moves db source end (on_row_by db source row behind (walking (row ∷ behind) (record course { cursor = course.cursor +ℤ z }) values))) same
       (gives-row db source end row behind course values (gives-todo db source end (still_to_walk rows.vpds at gs) (row ∷ behind) course values (still-next row rest here) gives))
 
@@ -133,12 +133,12 @@ module _ (db : Database) (rows : StructureRows) (is : IsStructure db rows) (at :
   pub repeats : (times : ℕ) → entry.act ≡ act.Repeat times → (0 < entry.size) × (0 < times)
   repeats times acts =
       let (row, rest, here) = first-at rows.vpds at inside in
-      let compiled-act : act_of rows.types row ≡ act.Repeat times = ap (λ (e : Entry). e.act) (sym (compiled row rest here)) ∙ acts in
+      let compiled-act : act_of rows.types row ≡ act.Repeat times = ap (λ (e : StructureRow). e.act) (sym (compiled row rest here)) ∙ acts in
       let (some, same) = repeat-act rows.types row times (nat_eq row.fixrep 0) refl compiled-act in
       let fixed : row.fixrep ≢ 0 = eqb-false row.fixrep 0 some in
       let first = (subst Nested here (nested-drop at rows.vpds nested)).0 in
       let grouped : row.grpsize ≢ 0 = first.repeats fixed in
-      let size : entry.size ≡ row.grpsize = ap (λ (e : Entry). e.size) (compiled row rest here) in
+      let size : entry.size ≡ row.grpsize = ap (λ (e : StructureRow). e.size) (compiled row rest here) in
       (above entry.size (λ e. grouped (sym size ∙ e)), above times (λ e. fixed (same ∙ e)))
 
   if-not : (source : Source) (end : Walked) (b : Bool) (s t : _) → b ≡ false → Moves db source end (cond (not b) s t) → Moves db source end s
@@ -149,22 +149,22 @@ module _ (db : Database) (rows : StructureRows) (is : IsStructure db rows) (at :
   if-so source end true s t is leads = leads
   if-so source end false s t is leads = absurd (cc is)
 
-  pub repeat-gives : (source : Source) (end : Walked) (course : Course) (values : List Value) (times : ℕ) → entry.act ≡ act.Repeat times
+  pub repeat-gives : (source : Source) (end : Walked) (course : WalkCourse) (values : List Value) (times : ℕ) → entry.act ≡ act.Repeat times
       → Gives db source end (walking (still_to_walk rows.vpds at gs) course values)
       → Gives db source end (walking (group_repeated entry.size times (still_to_walk rows.vpds (at + 1) gs)) (record course { cursor = course.cursor +ℤ entry.offset }) values)
   unfolding behind moved
   repeat-gives source end course values times acts gives =
       let (row, rest, here) = first-at rows.vpds at inside in
-      let compiled-act : act_of rows.types row ≡ act.Repeat times = ap (λ (e : Entry). e.act) (sym (compiled row rest here)) ∙ acts in
+      let compiled-act : act_of rows.types row ≡ act.Repeat times = ap (λ (e : StructureRow). e.act) (sym (compiled row rest here)) ∙ acts in
       let (some, same) = repeat-act rows.types row times (nat_eq row.fixrep 0) refl compiled-act in
-      let size : row.grpsize ≡ entry.size = ap (λ (e : Entry). e.size) (sym (compiled row rest here)) in
+      let size : row.grpsize ≡ entry.size = ap (λ (e : StructureRow). e.size) (sym (compiled row rest here)) in
       let leads : Gives db source end (walking (group_repeated row.grpsize row.fixrep behind) (moved course) values) =
       if-not source end (nat_eq row.fixrep 0) (Steps (Goes (walking (group_repeated row.grpsize row.fixrep behind) (moved course) values))) _ some (row-step source end course values row rest here gives) in
       subst (λ s. Gives db source end (walking (group_repeated s times behind) (moved course) values)) size
       (subst (λ n. Gives db source end (walking (group_repeated row.grpsize n behind) (moved course) values)) same leads)
 
   -- what a row that gives a value leads to
-  pub record Gave (source : Source) (end : Walked) (course : Course) (values : List Value) (s : Subject) (what : Then) : Type 0 where
+  pub record Gave (source : Source) (end : Walked) (course : WalkCourse) (values : List Value) (s : Subject) (what : Then) : Type 0 where
     pub row : VpdRow
     pub parameter : Option Typed
     pub found : field_at db course.last s ≡ option_map field_of parameter
@@ -172,12 +172,12 @@ module _ (db : Database) (rows : StructureRows) (is : IsStructure db rows) (at :
     pub size : entry.size ≡ row.grpsize
     pub leads : Moves db source end (on_subject_by db source row (still_to_walk rows.vpds (at + 1) gs) (walking (row ∷ still_to_walk rows.vpds (at + 1) gs) (record course { cursor = course.cursor +ℤ entry.offset }) values) parameter)
 
-  pub give-leads : (source : Source) (end : Walked) (course : Course) (values : List Value) (s : Subject) (after : Then) → entry.act ≡ act.Give s after
+  pub give-leads : (source : Source) (end : Walked) (course : WalkCourse) (values : List Value) (s : Subject) (after : Then) → entry.act ≡ act.Give s after
       → Gives db source end (walking (still_to_walk rows.vpds at gs) course values) → Gave source end course values s after
   unfolding behind moved
   give-leads source end course values s after acts gives =
       let (row, rest, here) = first-at rows.vpds at inside in
-      let compiled-act : act_of rows.types row ≡ act.Give s after = ap (λ (e : Entry). e.act) (sym (compiled row rest here)) ∙ acts in
+      let compiled-act : act_of rows.types row ≡ act.Give s after = ap (λ (e : StructureRow). e.act) (sym (compiled row rest here)) ∙ acts in
       let (some, subjects, thens) = give-act rows.types row s after (nat_eq row.fixrep 0) refl compiled-act in
       let (tpsd, of_rows) = is.of_rows in
       let types : rows.types ≡ type_items db (map (λ (r : VpdRow). r.name) rows.vpds) =
@@ -189,12 +189,12 @@ module _ (db : Database) (rows : StructureRows) (is : IsStructure db rows) (at :
         parameter = option_and_then typed (subject db course.last row);
         found = ap (field_at db course.last) (sym subjects ∙ ap subject_by item) ∙ found-field db course.last (parameter db.pcf row.name);
         after = sym thens;
-        size = ap (λ (e : Entry). e.size) (compiled row rest here);
+        size = ap (λ (e : StructureRow). e.size) (compiled row rest here);
         leads = if-so source end (nat_eq row.fixrep 0) _ _ some (row-step source end course values row rest here gives);
       }
 
   -- as many groups as matter behind a value
-  pub gives-fewer : (source : Source) (end : Walked) (course : Course) (values : List Value) (n : ℕ) → length values ≤ most_values → 0 < n → most_values ≤ length values + n
+  pub gives-fewer : (source : Source) (end : Walked) (course : WalkCourse) (values : List Value) (n : ℕ) → length values ≤ most_values → 0 < n → most_values ≤ length values + n
       → Gives db source end (walking (still_to_walk rows.vpds at gs) course values) → Gives db source end (walking (still_to_walk rows.vpds at (take n gs)) course values)
   gives-fewer source end course values n few some many (steps, gives) =
       (steps, sym (fewer-suffice rows.vpds nested db source n steps at gs (walking [] course values) before around few some many) ∙ gives)
@@ -203,8 +203,8 @@ module _ (db : Database) (rows : StructureRows) (is : IsStructure db rows) (at :
   pub counts-some : (s : Subject) (after : Then) → entry.act ≡ act.Give s after → after ≡ then.Repeat → 0 < entry.size
   counts-some s after acts counts =
       let (row, rest, here) = first-at rows.vpds at inside in
-      let compiled-act : act_of rows.types row ≡ act.Give s after = ap (λ (e : Entry). e.act) (sym (compiled row rest here)) ∙ acts in
+      let compiled-act : act_of rows.types row ≡ act.Give s after = ap (λ (e : StructureRow). e.act) (sym (compiled row rest here)) ∙ acts in
       let (some, subjects, thens) = give-act rows.types row s after (nat_eq row.fixrep 0) refl compiled-act in
       let other = eqb-false row.grpsize 0 (counted-then (is_yes row.choice) (nat_eq row.grpsize 0) (is_yes row.pidref) (thens ∙ counts)) in
-      let size : entry.size ≡ row.grpsize = ap (λ (e : Entry). e.size) (compiled row rest here) in
+      let size : entry.size ≡ row.grpsize = ap (λ (e : StructureRow). e.size) (compiled row rest here) in
       above entry.size (λ e. other (sym size ∙ e))

@@ -8,8 +8,8 @@ use Rattle.mib_model.specs.Fixed.{most_values}
 use Rattle.mib_model.specs.Soundness.{IsSound}
 use Rattle.mib_model.specs.Structures.{structure}
 use Rattle.mib_model.specs.Walk.{Walking, Step, Goes, Ends, after_value, chosen}
-use Rattle.struct_plan.specs.declared.course.Course.{Course}
-use Rattle.struct_plan.specs.declared.entry.Field.{Field}
+use Rattle.struct_plan.specs.declared.course.WalkCourse.{WalkCourse}
+use Rattle.struct_plan.specs.declared.entry.ValueField.{ValueField}
 use Rattle.struct_plan.specs.declared.walks.Way.{Way}
 use Rattle.struct_plan.specs.declared.walks.Way.TheVariants as way
 use Rattle.struct_plan.specs.declared.numbers.WalkEnd.{WalkEnd}
@@ -32,25 +32,25 @@ Moves db source end (Steps step) = Leads db source end step
 Moves db source end (Halts why values) = (values, why) ≡ end
 
 -- the walk that has come so far, with these rows still to walk
-abbrev pub walking : List VpdRow → Course → List Value → Walking
+abbrev pub walking : List VpdRow → WalkCourse → List Value → Walking
 walking todo course values = record { todo = todo; cursor = course.cursor; last = course.last; values = values }
 
 -- the value of a field at a bit, behind so many others, or the end before it
-abbrev pub value_or_end : Source → ℤ → Field → ℕ → Result Value WalkEnd
+abbrev pub value_or_end : Source → ℤ → ValueField → ℕ → Result Value WalkEnd
 value_or_end source cursor field given = if given == most_values then Err (Ended Many) else source cursor field given
 
 -- what giving the value of a row comes to: an end, or its raw number, behind which the walk goes on
-abbrev pub Given : Database → Source → Walked → VpdRow → List VpdRow → Course → List Value → Result ℤ WalkEnd → Type 0
+abbrev pub Given : Database → Source → Walked → VpdRow → List VpdRow → WalkCourse → List Value → Result ℤ WalkEnd → Type 0
 Given db source end row rest course values (Err why) = (values, why) ≡ end
 Given db source end row rest course values (Ok raw) = Leads db source end (after_value db row rest raw (walking rest course values))
 
 -- what a walk over the rows of a structure comes to: an end, or another structure
-abbrev pub Comes : Database → Source → Walked → Course → List Value → Way → Type 0
+abbrev pub Comes : Database → Source → Walked → WalkCourse → List Value → Way → Type 0
 Comes db source end course values (way.Ended why) = (values, why) ≡ end
 Comes db source end course values (way.Chosen tpsd) = Leads db source end (chosen (walking [] course values) tpsd (structure db tpsd))
 
 -- a walk that goes on with these rows, or comes to something
-abbrev pub GoesOn : Database → Source → Walked → List VpdRow → Course → List Value → Option Way → Type 0
+abbrev pub GoesOn : Database → Source → Walked → List VpdRow → WalkCourse → List Value → Option Way → Type 0
 GoesOn db source end todo course values None = Gives db source end (walking todo course values)
 GoesOn db source end todo course values (Some way) = Comes db source end course values way
 
@@ -69,6 +69,6 @@ abbrev pub IsFurther : ℕ → ℕ → ℕ → ℕ → Type 0
 IsFurther used at used' at' = ((used' ≡ used) × (at < at')) ⊎ (used' ≡ used + 1)
 
 -- a walk that gave a value before a choice
-pub record HasChosen (used used' : ℕ) (course : Course) : Type 0 where
+pub record HasChosen (used used' : ℕ) (course : WalkCourse) : Type 0 where
   pub more : used < used'
   pub near : IsNear course.cursor 0

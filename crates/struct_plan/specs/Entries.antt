@@ -7,17 +7,17 @@ use Rattle.mib_model.specs.Encodings.{Encoding, encoding_of}
 use Rattle.mib_model.specs.Layouts.{item_named}
 use Rattle.mib_model.specs.Structures.{Typed, is_yes, moved_by}
 use Rattle.struct_plan.specs.Slices.{deduced_item}
-use Rattle.struct_plan.specs.declared.entry.Entry.{Entry}
+use Rattle.struct_plan.specs.declared.entry.StructureRow.{StructureRow}
 use Rattle.struct_plan.specs.declared.entry.Act.{Act}
 use Rattle.struct_plan.specs.declared.entry.Act.TheVariants as act
-use Rattle.struct_plan.specs.declared.entry.Field.{Field}
+use Rattle.struct_plan.specs.declared.entry.ValueField.{ValueField}
 use Rattle.struct_plan.specs.declared.entry.Subject.{Subject}
 use Rattle.struct_plan.specs.declared.entry.Subject.TheVariants as subject
 use Rattle.struct_plan.specs.declared.entry.Then.{Then}
 use Rattle.struct_plan.specs.declared.entry.Then.TheVariants as then
 
 -- what the walk needs of a parameter whose type is known
-abbrev pub field_of : Typed → Field
+abbrev pub field_of : Typed → ValueField
 field_of t = record { name = t.0.name; shape = t.1; moves = moved_by t }
 
 -- the width given for a parameter, or else that of its type
@@ -25,12 +25,12 @@ abbrev pub moves_by : ℕ → ℕ → ℕ
 moves_by given width = if given == 0 then width else given
 
 -- what the walk needs of a parameter by its type item, where its type is known
-abbrev pub item_field : TypeItem → Option Field
+abbrev pub item_field : TypeItem → Option ValueField
 item_field item =
     option_map (λ (e : Encoding). record { name = item.name; shape = e; moves = moves_by item.width e.width }) (encoding_of item.ptc item.pfc item.endian)
 
 -- a parameter's own value, where its type is known
-abbrev pub own : Option Field → Subject
+abbrev pub own : Option ValueField → Subject
 own None = subject.Missing
 own (Some field) = subject.Own field
 
@@ -54,11 +54,11 @@ act_of types row =
     else act.Give (subject_by (item_named types row.name)) (then_of row)
 
 -- a row, compiled
-abbrev pub entry_of : List TypeItem → VpdRow → Entry
+abbrev pub entry_of : List TypeItem → VpdRow → StructureRow
 entry_of types row = record { offset = row.offset; size = row.grpsize; act = act_of types row }
 
 -- what a value is of, where the last reference was to this number
-abbrev pub field_at : Database → ℤ → Subject → Option Field
+abbrev pub field_at : Database → ℤ → Subject → Option ValueField
 field_at db last subject.Missing = None
 field_at db last (subject.Own field) = Some field
 field_at db last subject.Deduced = option_and_then item_field (deduced_item db last)

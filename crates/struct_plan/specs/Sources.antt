@@ -9,14 +9,14 @@ use Rattle.mib_model.specs.Fixed.{most_values, value_at}
 use Rattle.mib_model.specs.Soundness.{IsSound}
 use Rattle.mib_model.specs.Structures.{Typed, typed, subject, group_repeated, moved_by}
 use Rattle.mib_model.specs.Walk.{Walking, Step, Goes, Ends, after_value, lies_outside, walk_limit, walk_start, walked}
-use Rattle.struct_plan.specs.declared.entry.Field.{Field}
+use Rattle.struct_plan.specs.declared.entry.ValueField.{ValueField}
 use Rattle.struct_plan.specs.declared.numbers.WalkEnd.{WalkEnd}
 use Rattle.struct_plan.specs.declared.numbers.WalkEnd.TheVariants.{Ended}
 use Rattle.struct_plan.specs.Entries.{field_of}
 
 -- where a walk has its values from: at a cursor, of a field, behind so many others, a value or why there is none
 abbrev pub Source : Type 0
-Source = ℤ → Field → ℕ → Result Value WalkEnd
+Source = ℤ → ValueField → ℕ → Result Value WalkEnd
 
 -- the values of a packet
 abbrev pub of_packet : List ℕ → Source

@@ -13,7 +13,7 @@ use std::alloc::{AllocError, Global};
 
 /// What a value is of: a name, what its bits are, and how many bits the walk moves on behind its first.
 #[derive(Clone, Copy)]
-pub struct Field {
+pub struct ValueField {
     pub name: Name,
     pub shape: Shape,
     pub moves: u32,
@@ -23,7 +23,7 @@ pub struct Field {
 #[derive(Clone, Copy)]
 pub enum Subject {
     /// Its own parameter.
-    Own(Field),
+    Own(ValueField),
     /// The parameter that the last reference names.
     Deduced,
     /// No parameter whose type is known.
@@ -53,7 +53,7 @@ pub enum Act {
 
 /// A row: the bits that the walk moves before it, how many rows its group has, and what it does.
 #[derive(Clone, Copy)]
-pub struct Entry {
+pub struct StructureRow {
     pub offset: i32,
     pub size: u16,
     pub act: Act,
@@ -71,11 +71,11 @@ fn moves_by(given: u32, shape: Shape) -> u32
 }
 
 /// What values of a parameter are, by its type item, where its type is known.
-pub fn field_of(item: &TypeItem) -> Option<Field>
+pub fn field_of(item: &TypeItem) -> Option<ValueField>
     ensures { result ≡ item_field item.now }
 {
     let shape = shape_of(item.ptc, item.pfc, item.endian)?;
-    Some(Field {
+    Some(ValueField {
         name: item.name,
         shape,
         moves: moves_by(item.width, shape),
@@ -124,10 +124,10 @@ fn act_by(row: &VpdRow, types: &FirstRows<ByName>) -> Act
 }
 
 // A row, compiled.
-fn entry_by(row: &VpdRow, types: &FirstRows<ByName>) -> Entry
+fn entry_by(row: &VpdRow, types: &FirstRows<ByName>) -> StructureRow
     ensures { result ≡ entry_of types.now row.now }
 {
-    Entry {
+    StructureRow {
         offset: row.offset,
         size: row.grpsize,
         act: act_by(row, types),
@@ -139,7 +139,7 @@ pub fn entries(
     alloc: Global,
     rows: &[VpdRow],
     types: &FirstRows<ByName>,
-) -> Result<Vec<Entry>, AllocError>
+) -> Result<Vec<StructureRow>, AllocError>
     ensures { IfOk result (λ entries. entries.items ≡ map (entry_of types.now) rows.now) }
 {
     rows.iter().map(|row| entry_by(row, types)).collect(alloc)

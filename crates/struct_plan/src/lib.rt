@@ -21,7 +21,7 @@ mod structure;
 mod walks;
 
 pub use bit_field::Values;
-pub use entry::Field;
+pub use entry::ValueField;
 pub use laws::{packet_is_source, walks_end};
 pub use mib_model::{Ended, TypeItem};
 pub use numbers::{Numbers, PacketNumbers, WalkEnd};

@@ -2,7 +2,7 @@
 ghost use Rattle.std.specs.Prelude.{◌≡◌, ◌<◌, ◌^◌, length};
 ghost use Rattle.struct_plan.specs.Sources.{Source, of_packet};
 
-use crate::entry::Field;
+use crate::entry::ValueField;
 use bit_field::take;
 use mib_model::{Ended, Value};
 
@@ -22,7 +22,7 @@ pub trait Numbers {
     ghost source: { Self → Source };
 
     /// The value of a field at a cursor, a bit of the packet, behind so many others: what the source has, or why it has none.
-    fn value(&self, cursor: i128, field: &Field, given: u32) -> Result<Value, WalkEnd>
+    fn value(&self, cursor: i128, field: &ValueField, given: u32) -> Result<Value, WalkEnd>
         ensures { result ≡ source self.now cursor field.now given };
 }
 
@@ -47,7 +47,7 @@ impl Numbers for PacketNumbers<'_> {
     ghost source = { λ numbers. of_packet numbers.octets.now };
 
     #[inline(always)]
-    fn value(&self, cursor: i128, field: &Field, _given: u32) -> Result<Value, WalkEnd> {
+    fn value(&self, cursor: i128, field: &ValueField, _given: u32) -> Result<Value, WalkEnd> {
         let short = WalkEnd::Ended(Ended::Short { name: field.name });
         if cursor < 0 || cursor > i128::from(u64::MAX) {
             return Err(short);

@@ -5,12 +5,12 @@ ghost use Rattle.mib_model.specs.Fixed.{most_values};
 ghost use Rattle.mib_model.specs.Structures.{group_repeated, times};
 ghost use Rattle.struct_plan.specs.Sources.{Source, Walked};
 ghost use Rattle.bit_field.specs.Taken.{taken, HasSlots, KeepsValues};
-ghost use Rattle.struct_plan.specs.declared.course.Course.{Course};
+ghost use Rattle.struct_plan.specs.declared.course.WalkCourse.{WalkCourse};
 ghost use Rattle.struct_plan.specs.Courses.{Gives, IsStructure, walking};
 ghost use Rattle.struct_plan.specs.Groups.{entered, entered_at, rounds, settled, settled_at, size_at, still_to_walk, Enclose, IsOfRows};
 ghost use Rattle.struct_plan.specs.Places.{groups, IsAmong, IsPlace};
 
-use crate::group::Group;
+use crate::group::RowGroup;
 use crate::stack::Stack;
 use crate::structure::Structure;
 use bit_field::{MOST_VALUES, Values};
@@ -18,9 +18,9 @@ use bit_field::{MOST_VALUES, Values};
 /// A place among the rows of a structure: the next row, and the groups round it that are still to be repeated, the
 /// innermost beside those on the stack.
 #[derive(Clone, Copy)]
-pub struct Place {
+pub struct RowPlace {
     pub at: usize,
-    pub inner: Option<Group>,
+    pub inner: Option<RowGroup>,
     pub stack: Stack,
 }
 
@@ -31,12 +31,12 @@ fn rounds_of(raw: i128) -> u32
     raw.clamp(0, i128::from(MOST_VALUES) + 1) as u32
 }
 
-impl Place {
+impl RowPlace {
     /// The first row.
-    pub fn new() -> Place
+    pub fn new() -> RowPlace
         ensures { result ≡ record { at = 0; inner = None; stack = record { top = most_values; single = None; count = 0 } } }
     {
-        Place {
+        RowPlace {
             at: 0,
             inner: None,
             stack: Stack::new(),
@@ -44,7 +44,7 @@ impl Place {
     }
 
     // Puts a group innermost.
-    fn push(&mut self, group: Group, values: &mut Values)
+    fn push(&mut self, group: RowGroup, values: &mut Values)
         requires slots { HasSlots values.old }
         requires place { IsPlace values.old self.old }
         ensures at { self.new.at ≡ self.old.at }
@@ -73,7 +73,7 @@ impl Place {
             return;
         }
         if count > 1 {
-            let group = Group {
+            let group = RowGroup {
                 row: self.at as u32,
                 left: count - 1,
             };
@@ -102,7 +102,7 @@ impl Place {
             self.inner = self.stack.pop(values);
             return;
         }
-        self.inner = Some(Group {
+        self.inner = Some(RowGroup {
             row: group.row,
             left: group.left - 1,
         });
@@ -130,7 +130,7 @@ impl Place {
         requires some { 0 < size }
         requires around { Enclose structure.now.vpds self.old.at (self.old.at + 1 + size) (groups values.old self.old) }
         requires room { length structure.now.vpds < 2 ^ 32 }
-        ensures gives { (db : Database) (source : Source) (end : Walked) (course : Course) → IsStructure db structure.now →
+        ensures gives { (db : Database) (source : Source) (end : Walked) (course : WalkCourse) → IsStructure db structure.now →
             Gives db source end (walking (group_repeated size (times raw) (still_to_walk structure.now.vpds (self.old.at + 1) (groups values.old self.old)))
             course (taken values.old)) →
             Gives db source end (walking (still_to_walk structure.now.vpds self.new.at (groups values.new self.new)) course (taken values.new)) }
@@ -156,7 +156,7 @@ impl Place {
         requires times { 0 < count }
         requires around { Enclose structure.now.vpds self.old.at (self.old.at + 1 + size) (groups values.old self.old) }
         requires room { length structure.now.vpds < 2 ^ 32 }
-        ensures gives { (db : Database) (source : Source) (end : Walked) (course : Course) → IsStructure db structure.now →
+        ensures gives { (db : Database) (source : Source) (end : Walked) (course : WalkCourse) → IsStructure db structure.now →
             Gives db source end (walking (group_repeated size count (still_to_walk structure.now.vpds (self.old.at + 1) (groups values.old self.old)))
             course (taken values.old)) →
             Gives db source end (walking (still_to_walk structure.now.vpds self.new.at (groups values.new self.new)) course (taken values.new)) }

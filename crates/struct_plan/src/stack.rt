@@ -6,7 +6,7 @@ ghost use Rattle.bit_field.specs.Taken.{taken, HasSlots, KeepsSlots, KeepsValues
 ghost use Rattle.struct_plan.specs.Stacks as Spec;
 ghost use Rattle.struct_plan.specs.Stacks.{inner_in, outer_in, kept, standing, IsWithin, popped};
 
-use crate::group::Group;
+use crate::group::RowGroup;
 use bit_field::{MOST_VALUES, Values};
 use mib_model::Value;
 
@@ -23,29 +23,29 @@ const ROW_WEIGHT: u64 = 4_294_967_296;
 #[derive(Clone, Copy)]
 pub struct Stack {
     pub top: u32,
-    pub single: Option<Group>,
+    pub single: Option<RowGroup>,
     pub count: u32,
 }
 
 // The number of a group: its row, and how often it is still repeated, in half of the bits each.
-fn number_of(group: Group) -> u64
+fn number_of(group: RowGroup) -> u64
     ensures { Spec.group_of result ≡ group }
 {
     u64::from(group.row) * ROW_WEIGHT + u64::from(group.left)
 }
 
 // The group of a number.
-fn group_of(number: u64) -> Group
+fn group_of(number: u64) -> RowGroup
     ensures { result ≡ Spec.group_of number }
 {
-    Group {
+    RowGroup {
         row: (number / ROW_WEIGHT) as u32,
         left: (number % ROW_WEIGHT) as u32,
     }
 }
 
 // A slot with two groups in it.
-fn keeping(slot: Value, inner: Group, outer: Group) -> Value
+fn keeping(slot: Value, inner: RowGroup, outer: RowGroup) -> Value
     ensures inner { inner_in result ≡ inner }
     ensures outer { outer_in result ≡ outer }
 {
@@ -57,7 +57,7 @@ fn keeping(slot: Value, inner: Group, outer: Group) -> Value
 }
 
 // The inner group in a slot.
-fn inner_of(slot: Value) -> Group
+fn inner_of(slot: Value) -> RowGroup
     ensures { result ≡ inner_in slot }
 {
     group_of((slot.raw.unsigned_abs() % (1 << 64)) as u64)
@@ -117,7 +117,7 @@ impl Stack {
     }
 
     // Puts a group innermost, in one slot with the single one.
-    fn pair(&mut self, inner: Group, outer: Group, values: &mut Values)
+    fn pair(&mut self, inner: RowGroup, outer: RowGroup, values: &mut Values)
         requires slots { length values.old.slots.now ≡ most_values }
         requires within { IsWithin values.old self.old }
         requires free { values.old.used < self.old.top }
@@ -136,7 +136,7 @@ impl Stack {
     }
 
     /// Puts a group innermost. Where there is no slot for another, the outermost is lost.
-    pub fn push(&mut self, group: Group, values: &mut Values)
+    pub fn push(&mut self, group: RowGroup, values: &mut Values)
         requires slots { HasSlots values.old }
         requires within { IsWithin values.old self.old }
         ensures groups { kept values.new self.new ≡ take (most_values - values.old.used) (group ∷ kept values.old self.old) }
@@ -157,7 +157,7 @@ impl Stack {
     }
 
     /// Takes the innermost group off, if there is one.
-    pub fn pop(&mut self, values: &Values) -> Option<Group>
+    pub fn pop(&mut self, values: &Values) -> Option<RowGroup>
         requires slots { HasSlots values.now }
         requires within { IsWithin values.now self.old }
         ensures groups { popped result (kept values.now self.new) ≡ kept values.now self.old }

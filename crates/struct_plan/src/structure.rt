@@ -7,8 +7,8 @@ ghost use Rattle.struct_plan.specs.Groups as Spec;
 ghost use Rattle.struct_plan.specs.Entries.{entry_of};
 ghost use Rattle.struct_plan.specs.Slices.{structure_found, deduced_item};
 
-use crate::entry::{Entry, entries};
-use crate::group::Group;
+use crate::entry::{StructureRow, entries};
+use crate::group::RowGroup;
 use first_rows::FirstRows;
 use mib_model::{Steps, TypeItem, VpdRow};
 use std::alloc::{AllocError, Global};
@@ -19,7 +19,7 @@ use std::sync::ledger::Ledger;
 /// The rows of a structure, compiled. Contracts see the rows.
 #[derive(Drop)]
 pub struct Structure {
-    entries: Vec<Entry>,
+    entries: Vec<StructureRow>,
     vpds: Snapshot<Vec<VpdRow>>,
     types: Snapshot<Vec<TypeItem>>,
 }
@@ -72,7 +72,7 @@ impl Structure {
     }
 
     /// A row.
-    pub fn entry(&self, at: usize) -> Entry
+    pub fn entry(&self, at: usize) -> StructureRow
         requires { at < length self.now.vpds }
         ensures entry { (row : VpdRow) (rows : List VpdRow) → drop at self.now.vpds ≡ row ∷ rows → result ≡ entry_of self.now.types row }
         ensures size { result.size ≡ Spec.size_at self.now.vpds at }
@@ -82,7 +82,7 @@ impl Structure {
     }
 
     /// The row behind a group.
-    pub fn end_of(&self, group: Group) -> usize
+    pub fn end_of(&self, group: RowGroup) -> usize
         requires { Spec.end_of self.now.vpds group ≤ length self.now.vpds }
         ensures { result ≡ Spec.end_of self.now.vpds group }
     {

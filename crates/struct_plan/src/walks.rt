@@ -15,10 +15,10 @@ ghost use Rattle.struct_plan.specs.Groups.{size_at, still_to_walk, Enclose};
 ghost use Rattle.struct_plan.specs.Places.{groups, IsAmong, IsPlace};
 ghost use Rattle.struct_plan.specs.Stacks.{kept, IsWithin};
 
-use crate::course::Course;
-use crate::entry::{Act, Field, Subject, Then, field_of};
+use crate::course::WalkCourse;
+use crate::entry::{Act, Subject, Then, ValueField, field_of};
 use crate::numbers::{Numbers, PacketNumbers, WalkEnd};
-use crate::place::Place;
+use crate::place::RowPlace;
 use crate::stack::Stack;
 use crate::structure::{Structure, Structures};
 use bit_field::{MOST_VALUES, Values};
@@ -32,7 +32,7 @@ pub enum Way {
 }
 
 // What a value is of, where the last reference was to this number.
-fn field_at<S: Structures>(all: &S, subject: Subject, last: i128) -> Option<Field>
+fn field_at<S: Structures>(all: &S, subject: Subject, last: i128) -> Option<ValueField>
     ensures { result ≡ Spec.field_at (S.tables all.now) last subject }
 {
     match subject {
@@ -47,7 +47,7 @@ fn field_at<S: Structures>(all: &S, subject: Subject, last: i128) -> Option<Fiel
 fn value_here<N: Numbers>(
     numbers: &N,
     cursor: i128,
-    field: &Field,
+    field: &ValueField,
     used: u32,
 ) -> Result<Value, WalkEnd>
     ensures value { result ≡ value_or_end (N.source numbers.now) cursor field.now used }
@@ -60,7 +60,7 @@ fn value_here<N: Numbers>(
 }
 
 // The bit behind a value.
-fn behind(value: &Value, field: &Field) -> i128
+fn behind(value: &Value, field: &ValueField) -> i128
     ensures { result ≡ pos (value.now.at + field.now.moves) }
 {
     i128::from(value.at) + i128::from(field.moves)
@@ -72,7 +72,7 @@ fn give<S: Structures, N: Numbers>(
     subject: Subject,
     numbers: &N,
     stack: &mut Stack,
-    course: &mut Course,
+    course: &mut WalkCourse,
     values: &mut Values,
 ) -> Result<i128, WalkEnd>
     requires slots { HasSlots values.old }
@@ -104,8 +104,8 @@ fn go_on(
     raw: i128,
     size: u16,
     structure: &Structure,
-    place: &mut Place,
-    course: &mut Course,
+    place: &mut RowPlace,
+    course: &mut WalkCourse,
     values: &mut Values,
 ) -> Option<Way>
     requires slots { HasSlots values.old }
@@ -147,8 +147,8 @@ fn walk_row<S: Structures, N: Numbers>(
     all: &S,
     structure: &Structure,
     numbers: &N,
-    place: &mut Place,
-    course: &mut Course,
+    place: &mut RowPlace,
+    course: &mut WalkCourse,
     values: &mut Values,
 ) -> Option<Way>
     requires slots { HasSlots values.old }
@@ -189,7 +189,7 @@ fn walk_structure<S: Structures, N: Numbers>(
     all: &S,
     structure: &Structure,
     numbers: &N,
-    course: &mut Course,
+    course: &mut WalkCourse,
     values: &mut Values,
 ) -> Way
     requires slots { HasSlots values.old }
@@ -200,7 +200,7 @@ fn walk_structure<S: Structures, N: Numbers>(
     ensures chosen { (tpsd : ℤ) → result ≡ Way.Chosen tpsd → HasChosen values.old.used values.new.used course.new }
     ensures stays { KeepsSlots values.old values.new }
 {
-    let mut place = Place::new();
+    let mut place = RowPlace::new();
     while place.at < structure.len() {
         if let Some(way) = walk_row(all, structure, numbers, &mut place, course, values) {
             return way;
@@ -226,7 +226,7 @@ pub fn walk_by<S: Structures, N: Numbers>(
     ensures sound { IsSound (S.tables all.now) }
     ensures stays { KeepsSlots values.old values.new }
 {
-    let mut course = Course {
+    let mut course = WalkCourse {
         cursor: i128::from(start),
         last: 0,
     };

@@ -14,7 +14,7 @@ use Rattle.mib_model.specs.Fixed.{Place, most_values, has_layout, places}
 use Rattle.mib_model.specs.Structures.{Typed, typed, subject, structure, group_repeated, moved_by, times, is_yes}
 use Rattle.mib_model.specs.Walk.{Walking, Step, Goes, Ends, after_value, chosen, walk_limit, walk_start}
 use Rattle.mib_laws.proofs.Choices.{choice}
-use Rattle.struct_plan.specs.declared.entry.Field.{Field}
+use Rattle.struct_plan.specs.declared.entry.ValueField.{ValueField}
 use Rattle.struct_plan.specs.declared.numbers.WalkEnd.{WalkEnd}
 use Rattle.struct_plan.specs.declared.numbers.WalkEnd.TheVariants.{Ended, Unfit}
 use Rattle.struct_plan.specs.Entries.{field_of}
@@ -42,7 +42,7 @@ fit-raw : (name : List ℕ) (shape : Encoding) (cursor : ℤ) (v : Value) (r : R
 fit-raw name shape cursor v (Err why) h = absurd (cc h)
 fit-raw name shape cursor v (Ok raw) h = fit-laid name shape cursor raw v h
 
-item-fit : (items : List Item) (cursor : ℤ) (field : Field) (given : ℕ) (v : Value) → of_items items cursor field given ≡ Ok v → IsFit v
+item-fit : (items : List Item) (cursor : ℤ) (field : ValueField) (given : ℕ) (v : Value) → of_items items cursor field given ≡ Ok v → IsFit v
 item-fit items cursor field given v h = fit-raw field.name field.shape cursor v (raw_of (slice_get items given) field.name) h
 
 -- ---- all values
@@ -51,7 +51,7 @@ one-more : (xs : List Value) (v : Value) → AllByRecursion IsFit xs → IsFit v
 one-more [] v all fit = (fit, tt)
 one-more (x ∷ xs) v all fit = (all.0, one-more xs v all.1 fit)
 
-module _ (db : Database) (source : Source) (fit : (cursor : ℤ) (field : Field) (given : ℕ) (v : Value) → source cursor field given ≡ Ok v → IsFit v) where
+module _ (db : Database) (source : Source) (fit : (cursor : ℤ) (field : ValueField) (given : ℕ) (v : Value) → source cursor field given ≡ Ok v → IsFit v) where
   behind-fit : (r : Result Value WalkEnd) (more : Walked) → ((v : Value) → r ≡ Ok v → IsFit v) → AllByRecursion IsFit more.0 → AllByRecursion IsFit (behind_value r more).0
   behind-fit (Err why) more here rest = tt
   behind-fit (Ok v) more here rest = (here v refl, rest)

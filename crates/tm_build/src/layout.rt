@@ -13,7 +13,7 @@ use crate::keys::ByName;
 use bit_field::{MOST_VALUES, Values, shape_of};
 use first_rows::FirstRows;
 use mib_model::{Ended, Endian, Name, PcfRow, PlfRow, Shape};
-use struct_plan::{Field, Numbers, WalkEnd};
+use struct_plan::{Numbers, ValueField, WalkEnd};
 
 // Lays the value at a place, or tells why the values end before it.
 fn lay_place<N: Numbers>(
@@ -30,7 +30,7 @@ fn lay_place<N: Numbers>(
     if values.used == MOST_VALUES {
         return Some(WalkEnd::Ended(Ended::Many));
     }
-    let field = Field {
+    let field = ValueField {
         name,
         shape,
         moves: 0,

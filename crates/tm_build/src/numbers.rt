@@ -6,7 +6,7 @@ ghost use Rattle.build_rules.specs.Laying as Spec;
 
 use build_rules::Item;
 use mib_model::{Ended, Name, Shape, Sort, Value};
-use struct_plan::{Field, Numbers, WalkEnd};
+use struct_plan::{Numbers, ValueField, WalkEnd};
 
 /// Items as a source of values: each is the value behind as many others as there are items before it. Contracts see the items.
 #[derive(Drop)]
@@ -94,7 +94,7 @@ fn value_laid(name: Name, shape: Shape, cursor: i128, raw: i128) -> Result<Value
 impl Numbers for ItemNumbers<'_> {
     ghost source = { λ numbers. Spec.of_items numbers.items.now };
 
-    fn value(&self, cursor: i128, field: &Field, given: u32) -> Result<Value, WalkEnd> {
+    fn value(&self, cursor: i128, field: &ValueField, given: u32) -> Result<Value, WalkEnd> {
         match raw_named(item_at(self.items, given as usize), &field.name) {
             Ok(raw) => value_laid(field.name, field.shape, cursor, raw),
             Err(why) => Err(why),

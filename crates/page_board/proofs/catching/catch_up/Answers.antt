@@ -1,7 +1,7 @@
 use Rattle.std.proofs.Common.{List, ap, sym, subst, ◌∙◌}
 use Rattle.std.specs.List.{AllByRecursion}
 use Rattle.display_pages.specs.declared.page.Page.{Page}
-use Rattle.page_board.specs.declared.view.View.{View}
+use Rattle.page_board.specs.declared.view.BoardView.{BoardView}
 use Rattle.page_board.specs.Ends.{known_by, pages_noted}
 use Rattle.page_board.specs.Views.{BeginsWith, IsShownBy, page_shown}
 use Rattle.page_board.proofs.RuleFacts.{seen-is-told}
@@ -11,7 +11,7 @@ pub returns-clause-seen : goal.returns-clause-seen
 returns-clause-seen g c =
     let looked = c.look_for.ensures in
     seen-is-told (known_by c.look_for.new.viewer) (pages_noted c.args.note) _ looked.rises looked.told
-    (looked.same.0 ∙ ap (λ (v : View). v.told) c.learn.ensures.learns)
+    (looked.same.0 ∙ ap (λ (v : BoardView). v.told) c.learn.ensures.learns)
     (ap (λ (p : Page). p.number) (sym looked.shown) ∙ (looked.number ∙ c.args.note.number))
 
 pub returns-clause-last : goal.returns-clause-last
@@ -23,6 +23,6 @@ returns-clause-got g c =
 
 pub returns-clause-later : goal.returns-clause-later
 returns-clause-later g c =
-    let learned = ap (λ (v : View). v.seen) c.learn.ensures.learns in
+    let learned = ap (λ (v : BoardView). v.seen) c.learn.ensures.learns in
     subst (λ (l : List Page). BeginsWith l (known_by c.args.viewer.now).seen) (returns-clause-seen g c)
     (subst (λ (l : List Page). BeginsWith (known_by c.look_for.new.viewer).seen l) learned c.look_for.ensures.later)

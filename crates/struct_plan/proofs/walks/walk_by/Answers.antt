@@ -3,7 +3,7 @@ use Rattle.std.proofs.lemmas.Int.{ints, to_z-of_z}
 use Rattle.mib_model.specs.Structures.{structure}
 use Rattle.mib_model.specs.Walk.{chosen}
 use Rattle.bit_field.specs.Taken.{taken}
-use Rattle.struct_plan.specs.declared.course.Course.{Course}
+use Rattle.struct_plan.specs.declared.course.WalkCourse.{WalkCourse}
 use Rattle.struct_plan.specs.Courses.{IsNear, Leads, walking}
 use Rattle.struct_plan.proofs.ChoiceFacts.{starts, found-gives, missing-gives, found-structure}
 use Rattle.struct_plan.proofs.walks.walk_by.Goals as goal
@@ -16,7 +16,7 @@ loop-structure-init g c =
     let values = c.args.values.now in
     let cursor : to_z w128 (of_z w128 c.from.result) ≡ pos c.args.start = (let e : to_z w128 (of_z w128 c.from.result) ≡ c.from.result = grind (arith, to_z-of_z) in e ∙ c.from.ensures) in
     let next : to_z w128 (of_z w128 c.from-next.result) ≡ pos c.args.tpsd = (let e : to_z w128 (of_z w128 c.from-next.result) ≡ c.from-next.result = grind (arith, to_z-of_z) in e ∙ c.from-next.ensures) in
-    let course : Course = record { cursor = to_z w128 (of_z w128 c.from.result); last = pos 0 } in
+    let course : WalkCourse = record { cursor = to_z w128 (of_z w128 c.from.result); last = pos 0 } in
     let none : taken values ≡ [] = ap (λ n. take n values.slots.now) c.requires.used in
     record {
       leads = λ dfhsize end at gives.

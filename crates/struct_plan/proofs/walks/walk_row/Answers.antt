@@ -3,8 +3,8 @@ use Rattle.std.proofs.lemmas.Int.{to_z-of_z}
 use Rattle.std.proofs.lemmas.List.{length-take-le}
 use Rattle.mib_model.specs.Fixed.{most_values}
 use Rattle.bit_field.specs.Taken.{taken}
-use Rattle.struct_plan.specs.declared.course.Course.{Course}
-use Rattle.struct_plan.specs.declared.group.Group.{Group}
+use Rattle.struct_plan.specs.declared.course.WalkCourse.{WalkCourse}
+use Rattle.struct_plan.specs.declared.group.RowGroup.{RowGroup}
 use Rattle.struct_plan.specs.Courses.{Gives, Leads, Moves, walking}
 use Rattle.struct_plan.specs.Sources.{on_subject_by}
 use Rattle.struct_plan.specs.Groups.{still_to_walk, Enclose, Ahead}
@@ -53,7 +53,7 @@ go_on-requires-clause-around g c =
     let db = g.S.Structures.tables c.args.all.now in
     let rows = c.args.structure.now in
     let at = c.args.place.now.at in
-    let gs : List Group = groups c.args.values.now c.args.place.now in
+    let gs : List RowGroup = groups c.args.values.now c.args.place.now in
     let around = around-row db rows c.requires.structure at gs c.entry-entry.result c.requires.inside c.requires.among.around c.requires.among.ahead c.entry-entry.ensures.size c.entry-entry.ensures.entry in
     let given : groups c.give.new.values (record { at = at; inner = c.args.place.now.inner; stack = c.give.new.stack }) ≡ take (most_values - c.give.new.values.used + 1) gs =
     groups-given c.args.place.now.inner (kept c.args.values.now c.args.place.now.stack) (kept c.give.new.values c.give.new.stack) (most_values - c.give.new.values.used) c.requires.among.kept.alone c.in-Ok.ensures.groups in
@@ -66,8 +66,8 @@ returns-in-Repeat-clause-goes g c = λ end gives.
     let source = g.N.Numbers.source c.args.numbers.now in
     let at = c.args.place.now.at in
     let old = c.args.values.now in
-    let gs : List Group = groups old c.args.place.now in
-    let course : Course = c.args.course.now in
+    let gs : List RowGroup = groups old c.args.place.now in
+    let course : WalkCourse = c.args.course.now in
     let entry = c.entry-entry.result in
     let cursor : to_z w128 (of_z w128 (to_z w128 (of_z w128 course.cursor) +ℤ to_z w128 (of_z w128 c.from.result))) ≡ course.cursor +ℤ entry.offset = grind (arith, to_z-of_z) in
     let here = repeat-gives db rows c.requires.structure at gs entry c.requires.inside c.requires.among.around c.requires.among.ahead c.entry-entry.ensures.size c.entry-entry.ensures.entry
@@ -82,8 +82,8 @@ returns-in-Err-clause-goes g c = λ end gives.
     let source = g.N.Numbers.source c.args.numbers.now in
     let at = c.args.place.now.at in
     let old = c.args.values.now in
-    let gs : List Group = groups old c.args.place.now in
-    let course : Course = c.args.course.now in
+    let gs : List RowGroup = groups old c.args.place.now in
+    let course : WalkCourse = c.args.course.now in
     let entry = c.entry-entry.result in
     let cursor : to_z w128 (of_z w128 (to_z w128 (of_z w128 course.cursor) +ℤ to_z w128 (of_z w128 c.from.result))) ≡ course.cursor +ℤ entry.offset = grind (arith, to_z-of_z) in
     let gave = give-leads db rows c.requires.structure at gs entry c.requires.inside c.requires.among.around c.requires.among.ahead c.entry-entry.ensures.size c.entry-entry.ensures.entry
@@ -98,12 +98,12 @@ returns-in-Ok-clause-goes g c = λ end gives.
     let source = g.N.Numbers.source c.args.numbers.now in
     let at = c.args.place.now.at in
     let old = c.args.values.now in
-    let old-groups : List Group = groups old c.args.place.now in
+    let old-groups : List RowGroup = groups old c.args.place.now in
     let room : ℕ = most_values - c.give.new.values.used + 1 in
-    let gs : List Group = groups c.give.new.values (record { at = at; inner = c.args.place.now.inner; stack = c.give.new.stack }) in
+    let gs : List RowGroup = groups c.give.new.values (record { at = at; inner = c.args.place.now.inner; stack = c.give.new.stack }) in
     let fewer : gs ≡ take room old-groups =
     groups-given c.args.place.now.inner (kept old c.args.place.now.stack) (kept c.give.new.values c.give.new.stack) (most_values - c.give.new.values.used) c.requires.among.kept.alone c.in-Ok.ensures.groups in
-    let course : Course = c.args.course.now in
+    let course : WalkCourse = c.args.course.now in
     let entry = c.entry-entry.result in
     let cursor : to_z w128 (of_z w128 (to_z w128 (of_z w128 course.cursor) +ℤ to_z w128 (of_z w128 c.from.result))) ≡ course.cursor +ℤ entry.offset = grind (arith, to_z-of_z) in
     let raw : to_z w128 (of_z w128 c.in-Ok.raw) ≡ c.in-Ok.raw = grind (arith, to_z-of_z) in
@@ -111,7 +111,7 @@ returns-in-Ok-clause-goes g c = λ end gives.
     let more : c.give.new.values.used ≡ old.used + 1 = c.in-Ok.ensures.more in
     let most : c.give.new.values.used ≤ most_values = c.give.ensures.stays.used in
     let gives' : Gives db source end (walking (still_to_walk rows.vpds at gs) course (taken old)) =
-    subst (λ (hs : List Group). Gives db source end (walking (still_to_walk rows.vpds at hs) course (taken old))) (sym fewer)
+    subst (λ (hs : List RowGroup). Gives db source end (walking (still_to_walk rows.vpds at hs) course (taken old))) (sym fewer)
     (gives-fewer db rows c.requires.structure at old-groups entry c.requires.inside c.requires.among.around c.requires.among.ahead c.entry-entry.ensures.size c.entry-entry.ensures.entry
     source end course (taken old) room (omega (arith, used)) (omega arith) (omega (arith, used, more, most)) gives) in
     let around : Enclose rows.vpds at at gs = subst (Enclose rows.vpds at at) (sym fewer) (enclose-take rows.vpds room at at old-groups c.requires.among.around) in

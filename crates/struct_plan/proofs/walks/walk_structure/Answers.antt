@@ -1,7 +1,7 @@
 use Rattle.std.proofs.Common.{◌≡◌, ◌∙◌, length, None, refl, sym, subst, arith}
 use Rattle.mib_model.specs.Fixed.{most_values}
 use Rattle.bit_field.specs.Taken.{taken}
-use Rattle.struct_plan.specs.declared.place.Place.{Place}
+use Rattle.struct_plan.specs.declared.place.RowPlace.{RowPlace}
 use Rattle.struct_plan.specs.Courses.{Gives, IsNear, walking}
 use Rattle.struct_plan.specs.Groups.{still_to_walk}
 use Rattle.struct_plan.specs.Places.{groups, IsAmong}
@@ -15,14 +15,14 @@ loop-place-init g c =
     let rows = c.args.structure.now.vpds in
     let values = c.args.values.now in
     let course = c.args.course.now in
-    let first : Place = record { at = 0; inner = None; stack = record { top = most_values; single = None; count = 0 } } in
+    let first : RowPlace = record { at = 0; inner = None; stack = record { top = most_values; single = None; count = 0 } } in
     let there : first ≡ c.new-place.result = sym c.new-place.ensures in
     let within : IsWithin values first.stack = record { low = c.requires.slots.used; high = omega arith; count = omega arith; whole = omega arith } in
     let among : IsAmong rows values first = record { kept = record { within = within; alone = λ none. refl }; around = omega arith; ahead = omega arith } in
     record {
-      gives = λ end gives. subst (λ (p : Place). Gives db (g.N.Numbers.source c.args.numbers.now) end (walking (still_to_walk rows p.at (groups values p)) course (taken values))) there gives;
+      gives = λ end gives. subst (λ (p : RowPlace). Gives db (g.N.Numbers.source c.args.numbers.now) end (walking (still_to_walk rows p.at (groups values p)) course (taken values))) there gives;
       among = subst (IsAmong rows values) there among;
-      near = subst (λ (p : Place). IsNear course.cursor p.at) there c.requires.near;
+      near = subst (λ (p : RowPlace). IsNear course.cursor p.at) there c.requires.near;
       more = omega arith;
       used = c.requires.slots.used;
       slots = c.requires.slots.slots;

@@ -1,7 +1,7 @@
 use Rattle.std.proofs.Common.{◌≡◌, ◌∙◌, ◌+◌, ◌-◌, Option, drop, take, refl, sym, ap, arith}
 use Rattle.std.specs.List.{cons_option}
 use Rattle.mib_model.specs.Fixed.{most_values}
-use Rattle.struct_plan.specs.declared.group.Group.{Group}
+use Rattle.struct_plan.specs.declared.group.RowGroup.{RowGroup}
 use Rattle.struct_plan.specs.Stacks.{kept, paired, standing}
 use Rattle.struct_plan.proofs.StackFacts.{one-more}
 use Rattle.struct_plan.proofs.stack.Stack.push.Goals as goal
@@ -12,7 +12,7 @@ returns-in_default-clause-groups c =
     let stack = c.lose.new.self in
     let fewer : most_values - (values.used + 1) ≡ most_values - values.used - 1 = omega arith in
     one-more (most_values - values.used) stack.count c.args.group _ (paired (drop stack.top values.slots.now)) (kept values c.args.self.now) (omega arith) refl
-    (ap (λ (o : Option Group). take stack.count (cons_option o (paired (drop stack.top values.slots.now)))) (sym c.in_default.is) ∙
+    (ap (λ (o : Option RowGroup). take stack.count (cons_option o (paired (drop stack.top values.slots.now)))) (sym c.in_default.is) ∙
     (c.lose.ensures.groups ∙ ap (λ n. take n (kept values c.args.self.now)) fewer))
 
 pub returns-clause-groups : goal.returns-clause-groups

@@ -4,13 +4,13 @@ use Rattle.std.proofs.lemmas.List.{length-take-le}
 use Rattle.mib_model.specs.declared.rows.VpdRow.{VpdRow}
 use Rattle.mib_model.specs.Structures.{group_repeated}
 use Rattle.bit_field.specs.Taken.{taken}
-use Rattle.struct_plan.specs.declared.group.Group.{Group}
+use Rattle.struct_plan.specs.declared.group.RowGroup.{RowGroup}
 use Rattle.struct_plan.specs.Courses.{Gives, walking}
 use Rattle.struct_plan.specs.Groups.{rounds, still_to_walk}
 use Rattle.struct_plan.specs.Places.{groups}
 use Rattle.struct_plan.proofs.GroupFacts.{enclose-length}
 use Rattle.struct_plan.proofs.PlaceFacts.{structure-nested, gives-rounds, behind-around, behind-gives, enclose-rows, settled-todo, settled-around, settled-before}
-use Rattle.struct_plan.proofs.place.Place.repeat.Goals as goal
+use Rattle.struct_plan.proofs.place.RowPlace.repeat.Goals as goal
 use mir.Val.{to_z, of_z}
 use mir.Syntax.{w128}
 
@@ -25,7 +25,7 @@ settle-requires-clause-rows c =
     let rows : List VpdRow = c.args.structure.now.vpds in
     let old = c.args.values.now in
     let at = c.args.self.now.at in
-    let gs' : List Group = groups c.enter.new.values c.enter.new.self in
+    let gs' : List RowGroup = groups c.enter.new.values c.enter.new.self in
     enclose-rows rows c.enter.new.self.at c.enter.new.self.at gs'
     (behind-around rows at c.enter.new.self.at c.args.size old.used c.rounds_of.result (groups old c.args.self.now) gs' c.requires.size c.requires.some c.requires.around c.enter.ensures.at c.enter.ensures.groups)
 
@@ -34,8 +34,8 @@ returns-clause-gives c = λ db source end course is gives.
     let rows : List VpdRow = c.args.structure.now.vpds in
     let old = c.args.values.now in
     let at = c.args.self.now.at in
-    let gs : List Group = groups old c.args.self.now in
-    let gs' : List Group = groups c.enter.new.values c.enter.new.self in
+    let gs : List RowGroup = groups old c.args.self.now in
+    let gs' : List RowGroup = groups c.enter.new.values c.enter.new.self in
     let used : length (taken c.enter.new.values) ≡ old.used = ap length c.enter.ensures.stays.taken ∙ length-take-le old.used old.slots.now (omega arith) in
     let few : length (taken old) ≡ old.used = length-take-le old.used old.slots.now (omega arith) in
     let nested = structure-nested db c.args.structure.now is in
@@ -57,10 +57,10 @@ returns-clause-among c =
     let rows : List VpdRow = c.args.structure.now.vpds in
     let old = c.args.values.now in
     let at = c.args.self.now.at in
-    let gs : List Group = groups old c.args.self.now in
-    let gs' : List Group = groups c.enter.new.values c.enter.new.self in
+    let gs : List RowGroup = groups old c.args.self.now in
+    let gs' : List RowGroup = groups c.enter.new.values c.enter.new.self in
     let around = behind-around rows at c.enter.new.self.at c.args.size old.used c.rounds_of.result gs gs' c.requires.size c.requires.some c.requires.around c.enter.ensures.at c.enter.ensures.groups in
-    let settled : List Group = groups c.enter.new.values c.settle.new.self in
+    let settled : List RowGroup = groups c.enter.new.values c.settle.new.self in
     record {
       kept = c.settle.ensures.place;
       around = settled-around rows c.enter.new.self.at c.settle.new.self.at gs' settled around c.settle.ensures.at c.settle.ensures.groups;

@@ -3,13 +3,13 @@ use Rattle.std.proofs.lemmas.List.{length-take-le}
 use Rattle.mib_model.specs.declared.rows.VpdRow.{VpdRow}
 use Rattle.mib_model.specs.Structures.{group_repeated}
 use Rattle.bit_field.specs.Taken.{taken}
-use Rattle.struct_plan.specs.declared.group.Group.{Group}
+use Rattle.struct_plan.specs.declared.group.RowGroup.{RowGroup}
 use Rattle.struct_plan.specs.Courses.{Gives, walking}
 use Rattle.struct_plan.specs.Groups.{still_to_walk}
 use Rattle.struct_plan.specs.Places.{groups}
 use Rattle.struct_plan.proofs.GroupFacts.{enclose-length}
 use Rattle.struct_plan.proofs.PlaceFacts.{structure-nested, behind-around, behind-gives, behind-ahead}
-use Rattle.struct_plan.proofs.place.Place.repeat_fixed.Goals as goal
+use Rattle.struct_plan.proofs.place.RowPlace.repeat_fixed.Goals as goal
 
 pub enter-requires-clause-room : goal.enter-requires-clause-room
 enter-requires-clause-room c =
@@ -22,7 +22,7 @@ returns-clause-gives c = λ db source end course is gives.
     let rows : List VpdRow = c.args.structure.now.vpds in
     let old = c.args.values.now in
     let at = c.args.self.now.at in
-    let gs : List Group = groups old c.args.self.now in
+    let gs : List RowGroup = groups old c.args.self.now in
     let n = c.from.result in
     let count : c.args.count ≡ n = sym c.from.ensures in
     let used : length (taken c.enter.new.values) ≡ old.used = ap length c.enter.ensures.stays.taken ∙ length-take-le old.used old.slots.now (omega arith) in
@@ -37,8 +37,8 @@ returns-clause-among c =
     let rows : List VpdRow = c.args.structure.now.vpds in
     let old = c.args.values.now in
     let at = c.args.self.now.at in
-    let gs : List Group = groups old c.args.self.now in
-    let gs' : List Group = groups c.enter.new.values c.enter.new.self in
+    let gs : List RowGroup = groups old c.args.self.now in
+    let gs' : List RowGroup = groups c.enter.new.values c.enter.new.self in
     let n = c.from.result in
     let one : n ≡ suc (n - 1) = omega (arith, c.from.ensures) in
     record {
