@@ -3,13 +3,15 @@ use Rattle.std.proofs.Common.{◌≡◌, ◌∙◌, ℕ, Bool, ◌++◌, List, [
 use Rattle.std.proofs.lemmas.List.Elements.{All-weaker}
 use Rattle.std.specs.List.{flat_map}
 use Rattle.edition_plans.specs.Params.{param_slices}
-use Rattle.fold_state.specs.Boards.{Slots, is_name_of, plan_names}
+use Rattle.fold_state.specs.Boards.{Slots}
+use Rattle.param_state.specs.ParamPlans.{is_name_of, plan_names, IsParamsOf}
 use Rattle.line_sheets.specs.Drawings.{HasPlan, body_played, packet_played}
 use Rattle.line_sheets.specs.Pieces.{Played}
 use Rattle.param_plan.proofs.PlanFacts.{position-map}
-use Rattle.fold_state.specs.Premises.{Fits, HasSlot, IsParamsOf, IsRaw}
+use Rattle.fold_state.specs.Premises.{Fits, HasSlot}
+use Rattle.param_state.specs.FinishedValues.{IsRaw}
 use Rattle.fold_state.specs.Laws.{FinishIsAStep}
-use Rattle.fold_state.specs.Demands.{AreDemandsOf, any_name}
+use Rattle.param_state.specs.Demands.{AreDemandsOf, any_name}
 use Rattle.fold_state.proofs.EnterFacts.{any-demanded}
 use Rattle.memory_laws.specs.Alike.{AreAlike}
 use Rattle.memory_laws.proofs.AlikeFacts.{alike-is-same, alike-same}

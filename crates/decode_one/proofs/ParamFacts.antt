@@ -8,8 +8,9 @@ use Rattle.std.proofs.lemmas.Slice.Eq.{bytes_eq-Decides}
 use Rattle.std.specs.List.{find, flat_map, list_any, position, position_or_len}
 use Rattle.std.specs.Str.{bytes_eq}
 use Rattle.edition_plans.specs.Params.{param_slices}
-use Rattle.fold_state.specs.Boards.{Slots, is_name_of, plan_names}
-use Rattle.fold_state.specs.Premises.{HasSlot, IsParamsOf, planned}
+use Rattle.fold_state.specs.Boards.{Slots}
+use Rattle.param_state.specs.ParamPlans.{is_name_of, plan_names, IsParamsOf, planned}
+use Rattle.fold_state.specs.Premises.{HasSlot}
 use Rattle.mib_model.specs.declared.database.Database.{Database}
 use Rattle.mib_model.specs.declared.fault.MibCode.TheVariants.{Twice}
 use Rattle.mib_model.specs.declared.kind.Kind.TheVariants as kind

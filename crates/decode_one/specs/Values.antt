@@ -2,7 +2,7 @@
 use Rattle.std.specs.Prelude.{◌≡◌, ◌≢◌, ℕ, ℤ, pos, int_lt, Bool, true, false, ◌&&◌, List, []}
 use Rattle.std.specs.List.{All, list_any}
 use Rattle.std.specs.Str.{bytes_eq}
-use Rattle.fold_state.specs.Premises.{IsRaw}
+use Rattle.param_state.specs.FinishedValues.{IsRaw}
 use Rattle.mib_model.specs.declared.database.Database.{Database}
 use Rattle.mib_model.specs.declared.packet.Found.TheVariants as found
 use Rattle.mib_model.specs.declared.packet.Value.{Value}

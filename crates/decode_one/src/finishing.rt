@@ -4,10 +4,11 @@ ghost use Rattle.std.specs.Option.{option_copied};
 ghost use Rattle.decode_one.specs.Halves.{IsHalf};
 ghost use Rattle.decode_one.specs.Steps.{ComesTo, HasSteppedFor};
 ghost use Rattle.edition_plans.specs.Params.{param_slices};
-ghost use Rattle.fold_state.specs.Boards.{memory_of, plan_names};
-ghost use Rattle.fold_state.specs.Demands.{AreDemandsOf};
+ghost use Rattle.fold_state.specs.Boards.{memory_of};
+ghost use Rattle.param_state.specs.ParamPlans.{plan_names};
+ghost use Rattle.param_state.specs.Demands.{AreDemandsOf};
 ghost use Rattle.fold_state.specs.declared.finish.TheConstants.{TEXT_BEFORE};
-ghost use Rattle.fold_state.specs.Sketches.{AreShown};
+ghost use Rattle.line_sketches.specs.Sketches.{AreShown};
 ghost use Rattle.memory_laws.specs.Alike.{AreAlike};
 ghost use Rattle.mib_model.specs.Interpreter.{Course, StampedPacket, title_of};
 ghost use Rattle.mib_model.specs.Kept.{Memory};
@@ -15,8 +16,10 @@ ghost use Rattle.record_text.specs.declared.lines.TheConstants.{LINES_ROOM, LINE
 
 use crate::half::Half;
 use edition_plans::Plans;
-use fold_state::{Board, Demand, Drawer, Seen, Sketch, finish_is_a_step};
+use fold_state::{Board, Seen, finish_is_a_step};
+use line_sketches::{Drawer, Sketch};
 use mib_model::{Found, Text, Value};
+use param_state::Demand;
 use record_text::Lines;
 
 // The name of a packet that was found, where it has one.

@@ -3,8 +3,9 @@ ghost use Rattle.std.specs.Prelude.{◌≡◌, ◌≤◌, ◌+◌, ℕ, Bool, Li
 ghost use Rattle.decode_one.specs.Halves.{IsHalf};
 ghost use Rattle.decode_one.specs.Steps.{ComeTo, HasRunFor, IsStampedOf};
 ghost use Rattle.edition_plans.specs.Params.{param_slices};
-ghost use Rattle.fold_state.specs.Boards.{memory_of, plan_names};
-ghost use Rattle.fold_state.specs.Demands.{AreDemandsOf};
+ghost use Rattle.fold_state.specs.Boards.{memory_of};
+ghost use Rattle.param_state.specs.ParamPlans.{plan_names};
+ghost use Rattle.param_state.specs.Demands.{AreDemandsOf};
 ghost use Rattle.fold_state.specs.declared.finish.TheConstants.{TEXT_BEFORE};
 ghost use Rattle.line_sheets.specs.Drawings.{AddsFor, IsSheetFor, packet_played};
 ghost use Rattle.memory_laws.specs.Alike.{AreAlike};
@@ -15,9 +16,11 @@ ghost use Rattle.record_text.specs.declared.lines.TheConstants.{LINES_ROOM, LINE
 use crate::finishing::title;
 use crate::half::Half;
 use edition_plans::Plans;
-use fold_state::{Board, Demand, Places, Seen};
+use fold_state::{Board, Seen};
 use line_sheets::{Sheet, play};
 use mib_model::Value;
+use param_state::Demand;
+use plan_places::Places;
 use record_text::Lines;
 
 /// Draws the record of a packet that was decoded so behind a sheet, where that has room for it. Raw numbers are entered as far as they

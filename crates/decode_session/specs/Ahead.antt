@@ -3,8 +3,8 @@ use Rattle.std.specs.Prelude.{◌≡◌, ℕ, ◌<◌, ◌≤◌, ◌+◌, ◌-�
 use Rattle.std.specs.List.{All, concat, flat_map}
 use Rattle.decode_session.specs.declared.job.Job.{Job}
 use Rattle.edition_plans.specs.Params.{param_slices}
-use Rattle.fold_state.specs.Boards.{plan_names}
-use Rattle.fold_state.specs.Demands.{asked_in}
+use Rattle.param_state.specs.ParamPlans.{plan_names}
+use Rattle.param_state.specs.Demands.{asked_in}
 use Rattle.line_sheets.specs.Drawings.{IsSheetFor}
 use Rattle.mib_model.specs.declared.database.Database.{Database}
 use Rattle.mib_model.specs.Interpreter.{stamped_from}

@@ -4,13 +4,12 @@ use Rattle.std.specs.List.{All, concat}
 use Rattle.std.specs.Io.KnownBytes.{Consumes}
 use Rattle.decode_session.specs.Run.{Writes}
 use Rattle.edition_plans.specs.Params.{param_slices}
-use Rattle.fold_state.specs.declared.demands.Demand.{Demand}
-use Rattle.fold_state.specs.Demands.{AreDemandsOf, asked_in}
+use Rattle.param_state.specs.declared.demands.Demand.{Demand}
+use Rattle.param_state.specs.Demands.{AreDemandsOf, asked_in}
 use Rattle.memory_laws.specs.Alike.{AreAlike}
 use Rattle.mib_model.specs.declared.database.Database.{Database}
-use Rattle.mib_model.specs.Interpreter.{Course, StampedPacket, record_for, course_after, interpret, course_after_all, records_text}
+use Rattle.mib_model.specs.Interpreter.{Course, StampedPacket, record_for, course_after, interpret, course_after_all, records_text, stamped_from}
 use Rattle.mib_model.specs.Kept.{Memory, empty_memory}
-use Rattle.mib_model.specs.Interpreter.{stamped_from}
 use Rattle.mib_model.specs.Packets.{IsPacket}
 use Rattle.mib_model.specs.Texts.{record_text}
 

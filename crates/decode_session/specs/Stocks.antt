@@ -3,7 +3,7 @@ use Rattle.std.specs.Prelude.{◌≡◌}
 use Rattle.decode_session.specs.declared.stock.Stock.{Stock}
 use Rattle.decode_session.specs.Finishing.{AreDemandsIn}
 use Rattle.edition_plans.specs.Params.{param_slices}
-use Rattle.fold_state.specs.Boards.{plan_names}
+use Rattle.param_state.specs.ParamPlans.{plan_names}
 use Rattle.mib_model.specs.declared.database.Database.{Database}
 
 -- what is demanded and what is kept are for the parameters of a database

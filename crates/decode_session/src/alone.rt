@@ -5,7 +5,8 @@ ghost use Rattle.decode_session.specs.Run.{most_packets};
 ghost use Rattle.decode_session.specs.Finishing.{AreDemandsIn, Leads};
 ghost use Rattle.decode_session.specs.Turns.{AddsOne, AddsNothing, AddsBatch};
 ghost use Rattle.edition_plans.specs.Params.{param_slices};
-ghost use Rattle.fold_state.specs.Boards.{memory_of, plan_names};
+ghost use Rattle.fold_state.specs.Boards.{memory_of};
+ghost use Rattle.param_state.specs.ParamPlans.{plan_names};
 ghost use Rattle.fold_state.specs.declared.finish.TheConstants.{TEXT_BEFORE};
 ghost use Rattle.packet_feed.specs.Feed.{SourceStays, source_of};
 
@@ -13,8 +14,9 @@ use crate::batch::{Filled, MOST_PACKETS};
 use crate::room::{Buffers, Room};
 use decode_one::finish;
 use edition_plans::Plans;
-use fold_state::{Board, Demand, TEXT_BEFORE};
+use fold_state::{Board, TEXT_BEFORE};
 use packet_feed::{Feed, Next};
+use param_state::Demand;
 use record_text::Lines;
 use tm_io::Source;
 

@@ -10,10 +10,11 @@ use bit_field::MOST_VALUES;
 use decode_one::Half;
 use decode_pool::Work;
 use edition_plans::Plans;
-use fold_state::{Demand, Places};
 use mib_model::Value;
 use packet_sheets::draw_stretch;
 use param_plan::Params;
+use param_state::Demand;
+use plan_places::Places;
 use std::alloc::{AllocError, Global};
 use std::sync::{Mutex, MutexGuard};
 

@@ -8,7 +8,8 @@ ghost use Rattle.decode_session.specs.Finishing.{AreDemandsIn, Finishes, Leads, 
 ghost use Rattle.decode_session.specs.Run.{most_in_flight, most_packets};
 ghost use Rattle.decode_session.specs.Turns.{Prints, PrintsNext, PrintsPart, StopsNext};
 ghost use Rattle.edition_plans.specs.Params.{param_slices};
-ghost use Rattle.fold_state.specs.Boards.{memory_of, plan_names};
+ghost use Rattle.fold_state.specs.Boards.{memory_of};
+ghost use Rattle.param_state.specs.ParamPlans.{plan_names};
 ghost use Rattle.fold_state.specs.declared.finish.TheConstants.{TEXT_BEFORE};
 ghost use Rattle.mib_model.specs.Kept.{Memory};
 ghost use Rattle.mib_model.specs.Interpreter.{stamped_first};
@@ -22,8 +23,9 @@ use crate::job::Job;
 use crate::room::{Buffers, Room};
 use decode_one::{finish, play_sheet};
 use edition_plans::Plans;
-use fold_state::{Board, Demand};
+use fold_state::Board;
 use packet_feed::{Feed, Next, header_at};
+use param_state::Demand;
 use record_text::Lines;
 use tm_io::{Failed, Sink, Source, write_all};
 

@@ -3,8 +3,8 @@ ghost use Rattle.mib_model.specs.Fixed.{most_values};
 ghost use Rattle.packet_feed.specs.declared.feed.TheConstants.{PACKET_SIZE};
 
 use decode_one::Half;
-use fold_state::Sketch;
 use frame_region::Piece;
+use line_sketches::Sketch;
 use mib_model::Value;
 
 /// The buffers of one packet: a frame for its octets, slots for its values, its half, which says nothing before the packet is

@@ -12,10 +12,12 @@ use crate::room::{Buffers, Room};
 use bit_field::{MOST_VALUES, shape_of};
 use decode_one::Half;
 use edition_plans::Plans;
-use fold_state::{Board, Demand, Sketch, demands_of};
+use fold_state::Board;
 use frame_region::Region;
+use line_sketches::Sketch;
 use mib_model::{Ended, Endian, Found, Header, Name, Shape, Value};
 use packet_feed::PACKET_SIZE;
+use param_state::{Demand, demands_of};
 use record_text::Lines;
 use std::alloc::{AllocError, Global};
 

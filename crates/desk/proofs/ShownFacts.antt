@@ -20,7 +20,8 @@ use Rattle.edition_plans.specs.Params.{param_slices}
 use Rattle.edition_register.specs.declared.outcome.UseFault.{UseFault}
 use Rattle.edition_register.specs.declared.start.Start.{Start}
 use Rattle.edition_register.specs.Seats.{Moves, RegisterSeat, UsesAt, refused_by}
-use Rattle.fold_state.specs.Boards.{Slots, is_made_for, plan_names, planned_names}
+use Rattle.fold_state.specs.Boards.{Slots, is_made_for}
+use Rattle.param_state.specs.ParamPlans.{plan_names, planned_names}
 use Rattle.param_plan.specs.Slices.{ParamSlice, slice_for}
 use Rattle.desk.specs.Handling.{Handles}
 use Rattle.desk.specs.Using.{used_reply}

@@ -15,9 +15,12 @@ use Rattle.mib_model.specs.declared.packet.Value.{Value}
 use Rattle.mib_model.specs.Kept.{Kept, keeping, nothing_kept, entered, has_number}
 use Rattle.param_plan.specs.Slices.{ParamSlice}
 use Rattle.param_plan.proofs.NameFacts.{below-far, not-named}
-use Rattle.fold_state.specs.declared.slot.Slot.{Slot}
-use Rattle.fold_state.specs.Boards.{Slots, board_of, kept_as, is_name_of, kept_beside, memory_of, place_of, plan_names, slot_name, vacant_for}
+use Rattle.param_state.specs.declared.slot.ParamSlot.{ParamSlot}
+use Rattle.fold_state.specs.Boards.{Slots, board_of, kept_beside, memory_of, place_of}
+use Rattle.param_state.specs.SlotViews.{kept_as, slot_name, vacant_for}
+use Rattle.param_state.specs.ParamPlans.{is_name_of, plan_names}
 use Rattle.fold_state.specs.Places.{Rise}
+use Rattle.param_state.proofs.NamedFacts.{same-name}
 
 module _ {X : Type 0} (p : X → Bool) where
   -- the first place that passes
@@ -57,10 +60,6 @@ module _ {X : Type 0} (p : X → Bool) where
   pair-past (x ∷ xs) (z ∷ ys) zero y d fails = rw fails refl
   pair-past (x ∷ xs) (z ∷ ys) (suc i) y d fails = ap (λ rest. cond (p x) (Some (x, z)) rest) (pair-past xs ys i y d fails)
 
--- names with equal octets are equal
-pub same-name : (x y : List ℕ) → bytes_eq x y ≡ true → x ≡ y
-same-name x y same = (bytes_eq-Decides x y).0 same
-
 other-name : (x y z : List ℕ) → x ≡ y → bytes_eq z y ≡ false → bytes_eq x z ≡ false
 other-name x y z same fails = elim (cases_Bool (bytes_eq x z)) [
   | inl equal ↦ absurd (false≢true (sym fails ∙ (bytes_eq-Decides z y).1 (sym (same-name x z equal) ∙ same)))
@@ -68,7 +67,7 @@ other-name x y z same fails = elim (cases_Bool (bytes_eq x z)) [
 ]
 
 -- what is kept at the place of a name is kept of the name
-pub kept-at : (board : Slots) (name : List ℕ) (i : ℕ) (s : Slot) → length board.slots ≡ length board.names → place_of board name ≡ Some i → s ≡ get_or board.slots i s
+pub kept-at : (board : Slots) (name : List ℕ) (i : ℕ) (s : ParamSlot) → length board.slots ≡ length board.names → place_of board name ≡ Some i → s ≡ get_or board.slots i s
     → kept_as s ≡ memory_of board name
 kept-at board name i s long at is =
     let place = position-Some (is_name_of name) board.names i [] at in
@@ -80,7 +79,7 @@ pub kept-nowhere : (board : Slots) (name : List ℕ) → ((k : ℕ) → k < leng
 kept-nowhere board name none = ap kept_beside (pair-nowhere (is_name_of name) board.names board.slots [] none)
 
 -- something else kept at the place of a name is kept of that name alone
-pub kept-set : (board : Slots) (name : List ℕ) (i : ℕ) (s : Slot) → length board.slots ≡ length board.names → place_of board name ≡ Some i
+pub kept-set : (board : Slots) (name : List ℕ) (i : ℕ) (s : ParamSlot) → length board.slots ≡ length board.names → place_of board name ≡ Some i
     → memory_of (record { names = board.names; slots = set board.slots i s }) ≡ keeping (memory_of board) name (kept_as s)
 kept-set board name i s long at = λ j other. each other j where
   place : (i < length board.names) × (is_name_of name (get_or board.names i []) ≡ true) × ((k : ℕ) → k < i → is_name_of name (get_or board.names k []) ≡ false)
@@ -99,7 +98,7 @@ kept-set board name i s long at = λ j other. each other j where
   ]
 
 -- a raw number kept at the place of a value's name is the latest of that name
-pub latest-set : (board : Slots) (v : Value) (i : ℕ) (s t : Slot) → length board.slots ≡ length board.names → place_of board v.name ≡ Some i → s ≡ get_or board.slots i s
+pub latest-set : (board : Slots) (v : Value) (i : ℕ) (s t : ParamSlot) → length board.slots ≡ length board.names → place_of board v.name ≡ Some i → s ≡ get_or board.slots i s
     → kept_as t ≡ record (kept_as s) { latest = Some v.raw } → has_number v.shape.sort ≡ true → memory_of (record { names = board.names; slots = set board.slots i t }) ≡ entered (memory_of board) v
 latest-set board v i s t long at is wrote number =
     let made : kept_as t ≡ record (memory_of board v.name) { latest = Some v.raw } = wrote ∙ ap (λ (k : Kept). record k { latest = Some v.raw }) (kept-at board v.name i s long at is) in
@@ -136,41 +135,37 @@ pub names-vacant : (params : List ParamSlice) → map slot_name (map vacant_for 
 names-vacant [] = refl
 names-vacant (slice ∷ params) = ap (λ (names : List (List ℕ)). slice.pcf.name ∷ names) (names-vacant params)
 
--- what is behind a handle at a place stands there
-pub plan-there : (params : List ParamSlice) (i : ℕ) (x s : ParamSlice) → s ≡ x → x ≡ get_or params i x → s ≡ get_or params i s
-plan-there params i x s same is = same ∙ is ∙ ap (λ (d : ParamSlice). get_or params i d) (sym same)
-
 -- nothing is kept without slots
 pub kept-empty : (names : List (List ℕ)) (name : List ℕ) → memory_of (record { names = names; slots = [] }) name ≡ nothing_kept
 kept-empty [] name = refl
 kept-empty (own ∷ names) name = refl
 
 -- there are as many slots as names
-pub slots-long : (slots : List Slot) → length slots ≡ length (map slot_name slots)
+pub slots-long : (slots : List ParamSlot) → length slots ≡ length (map slot_name slots)
 slots-long slots = sym (simp length-map)
 
 -- a place of a board is one of its slots
-pub slot-within : (slots : List Slot) (board : Slots) (i : ℕ) → board_of slots ≡ board → i < length board.names → i < length slots
+pub slot-within : (slots : List ParamSlot) (board : Slots) (i : ℕ) → board_of slots ≡ board → i < length board.names → i < length slots
 slot-within slots board i is below =
     let long = slots-long slots in
     let same : length (map slot_name slots) ≡ length board.names = ap (λ (b : Slots). length b.names) is in
     omega (arith, long, same, below)
 
 -- a slot at a place has the name there
-pub name-at : (slots : List Slot) (i : ℕ) (s : Slot) → i < length slots → s ≡ get_or slots i s → get_or (map slot_name slots) i [] ≡ s.name
+pub name-at : (slots : List ParamSlot) (i : ℕ) (s : ParamSlot) → i < length slots → s ≡ get_or slots i s → get_or (map slot_name slots) i [] ≡ s.name
 name-at slots i s below is = get_or-map slot_name slots i s [] below ∙ ap slot_name (sym is)
 
 -- a slot of the same name in place of one leaves the names
-pub names-set : (slots : List Slot) (i : ℕ) (s t : Slot) → i < length slots → s ≡ get_or slots i s → t.name ≡ s.name → map slot_name (set slots i t) ≡ map slot_name slots
+pub names-set : (slots : List ParamSlot) (i : ℕ) (s t : ParamSlot) → i < length slots → s ≡ get_or slots i s → t.name ≡ s.name → map slot_name (set slots i t) ≡ map slot_name slots
 names-set [] i s t below is same = absurd (omega (arith, below))
 names-set (x ∷ slots) zero s t below is same = ap (λ (name : List ℕ). name ∷ map slot_name slots) (same ∙ ap slot_name is)
 names-set (x ∷ slots) (suc i) s t below is same = ap (λ (names : List (List ℕ)). x.name ∷ names) (names-set slots i s t (omega (arith, below)) is same)
 
-abbrev with_names : List (List ℕ) → List Slot → Slots
+abbrev with_names : List (List ℕ) → List ParamSlot → Slots
 with_names names slots = record { names = names; slots = slots }
 
 -- the board with a slot of the same name in place of one
-pub board-set : (slots : List Slot) (i : ℕ) (s t : Slot) → i < length slots → s ≡ get_or slots i s → t.name ≡ s.name
+pub board-set : (slots : List ParamSlot) (i : ℕ) (s t : ParamSlot) → i < length slots → s ≡ get_or slots i s → t.name ≡ s.name
     → board_of (set slots i t) ≡ record { names = map slot_name slots; slots = set slots i t }
 board-set slots i s t below is same = ap (λ (names : List (List ℕ)). with_names names (set slots i t)) (names-set slots i s t below is same)
 

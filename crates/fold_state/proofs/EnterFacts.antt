@@ -3,10 +3,10 @@ use Rattle.std.proofs.Common.{◌≡◌, ◌∙◌, ◌+◌, ◌<◌, ℕ, Bool,
 use Rattle.std.proofs.lemmas.Bool.{false≢true}
 use Rattle.std.proofs.lemmas.List.Elements.{recursion_from_All}
 use Rattle.std.specs.List.{AllByRecursion}
-use Rattle.fold_state.specs.declared.demands.Demand.{Demand}
+use Rattle.param_state.specs.declared.demands.Demand.{Demand}
 use Rattle.fold_state.specs.Boards.{Slots, memory_of, place_of}
-use Rattle.fold_state.specs.Demands.{AreDemandsOf, any_name, demand_at}
-use Rattle.fold_state.specs.Entering.{AreQuiet, HasEntered, IsQuiet, entered_at}
+use Rattle.param_state.specs.Demands.{AreDemandsOf, any_name, demand_at, entered_at}
+use Rattle.fold_state.specs.Entering.{AreQuiet, HasEntered, IsQuiet}
 use Rattle.fold_state.proofs.SeatFacts.{entered-more}
 use Rattle.memory_laws.specs.Alike.{AreAlike}
 use Rattle.memory_laws.proofs.AlikeFacts.{alike-is-same, alike-same, entered-where, one-entered}

@@ -8,7 +8,8 @@ use Rattle.std.proofs.lemmas.List.Sums.{fold_more}
 use Rattle.std.specs.List.{position}
 use Rattle.mib_model.specs.declared.packet.Value.{Value}
 use Rattle.mib_model.specs.Kept.{Memory, all_entered, entered}
-use Rattle.fold_state.specs.Boards.{Slots, is_name_of, place_of}
+use Rattle.fold_state.specs.Boards.{Slots, place_of}
+use Rattle.param_state.specs.ParamPlans.{is_name_of}
 use Rattle.fold_state.specs.Premises.{AreSeated, HasSlot}
 use Rattle.fold_state.proofs.FinishFacts.{slot-kept}
 

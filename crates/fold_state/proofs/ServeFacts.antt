@@ -6,12 +6,15 @@ use Rattle.std.proofs.lemmas.List.Elements.{recursion_from_All}
 use Rattle.std.proofs.lemmas.List.Folds.{list_any_at}
 use Rattle.std.specs.List.{flat_map, list_any}
 use Rattle.std.specs.Str.{bytes_eq}
-use Rattle.fold_state.specs.declared.demands.Demand.{Demand}
-use Rattle.fold_state.specs.Boards.{Slots, memory_of, place_of, plan_names}
-use Rattle.fold_state.specs.Demands.{AreAsked, asked_in, slice_asks}
-use Rattle.fold_state.specs.Entering.{AreFinishedFor, AreQuiet, HasEntered, IsToldPlain, StandsFor}
-use Rattle.fold_state.specs.Premises.{AreFinished, HasSlot, IsParamsOf}
-use Rattle.fold_state.proofs.FinishFacts.{finish-plain-at, found-passes, plan-found, plan-within, some-item}
+use Rattle.param_state.specs.declared.demands.Demand.{Demand}
+use Rattle.fold_state.specs.Boards.{Slots, memory_of, place_of}
+use Rattle.param_state.specs.ParamPlans.{plan_names, IsParamsOf, planned}
+use Rattle.param_state.specs.Demands.{AreAsked, asked_in, slice_asks}
+use Rattle.fold_state.specs.Entering.{AreFinishedFor, AreQuiet, HasEntered, StandsFor}
+use Rattle.param_state.specs.FinishedValues.{IsToldPlain, AreFinished}
+use Rattle.fold_state.specs.Premises.{HasSlot}
+use Rattle.fold_state.proofs.FinishFacts.{finish-plain-at, plan-found, plan-within}
+use Rattle.param_state.proofs.ValueFacts.{found-passes, some-item}
 use Rattle.memory_laws.specs.Alike.{AreAlike, Covers, CoversAll, asks, is_on, is_valid_on}
 use Rattle.memory_laws.proofs.AlikeFacts.{all_finished-alike}
 use Rattle.mib_model.specs.declared.database.Database.{Database}
@@ -26,8 +29,7 @@ use Rattle.mib_model.specs.Plans.{has_plan}
 use Rattle.mib_model.specs.Tails.{Told}
 use Rattle.mib_model.specs.Texts.{told_text}
 use Rattle.param_plan.specs.Slices.{ParamSlice, slice_for}
-use Rattle.fold_state.specs.Premises.{planned}
-use Rattle.fold_state.proofs.BoardFacts.{same-name}
+use Rattle.param_state.proofs.NamedFacts.{same-name}
 
 -- the slice of a parameter asks what its values ask
 by-slice : (db : Database) (name : List ℕ) (row : PcfRow) → parameter db.pcf name ≡ Some row → (other : List ℕ) → asks db name other ≡ slice_asks other (slice_for db row)

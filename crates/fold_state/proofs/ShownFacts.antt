@@ -4,10 +4,10 @@ use Rattle.mib_model.specs.declared.database.Database.{Database}
 use Rattle.mib_model.specs.declared.number.Eng.{Eng}
 use Rattle.mib_model.specs.declared.packet.Value.{Value}
 use Rattle.mib_model.specs.Kept.{Memory}
-use Rattle.fold_state.specs.declared.sketch.Mark.{Mark}
-use Rattle.fold_state.specs.declared.sketch.Mark.TheVariants as mark
-use Rattle.fold_state.specs.Premises.{IsFinished}
-use Rattle.fold_state.specs.Sketches.{HasShown, IsShown, MarkedLine, Shown, shown_by, told_after_nominal}
+use Rattle.line_sketches.specs.declared.sketch.Mark.{Mark}
+use Rattle.line_sketches.specs.declared.sketch.Mark.TheVariants as mark
+use Rattle.param_state.specs.FinishedValues.{IsFinished}
+use Rattle.line_sketches.specs.Sketches.{HasShown, IsShown, MarkedLine, Shown, shown_by, told_after_nominal}
 
 -- a value that is finished as a marked line shows it is finished, if the line shows the value
 pub finished-as-shown : (db : Database) (packet : List ℕ) (v : Value) (line : MarkedLine) (before after : Memory) (old new : List ℕ)

@@ -1,22 +1,17 @@
 -- What is kept as values are entered and finished, and the memories that it serves for. [This profile.]
-use Rattle.std.specs.Prelude.{◌≡◌, ℕ, Bool, true, false, List, ◌++◌, length, Some, None, if◌then◌else◌}
+use Rattle.std.specs.Prelude.{◌≡◌, ℕ, Bool, true, false, List, ◌++◌, length, Some}
 use Rattle.std.specs.List.{All, flat_map}
-use Rattle.fold_state.specs.declared.demands.Demand.{Demand}
+use Rattle.param_state.specs.declared.demands.Demand.{Demand}
 use Rattle.fold_state.specs.Boards.{Slots, memory_of, place_of}
-use Rattle.fold_state.specs.Demands.{AreAsked, AreDemandsOf, demand_at}
+use Rattle.param_state.specs.Demands.{AreAsked, AreDemandsOf, demand_at}
 use Rattle.fold_state.specs.Premises.{AreSeated, Fits}
 use Rattle.memory_laws.specs.Alike.{AreAlike}
 use Rattle.mib_model.specs.declared.database.Database.{Database}
 use Rattle.mib_model.specs.declared.packet.Value.{Value}
-use Rattle.mib_model.specs.Finish.{all_finished, finished, told}
+use Rattle.mib_model.specs.Finish.{all_finished, finished}
 use Rattle.mib_model.specs.Kept.{Memory, all_entered, entered}
-use Rattle.mib_model.specs.Tails.{Plain}
 use Rattle.mib_model.specs.Texts.{told_text}
 use Rattle.param_plan.specs.Slices.{ParamSlice}
-
--- the memory after a value of the name at a place, whose raw number is entered where it is asked there
-abbrev pub entered_at : List Demand → ℕ → Memory → Value → Memory
-entered_at demands at memory v = if (demand_at demands at).asked then entered memory v else memory
 
 -- raw numbers of values were entered as far as they are asked: what was alike to what a board kept is so behind all of them
 abbrev pub HasEntered : List Demand → List Value → Slots → Slots → Type 0
@@ -42,10 +37,6 @@ pub record IsQuiet (demands : List Demand) (board : Slots) (name : List ℕ) : T
 abbrev pub AreQuiet : List Demand → Slots → List Value → Type 0
 AreQuiet demands board vs = All (λ v. IsQuiet demands board v.name) vs
 
--- of a value the raw number alone is told, and nothing is kept, whatever was
-abbrev pub IsToldPlain : Database → Value → Type 0
-IsToldPlain db v = (memory : Memory) → told v Plain (memory, None) ≡ finished db memory v
-
 -- a board was made for plans and fits values, what is asked is demanded, and a memory is alike to what the board keeps
 pub record StandsFor (asked : List ℕ → Bool) (db : Database) (params : List ParamSlice) (demands : List Demand) (board : Slots)
     (vs : List Value) (m : Memory) : Type 0 where
@@ -58,3 +49,9 @@ pub record AreFinishedFor (asked : List ℕ → Bool) (db : Database) (packet : 
     (old new : List ℕ) : Type 0 where
   pub memory : AreAlike asked (all_finished db before vs).0 after
   pub text : new ≡ old ++ flat_map (told_text packet) (all_finished db before vs).1
+
+-- values are finished from each memory for which a board stands
+abbrev pub FinishesAll : List ParamSlice → List Demand → Slots → List ℕ → List Value → Memory → List ℕ → List ℕ → Type 0
+FinishesAll params demands board packet vs after old new =
+    (asked : List ℕ → Bool) (db : Database) (m : Memory) → StandsFor asked db params demands board vs m
+    → AreFinishedFor asked db packet vs (all_entered m vs) after old new

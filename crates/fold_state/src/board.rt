@@ -1,4 +1,4 @@
-ghost use Rattle.std.specs.Prelude.{◌≡◌, ◌<◌, ◌≤◌, ◌≤ℤ◌, [], List, ℕ, Some, get_or, length, map, nat_lt, true, vec_capacity, IfOk, IsTrue};
+ghost use Rattle.std.specs.Prelude.{◌≡◌, ◌<◌, ◌≤◌, ◌≤ℤ◌, [], List, ℕ, Some, length, map, nat_lt, true, vec_capacity, IfOk, IsTrue};
 ghost use Rattle.check_plan.specs.Samples.{sample_of};
 ghost use Rattle.mib_model.specs.Alarms.{alarm};
 ghost use Rattle.mib_model.specs.Finish.{with_alarm};
@@ -6,18 +6,19 @@ ghost use Rattle.mib_model.specs.Kept as Spec;
 ghost use Rattle.mib_model.specs.Kept.{has_number};
 ghost use Rattle.mib_model.specs.WholeNumbers.{least_raw, greatest_raw};
 ghost use Rattle.mib_model.specs.declared.packet.Value.{Value};
-ghost use Rattle.fold_state.specs.Boards.{kept_as, memory_of, place_of, plan_names, slot_name, vacant_for};
+ghost use Rattle.param_state.specs.SlotViews.{kept_as, slot_name, vacant_for};
+ghost use Rattle.fold_state.specs.Boards.{memory_of, place_of};
+ghost use Rattle.param_state.specs.ParamPlans.{plan_names};
 ghost use Rattle.fold_state.specs.Places.{Rise};
-ghost use Rattle.fold_state.specs.Sketches.{after_nominal};
+ghost use Rattle.line_sketches.specs.Sketches.{after_nominal};
 
-use crate::ahead::{FAR, STRIDE, read_ahead, read_rows_ahead, read_sketched_ahead};
-use crate::guesses::Guesses;
-use crate::sketch::Sketch;
-use crate::slot::Slot;
 use bit_field::MOST_VALUES;
 use check_plan::{Holds, Sample};
+use line_sketches::{Sketch, read_sketched_ahead};
 use mib_model::{Change, Class, Eng, MadeFor, Name, Value};
 use param_plan::Params;
+use param_state::{ParamSlot, STRIDE, read_rows_ahead, read_slots_ahead};
+use plan_places::{FAR, Guesses, touch_parts, touch_plans};
 use std::alloc::{AllocError, Global};
 use std::marker::Model;
 use std::mem;
@@ -25,7 +26,7 @@ use std::mem;
 /// What is kept of each parameter of an edition: a slot for each plan, in the order of the plans. Contracts see the names
 /// and the slots.
 pub struct Board {
-    pub(crate) slots: Vec<Slot>,
+    pub(crate) slots: Vec<ParamSlot>,
     pub(crate) guesses: Guesses,
     // Where the places of a packet's values are noted. It says nothing between two packets.
     pub(crate) seats: Vec<usize>,
@@ -47,7 +48,8 @@ impl Drop for Board {
 
 impl Model for Board {
     ghost use Rattle.std.specs.Prelude.{map};
-    ghost use Rattle.fold_state.specs.Boards.{Slots, board_of, slot_name};
+    ghost use Rattle.fold_state.specs.Boards.{Slots, board_of};
+    ghost use Rattle.param_state.specs.SlotViews.{slot_name};
     ghost use Rattle.fold_state.specs.Places.{Rise};
 
     ghost Value = { Slots };
@@ -58,7 +60,7 @@ impl Model for Board {
 }
 
 /// Slots for plans, which keep nothing, in room that is reserved for them.
-pub(crate) fn slots_for(room: Vec<Slot>, params: &Params) -> Vec<Slot>
+pub(crate) fn slots_for(room: Vec<ParamSlot>, params: &Params) -> Vec<ParamSlot>
     requires none { room.items ≡ [] }
     requires room { length params.now ≤ vec_capacity room }
     ensures slots { result.items ≡ map vacant_for params.now }
@@ -66,9 +68,16 @@ pub(crate) fn slots_for(room: Vec<Slot>, params: &Params) -> Vec<Slot>
 {
     let mut slots = room;
     for at in 0..params.len() {
-        slots.push_reserved(Slot::new(params.plan(at).name()));
+        slots.push_reserved(ParamSlot::new(params.plan(at).name()));
     }
     slots
+}
+
+// Notes the places of the names of slots.
+fn note_names(guesses: &mut Guesses, slots: &[ParamSlot]) {
+    for at in 0..slots.len() {
+        guesses.note_name(&slots[at].name, at);
+    }
 }
 
 impl Board {
@@ -78,7 +87,8 @@ impl Board {
         ensures memory { IfOk result (λ board. memory_of board ≡ Spec.empty_memory) }
     {
         let slots = slots_for(Vec::with_capacity(alloc, params.len())?, params);
-        let guesses = Guesses::new(alloc, &slots)?;
+        let mut guesses = Guesses::new(alloc, slots.len())?;
+        note_names(&mut guesses, &slots);
         Ok(Board {
             slots,
             guesses,
@@ -147,7 +157,10 @@ impl Board {
         let first = self.guesses.row(spid, count);
         if self.slots.len() >= FAR {
             let places = self.guesses.places(first, count);
-            self.ahead = read_ahead(&self.slots, params, places);
+            let plain = params.plain();
+            self.ahead = read_slots_ahead(&self.slots, places)
+                ^ touch_plans(params, plain, places)
+                ^ touch_parts(params, plain, places);
         }
         first
     }
@@ -157,7 +170,8 @@ impl Board {
         ensures { self.new ≡ self.old }
     {
         if self.slots.len() >= FAR {
-            self.ahead = read_sketched_ahead(&self.slots, params, values, sketch);
+            let slots = read_slots_ahead(&self.slots, sketch.places());
+            self.ahead = slots ^ read_sketched_ahead(params, values, sketch);
         }
     }
 
@@ -209,7 +223,7 @@ impl Board {
         } = other;
         self.guesses = guesses;
         self.seats = seats;
-        self.guesses.note_names(&self.slots);
+        note_names(&mut self.guesses, &self.slots);
     }
 
     /// Takes the seats out, so that they can be noted beside the slots.
@@ -235,7 +249,7 @@ impl Board {
     }
 
     /// What is kept at a place.
-    pub(crate) fn slot(&self, at: usize) -> &Slot
+    pub(crate) fn slot(&self, at: usize) -> &ParamSlot
         requires { at < length self.now.names }
         ensures { (name : List ℕ) → place_of self.now name ≡ Some at → kept_as result.now ≡ memory_of self.now name }
     {
@@ -292,7 +306,7 @@ impl Board {
     }
 
     /// Keeps something else at a place.
-    pub(crate) fn set_slot(&mut self, at: usize, slot: Slot)
+    pub(crate) fn set_slot(&mut self, at: usize, slot: ParamSlot)
         requires { at < length self.old.names }
         ensures names { self.new.names ≡ self.old.names }
         ensures memory { (name : List ℕ) → place_of self.old name ≡ Some at

@@ -2,17 +2,18 @@
 ghost use Rattle.std.specs.Prelude.{◌≡◌, ◌<◌, ◌≤ℤ◌, List, ℕ, Some, length, option_map, true};
 ghost use Rattle.check_plan.specs.Samples.{sample_of};
 ghost use Rattle.fold_state.specs.Boards.{memory_of, place_of};
-ghost use Rattle.fold_state.specs.Premises.{IsSliceOf, checked_given, checked_in};
+ghost use Rattle.param_state.specs.ParamPlans.{IsSliceOf};
+ghost use Rattle.param_state.specs.FinishedValues.{checked_given, checked_in};
 ghost use Rattle.mib_model.specs.CalibrationViews.{calibrated_as};
 ghost use Rattle.mib_model.specs.declared.database.Database.{Database};
 ghost use Rattle.mib_model.specs.Kept.{has_number};
 ghost use Rattle.mib_model.specs.WholeNumbers.{least_raw, greatest_raw};
 
 use crate::board::Board;
-use crate::value::sample_for;
 use check_plan::{Checks, Sample};
 use mib_model::{Cal, Change, Value};
 use param_plan::Param;
+use param_state::sample_for;
 
 impl Board {
     // Classes a sample of the name at a place, and takes a step of its alarm.

@@ -1,17 +1,19 @@
 // The raw numbers of a packet's values.
 ghost use Rattle.std.specs.Prelude.{◌≡◌, ◌≤◌, ◌<◌, Some, length, map, slice_set, take, IsTrue};
 ghost use Rattle.std.specs.List.{All};
-ghost use Rattle.fold_state.specs.Boards.{board_of, memory_of, place_of, slot_name};
-ghost use Rattle.fold_state.specs.Entering.{HasEntered, entered_at};
+ghost use Rattle.fold_state.specs.Boards.{board_of, memory_of, place_of};
+ghost use Rattle.param_state.specs.SlotViews.{slot_name};
+ghost use Rattle.fold_state.specs.Entering.{HasEntered};
+ghost use Rattle.param_state.specs.Demands.{entered_at};
 ghost use Rattle.fold_state.specs.Places.{Rise};
-ghost use Rattle.fold_state.specs.Premises.{AreSeated, HasSlot, IsRaw};
+ghost use Rattle.fold_state.specs.Premises.{AreSeated, HasSlot};
+ghost use Rattle.param_state.specs.FinishedValues.{IsRaw};
 ghost use Rattle.mib_model.specs.Kept as Spec;
 
 use crate::board::Board;
-use crate::demands::{Demand, is_asked};
-use crate::slot::Slot;
-use crate::value::is_raw;
 use mib_model::{Name, Value};
+use param_state::{Demand, ParamSlot, is_asked, is_raw};
+use plan_places::Guesses;
 
 // Notes the place of the k-th value, where there is a seat for it.
 fn note_seat(seats: &mut Vec<usize>, k: usize, at: usize)
@@ -25,7 +27,7 @@ fn note_seat(seats: &mut Vec<usize>, k: usize, at: usize)
 
 // Whether the slot at a place has this name.
 #[inline(always)]
-pub fn is_named(slots: &[Slot], at: usize, name: &Name) -> bool
+pub fn is_named(slots: &[ParamSlot], at: usize, name: &Name) -> bool
     requires { Rise (map slot_name slots.now) }
     ensures within { IsTrue result → at < length slots.now }
     ensures place { IsTrue result → place_of (board_of slots.now) name.now ≡ Some at }
@@ -35,7 +37,7 @@ pub fn is_named(slots: &[Slot], at: usize, name: &Name) -> bool
 
 // Enters the raw number of a value, if it has one, whose name stands at this place.
 #[inline(always)]
-fn enter_slot(slots: &mut [Slot], at: usize, value: &Value)
+fn enter_slot(slots: &mut [ParamSlot], at: usize, value: &Value)
     requires { at < length slots.old }
     ensures names { map slot_name slots.new ≡ map slot_name slots.old }
     ensures memory { place_of (board_of slots.old) value.now.name ≡ Some at → IsRaw value.now
@@ -48,7 +50,7 @@ fn enter_slot(slots: &mut [Slot], at: usize, value: &Value)
 
 // Enters it where it is asked.
 #[inline(always)]
-fn enter_asked(slots: &mut [Slot], demands: &[Demand], at: usize, value: &Value)
+fn enter_asked(slots: &mut [ParamSlot], demands: &[Demand], at: usize, value: &Value)
     requires { at < length slots.old }
     ensures names { map slot_name slots.new ≡ map slot_name slots.old }
     ensures memory { place_of (board_of slots.old) value.now.name ≡ Some at → IsRaw value.now
@@ -63,7 +65,7 @@ fn enter_asked(slots: &mut [Slot], demands: &[Demand], at: usize, value: &Value)
 // the places, and tells how many values those are.
 #[inline(always)]
 fn enter_near(
-    slots: &mut [Slot],
+    slots: &mut [ParamSlot],
     demands: &[Demand],
     values: &[Value],
     places: &[u32],
@@ -89,50 +91,21 @@ fn enter_near(
     values.len()
 }
 
+// The places where the first values are looked for: these, or where none are given the guesses from here on.
+#[inline(always)]
+fn first_places<'a>(
+    guesses: &'a Guesses,
+    first: usize,
+    count: usize,
+    hints: Option<&'a [u32]>,
+) -> &'a [u32] {
+    match hints {
+        Some(places) => places,
+        None => guesses.places(first, count),
+    }
+}
+
 impl Board {
-    // Enters the raw numbers of the first values, as long as the guesses of their places are right, notes those places, and tells
-    // how many values they are.
-    #[inline(always)]
-    fn enter_guessed(
-        &mut self,
-        demands: &[Demand],
-        values: &[Value],
-        first: usize,
-        seats: &mut Vec<usize>,
-    ) -> usize
-        ensures few { result ≤ length values.now }
-        ensures names { self.new.names ≡ self.old.names }
-        ensures seats { AreSeated self.old values.now result seats.new.items }
-        ensures memory { All IsRaw values.now → HasEntered demands.now (take result values.now) self.old self.new }
-    {
-        let places = self.guesses.places(first, values.len());
-        if places.len() < values.len() || seats.len() < values.len() {
-            return 0;
-        }
-        enter_near(&mut self.slots, demands, values, places, seats)
-    }
-
-    // Enters the raw numbers of the first values, as long as these places are theirs, notes the places, and tells how many values
-    // they are.
-    #[inline(always)]
-    fn enter_hinted(
-        &mut self,
-        demands: &[Demand],
-        values: &[Value],
-        places: &[u32],
-        seats: &mut Vec<usize>,
-    ) -> usize
-        ensures few { result ≤ length values.now }
-        ensures names { self.new.names ≡ self.old.names }
-        ensures seats { AreSeated self.old values.now result seats.new.items }
-        ensures memory { All IsRaw values.now → HasEntered demands.now (take result values.now) self.old self.new }
-    {
-        if places.len() < values.len() || seats.len() < values.len() {
-            return 0;
-        }
-        enter_near(&mut self.slots, demands, values, places, seats)
-    }
-
     // Enters the raw numbers of the first values, as long as these places are theirs, or where none are given the guesses from here
     // on, notes the places, and tells how many values they are.
     #[inline(always)]
@@ -149,10 +122,11 @@ impl Board {
         ensures seats { AreSeated self.old values.now result seats.new.items }
         ensures memory { All IsRaw values.now → HasEntered demands.now (take result values.now) self.old self.new }
     {
-        match hints {
-            Some(places) => self.enter_hinted(demands, values, places, seats),
-            None => self.enter_guessed(demands, values, first, seats),
+        let places = first_places(&self.guesses, first, values.len(), hints);
+        if places.len() < values.len() || seats.len() < values.len() {
+            return 0;
         }
+        enter_near(&mut self.slots, demands, values, places, seats)
     }
 
     // Enters the raw number of a value, whose place is looked for where a guess says, and tells the place.

@@ -1,14 +1,14 @@
-ghost use Rattle.std.specs.Prelude.{◌≡◌, ◌≤◌, ◌<◌, ◌+◌, ◌*◌, ◌++◌, Bool, List, ℕ, None, Some, length, get_or, option_map, take, true, IsTrue};
+ghost use Rattle.std.specs.Prelude.{◌≡◌, ◌≤◌, ◌<◌, ◌+◌, ◌*◌, ◌++◌, Bool, List, ℕ, None, Some, length, get_or, true, IsTrue};
 ghost use Rattle.std.specs.List.{All, flat_map};
 ghost use Rattle.std.specs.Option.{option_copied};
-ghost use Rattle.fold_state.specs.Boards.{memory_of, place_of, plan_names};
+ghost use Rattle.fold_state.specs.Boards.{memory_of, place_of};
+ghost use Rattle.param_state.specs.ParamPlans.{plan_names, IsParamsOf, IsSliceOf};
 ghost use Rattle.fold_state.specs.declared.finish.TheConstants.{TEXT_BEFORE};
-ghost use Rattle.fold_state.specs.Entering.{AreEntered, AreFinishedFor, StandsFor};
-ghost use Rattle.fold_state.specs.Premises.{AreFinished, AreSeated, Fits, HasSlot, IsFinished, IsParamsOf, IsRaw, IsSliceOf};
+ghost use Rattle.fold_state.specs.Entering.{AreEntered, FinishesAll, StandsFor};
+ghost use Rattle.param_state.specs.FinishedValues.{AreFinished, IsFinished, IsRaw};
+ghost use Rattle.fold_state.specs.Premises.{AreSeated, Fits, HasSlot};
 ghost use Rattle.memory_laws.specs.Alike.{AreAlike};
-ghost use Rattle.mib_model.specs.AlarmTexts.{change_text_of};
 ghost use Rattle.mib_model.specs.Bits.{is_inside};
-ghost use Rattle.mib_model.specs.CalibrationViews.{calibrated_as};
 ghost use Rattle.mib_model.specs.declared.database.Database.{Database};
 ghost use Rattle.mib_model.specs.Finish as Spec;
 ghost use Rattle.mib_model.specs.Fixed.{most_values};
@@ -18,17 +18,15 @@ ghost use Rattle.mib_model.specs.Texts.{ended_text, head_text, told_text, value_
 ghost use Rattle.param_plan.specs.Plain.{AreMarksOf};
 ghost use Rattle.param_plan.specs.Slices.{ParamSlice};
 ghost use Rattle.record_text.specs.TailViews.{tail_as};
-ghost use Rattle.record_text.specs.declared.lines.TheConstants.{LINES_ROOM, LINE_MOST, HEAD_ROOM, VALUE_ROOM, NOTE_ROOM};
+ghost use Rattle.record_text.specs.declared.lines.TheConstants.{LINES_ROOM, LINE_MOST, VALUE_ROOM, NOTE_ROOM};
 
 use crate::board::Board;
-use crate::demands::Demand;
-use crate::quiet::add_plain_values;
-use crate::value::is_raw;
-use mib_model::{Cal, Change, Ended, Found, Header, Text, Value};
+use crate::fast::add_plain_values;
+use mib_model::{Change, Ended, Found, Header, Text, Value};
 use param_plan::{Param, Params};
-use record_text::{
-    Lines, Tail, begin_value, change_line, end_plain_value, end_value, ended_line, head_line,
-};
+use param_state::{Demand, add_change, is_raw, tail_for};
+use plan_places::kind_of;
+use record_text::{Lines, Tail, begin_value, end_plain_value, end_value, ended_line, head_line};
 
 /// The most octets of text behind which a record may be appended.
 pub const TEXT_BEFORE: usize = 65_536;
@@ -46,33 +44,11 @@ pub struct Seen<'a> {
     pub title: Option<&'a Text>,
 }
 
-/// The kind of a packet, by which the places of its values are guessed: its SPID.
-pub(crate) fn kind_of(found: &Found) -> u32 {
-    match *found {
-        Found::Spid { spid, .. } => spid,
-        _ => 0,
-    }
-}
-
-/// The tail of a valid value, for so many decimals.
-pub(crate) fn tail_for<'a>(decimals: u8, given: Option<Cal<'a>>) -> Tail<'a>
-    ensures { tail_as result ≡ Spec.tail_for decimals (option_map calibrated_as given.entry) }
-{
-    match given {
-        Some(cal) => Tail::Given { cal, decimals },
-        None => Tail::Plain,
-    }
-}
-
-/// Appends the line of a change, where one is told.
-pub(crate) fn add_change(value: &Value, change: Option<Change>, out: &mut Lines)
-    requires { length out.old + LINE_MOST ≤ LINES_ROOM }
-    ensures text { out.new ≡ out.old ++ change_text_of value.now.name change }
-    ensures room { length out.new ≤ length out.old + NOTE_ROOM }
-{
-    if let Some(change) = change {
-        change_line(value.name, change, out);
-    }
+/// The plans of a packet's values, and which of them are plain.
+#[derive(Clone, Copy)]
+pub(crate) struct MarkedPlans<'a> {
+    pub params: &'a Params,
+    pub plain: &'a [bool],
 }
 
 impl Board {
@@ -137,28 +113,27 @@ impl Board {
     #[inline(always)]
     pub(crate) fn finish_value(
         &mut self,
-        params: &Params,
-        plain: &[bool],
+        plans: &MarkedPlans<'_>,
         seat: usize,
         value: &Value,
         packet: &[u8],
         out: &mut Lines,
     )
-        requires marks { AreMarksOf params.now plain.now }
+        requires marks { AreMarksOf plans.now.params.now plans.now.plain.now }
         requires inside { is_inside packet.now value.now.at value.now.shape.width ≡ true }
         requires room { length out.old + VALUE_ROOM + LINE_MOST ≤ LINES_ROOM }
         ensures names { self.new.names ≡ self.old.names }
-        ensures finished { (db : Database) → IsParamsOf db params.now → self.old.names ≡ plan_names params.now
+        ensures finished { (db : Database) → IsParamsOf db plans.now.params.now → self.old.names ≡ plan_names plans.now.params.now
             → place_of self.old value.now.name ≡ Some seat → IsRaw value.now
             → IsFinished db packet.now value.now (memory_of self.old) (memory_of self.new) out.old out.new }
         ensures room { length out.new ≤ length out.old + (VALUE_ROOM + NOTE_ROOM) }
     {
         begin_value(value, packet, out);
-        if self.is_shown_raw(plain, seat, value) {
+        if self.is_shown_raw(plans.plain, seat, value) {
             end_plain_value(out);
             return;
         }
-        let (tail, change) = self.finish_by(params, seat, value);
+        let (tail, change) = self.finish_by(plans.params, seat, value);
         end_value(&tail, out);
         add_change(value, change, out);
     }
@@ -207,7 +182,8 @@ impl Board {
         for k in 0..values.len() {
             let value = &values[k];
             let seat = self.seat_of(seats, k, value);
-            self.finish_value(params, plain, seat, value, packet, out);
+            let plans = MarkedPlans { params, plain };
+            self.finish_value(&plans, seat, value, packet, out);
         }
     }
 
@@ -254,9 +230,7 @@ impl Board {
         requires inside { All (λ v. is_inside seen.now.packet.now v.at v.shape.width ≡ true) seen.now.values.now }
         requires room { length out.old + most_values * (VALUE_ROOM + NOTE_ROOM) + LINE_MOST ≤ LINES_ROOM }
         ensures names { self.new.names ≡ self.old.names }
-        ensures finished { (asked : List ℕ → Bool) (db : Database) (m : Memory) → let vs = seen.now.values.now in
-            StandsFor asked db params.now demands.now self.old vs m
-            → AreFinishedFor asked db seen.now.packet.now vs (all_entered m vs) (memory_of self.new) out.old out.new }
+        ensures finished { FinishesAll params.now demands.now self.old seen.now.packet.now seen.now.values.now (memory_of self.new) out.old out.new }
         ensures room { length out.new ≤ length out.old + most_values * (VALUE_ROOM + NOTE_ROOM) }
     {
         let seats = self.enter_seated(demands, seen.values, first, None);
@@ -279,9 +253,7 @@ impl Board {
         requires inside { All (λ v. is_inside seen.now.packet.now v.at v.shape.width ≡ true) seen.now.values.now }
         requires room { length out.old + most_values * (VALUE_ROOM + NOTE_ROOM) + LINE_MOST ≤ LINES_ROOM }
         ensures names { self.new.names ≡ self.old.names }
-        ensures finished { (asked : List ℕ → Bool) (db : Database) (m : Memory) → let vs = seen.now.values.now in
-            StandsFor asked db params.now demands.now self.old vs m
-            → AreFinishedFor asked db seen.now.packet.now vs (all_entered m vs) (memory_of self.new) out.old out.new }
+        ensures finished { FinishesAll params.now demands.now self.old seen.now.packet.now seen.now.values.now (memory_of self.new) out.old out.new }
         ensures room { length out.new ≤ length out.old + most_values * (VALUE_ROOM + NOTE_ROOM) }
     {
         if self.are_quiet(demands, seen.values, first) {

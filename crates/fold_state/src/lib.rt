@@ -6,35 +6,21 @@
 //! changes. It rests on `param_plan` and `check_plan` for the plans and on `record_text` for the lines.
 #![tactic(auto)]
 
-mod ahead;
 mod board;
 mod carry;
 mod check;
-mod demands;
-mod drawing;
-mod drawn;
 mod enter;
+mod fast;
 mod finish;
-mod guesses;
 mod laws;
-mod places;
-mod quiet;
 mod room;
 mod seated;
 mod shown;
-mod sketch;
 mod sketched;
-mod slot;
-mod value;
 
 pub use board::Board;
 pub use check_plan::Holds;
-pub use demands::{Demand, demands_of};
-pub use drawing::{Drawer, draw_at};
 pub use finish::{Seen, TEXT_BEFORE};
 pub use laws::finish_is_a_step;
 pub use mib_model::MadeFor;
-pub use places::Places;
 pub use room::BoardRoom;
-pub use sketch::{Mark, Sketch};
-pub use value::is_raw;

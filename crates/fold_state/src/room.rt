@@ -1,12 +1,13 @@
 ghost use Rattle.std.specs.Prelude.{◌≡◌, IfOk};
-ghost use Rattle.fold_state.specs.Boards.{memory_of, plan_names};
+ghost use Rattle.fold_state.specs.Boards.{memory_of};
+ghost use Rattle.param_state.specs.ParamPlans.{plan_names};
 ghost use Rattle.mib_model.specs.Kept.{empty_memory};
 
 use crate::board::{Board, slots_for};
-use crate::guesses::Guesses;
-use crate::slot::Slot;
 use mib_model::MadeFor;
 use param_plan::Params;
+use param_state::ParamSlot;
+use plan_places::Guesses;
 use std::alloc::{AllocError, Global};
 use std::marker::Model;
 use std::snapshot::Snapshot;
@@ -14,7 +15,7 @@ use std::snapshot::Snapshot;
 /// Room for the board of an edition that comes into use: it is reserved and not written, and used where the edition before has
 /// other names. Contracts see a board that keeps nothing.
 pub struct BoardRoom {
-    slots: Vec<Slot>,
+    slots: Vec<ParamSlot>,
     params: Snapshot<Params>,
 }
 
@@ -30,7 +31,8 @@ impl Drop for BoardRoom {
 
 impl Model for BoardRoom {
     ghost use Rattle.std.specs.Prelude.{◌≡◌, ◌≤◌, [], length, vec_capacity};
-    ghost use Rattle.fold_state.specs.Boards.{Slots, plan_names};
+    ghost use Rattle.fold_state.specs.Boards.{Slots};
+    ghost use Rattle.param_state.specs.ParamPlans.{plan_names};
 
     ghost Value = { Slots };
 

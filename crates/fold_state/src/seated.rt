@@ -1,9 +1,10 @@
 // What is done with the name at a place of a board.
-ghost use Rattle.std.specs.Prelude.{◌≡◌, ◌≤◌, ◌<◌, ◌+◌, ◌++◌, ◌≤ℤ◌, Some, get_or, length, IfSome};
-ghost use Rattle.fold_state.specs.Boards.{memory_of, place_of, plan_names};
-ghost use Rattle.fold_state.specs.Opened.{bare_value, name_at, one_octet, opened, signed_octet};
-ghost use Rattle.fold_state.specs.Premises.{IsParamsOf};
-ghost use Rattle.fold_state.specs.Sketches.{HasShown, after_nominal};
+ghost use Rattle.std.specs.Prelude.{◌≡◌, ◌≤◌, ◌<◌, ◌+◌, ◌++◌, ◌≤ℤ◌, Some, length, IfSome};
+ghost use Rattle.fold_state.specs.Boards.{memory_of, place_of};
+ghost use Rattle.param_state.specs.ParamPlans.{plan_names, IsParamsOf};
+ghost use Rattle.param_state.specs.FinishedValues.{bare_value};
+ghost use Rattle.fold_state.specs.Opened.{name_at, opened};
+ghost use Rattle.line_sketches.specs.Sketches.{HasShown, after_nominal};
 ghost use Rattle.mib_model.specs.AlarmTexts.{change_text};
 ghost use Rattle.mib_model.specs.declared.database.Database.{Database};
 ghost use Rattle.mib_model.specs.Finish as Spec;
@@ -12,47 +13,10 @@ ghost use Rattle.mib_model.specs.WholeNumbers.{least_raw, greatest_raw};
 ghost use Rattle.record_text.specs.declared.lines.TheConstants.{LINES_ROOM, LINE_MOST, END_ROOM, NOTE_ROOM};
 
 use crate::board::Board;
-use crate::finish::add_change;
-use mib_model::{Change, Eng, Name, Order, Shape, Sort, Value};
+use mib_model::{Change, Eng, Name};
 use param_plan::Params;
+use param_state::{add_change, bare_value};
 use record_text::{Lines, change_line, end_value};
-
-// The shape of a value with a raw number.
-#[inline(always)]
-fn signed_octet() -> Shape
-    ensures { result ≡ signed_octet }
-{
-    Shape::new(Sort::Signed, 8, Order::Big)
-}
-
-// The shape of a value without one.
-#[inline(always)]
-fn one_octet() -> Shape
-    ensures { result ≡ one_octet }
-{
-    Shape::new(Sort::Octets, 8, Order::Big)
-}
-
-// A value of a name with a raw number or none.
-#[inline(always)]
-fn bare_value(name: Name, raw: Option<i128>) -> Value
-    ensures { result ≡ bare_value name raw }
-{
-    match raw {
-        Some(raw) => Value {
-            name,
-            at: 0,
-            raw,
-            shape: signed_octet(),
-        },
-        None => Value {
-            name,
-            at: 0,
-            raw: 0,
-            shape: one_octet(),
-        },
-    }
-}
 
 impl Board {
     // The name at a place, which is its own.

@@ -1,13 +1,14 @@
 // What a board keeps of a name, for whoever shows it.
 ghost use Rattle.std.specs.Prelude.{◌≡◌, ◌-ℤ◌, ◌≤ℤ◌, ◌<ℤ◌, pos, IfSome};
-ghost use Rattle.fold_state.specs.Boards.{kept_as, memory_of};
+ghost use Rattle.param_state.specs.SlotViews.{kept_as};
+ghost use Rattle.fold_state.specs.Boards.{memory_of};
 
 use crate::board::Board;
-use crate::slot::Slot;
 use mib_model::{Class, Name};
+use param_state::ParamSlot;
 
 // The latest raw number that a slot keeps.
-fn latest_in(slot: &Slot) -> Option<i128>
+fn latest_in(slot: &ParamSlot) -> Option<i128>
     ensures latest { result ≡ (kept_as slot.now).latest }
     ensures range { IfSome result (λ raw. ((pos 0 -ℤ pos 18446744073709551616) ≤ℤ raw) × (raw <ℤ pos 18446744073709551616)) }
 {

@@ -2,10 +2,12 @@
 ghost use Rattle.std.specs.Prelude.{◌≡◌, ◌≤◌, ◌<◌, ◌+◌, ◌*◌, ◌++◌, Some, length, get_or, true};
 ghost use Rattle.std.specs.List.{All, flat_map};
 ghost use Rattle.std.specs.Option.{option_copied};
-ghost use Rattle.fold_state.specs.Boards.{memory_of, place_of, plan_names};
+ghost use Rattle.fold_state.specs.Boards.{memory_of, place_of};
+ghost use Rattle.param_state.specs.ParamPlans.{plan_names, IsParamsOf};
 ghost use Rattle.fold_state.specs.declared.finish.TheConstants.{TEXT_BEFORE};
-ghost use Rattle.fold_state.specs.Premises.{AreFinished, AreSeated, Fits, IsFinished, IsParamsOf, IsRaw};
-ghost use Rattle.fold_state.specs.Sketches.{AreShown, HasShown, IsShown, MarkedLine, told_after_nominal};
+ghost use Rattle.param_state.specs.FinishedValues.{AreFinished, IsFinished, IsRaw};
+ghost use Rattle.fold_state.specs.Premises.{AreSeated, Fits};
+ghost use Rattle.line_sketches.specs.Sketches.{AreShown, HasShown, IsShown, MarkedLine, told_after_nominal};
 ghost use Rattle.mib_model.specs.Bits.{is_inside};
 ghost use Rattle.mib_model.specs.declared.database.Database.{Database};
 ghost use Rattle.mib_model.specs.Finish as Spec;
@@ -16,10 +18,11 @@ ghost use Rattle.param_plan.specs.Plain.{AreMarksOf};
 ghost use Rattle.record_text.specs.declared.lines.TheConstants.{LINES_ROOM, LINE_MOST, VALUE_ROOM, NOTE_ROOM};
 
 use crate::board::Board;
-use crate::finish::{Seen, add_change};
-use crate::sketch::{Mark, Sketch};
+use crate::finish::{MarkedPlans, Seen};
+use line_sketches::{Mark, Sketch};
 use mib_model::{Eng, Value};
 use param_plan::Params;
+use param_state::add_change;
 use record_text::{Lines, add_written, head_line};
 
 impl Board {
@@ -44,31 +47,29 @@ impl Board {
     #[inline(never)]
     fn finish_open(
         &mut self,
-        params: &Params,
-        plain: &[bool],
+        plans: &MarkedPlans<'_>,
         seat: usize,
         value: &Value,
         packet: &[u8],
         out: &mut Lines,
     )
-        requires marks { AreMarksOf params.now plain.now }
+        requires marks { AreMarksOf plans.now.params.now plans.now.plain.now }
         requires inside { is_inside packet.now value.now.at value.now.shape.width ≡ true }
         requires room { length out.old + VALUE_ROOM + LINE_MOST ≤ LINES_ROOM }
         ensures names { self.new.names ≡ self.old.names }
-        ensures finished { (db : Database) → IsParamsOf db params.now → self.old.names ≡ plan_names params.now
+        ensures finished { (db : Database) → IsParamsOf db plans.now.params.now → self.old.names ≡ plan_names plans.now.params.now
             → place_of self.old value.now.name ≡ Some seat → IsRaw value.now
             → IsFinished db packet.now value.now (memory_of self.old) (memory_of self.new) out.old out.new }
         ensures room { length out.new ≤ length out.old + (VALUE_ROOM + NOTE_ROOM) }
     {
-        self.finish_value(params, plain, seat, value, packet, out);
+        self.finish_value(plans, seat, value, packet, out);
     }
 
     // Finishes the k-th value, whose place is this, by its marked line where there is one.
     #[inline(always)]
     fn finish_by_line(
         &mut self,
-        params: &Params,
-        plain: &[bool],
+        plans: &MarkedPlans<'_>,
         seat: usize,
         value: &Value,
         packet: &[u8],
@@ -76,23 +77,23 @@ impl Board {
         k: usize,
         out: &mut Lines,
     )
-        requires marks { AreMarksOf params.now plain.now }
+        requires marks { AreMarksOf plans.now.params.now plans.now.plain.now }
         requires inside { is_inside packet.now value.now.at value.now.shape.width ≡ true }
         requires room { length out.old + VALUE_ROOM + LINE_MOST ≤ LINES_ROOM }
         ensures names { self.new.names ≡ self.old.names }
-        ensures finished { (db : Database) → IsParamsOf db params.now → self.old.names ≡ plan_names params.now
+        ensures finished { (db : Database) → IsParamsOf db plans.now.params.now → self.old.names ≡ plan_names plans.now.params.now
             → place_of self.old value.now.name ≡ Some seat → IsRaw value.now
             → ((d : MarkedLine) → k < length sketch.now → IsShown db packet.now value.now (get_or sketch.now k d))
             → IsFinished db packet.now value.now (memory_of self.old) (memory_of self.new) out.old out.new }
         ensures room { length out.new ≤ length out.old + (VALUE_ROOM + NOTE_ROOM) }
     {
         if k >= sketch.len() {
-            self.finish_open(params, plain, seat, value, packet, out);
+            self.finish_open(plans, seat, value, packet, out);
             return;
         }
         let (mark, line) = sketch.line(k);
         if let Mark::Open = mark {
-            self.finish_open(params, plain, seat, value, packet, out);
+            self.finish_open(plans, seat, value, packet, out);
             return;
         }
         add_written(line, out);
@@ -124,7 +125,8 @@ impl Board {
         for k in 0..values.len() {
             let value = &values[k];
             let seat = self.seat_of(seats, k, value);
-            self.finish_by_line(params, plain, seat, value, packet, sketch, k, out);
+            let plans = MarkedPlans { params, plain };
+            self.finish_by_line(&plans, seat, value, packet, sketch, k, out);
         }
     }
 

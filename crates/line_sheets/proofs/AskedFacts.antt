@@ -1,9 +1,8 @@
 -- What stands behind a sheet, as far as names are asked.
 use Rattle.std.proofs.Common.{◌≡◌, ◌++◌, ℕ, Bool, true, List, [], refl, subst}
 use Rattle.std.specs.List.{flat_map}
-use Rattle.fold_state.specs.declared.demands.Demand.{Demand}
-use Rattle.fold_state.specs.Demands.{demand_at}
-use Rattle.fold_state.specs.Entering.{entered_at}
+use Rattle.param_state.specs.declared.demands.Demand.{Demand}
+use Rattle.param_state.specs.Demands.{demand_at, entered_at}
 use Rattle.memory_laws.specs.Alike.{CoversAll, TellAlike}
 use Rattle.memory_laws.proofs.AlikeFacts.{all_finished-alike, entered-where}
 use Rattle.mib_model.specs.declared.database.Database.{Database}

@@ -22,13 +22,14 @@ use Rattle.mib_model.specs.Texts.{told_text, value_text}
 use Rattle.param_plan.specs.Plain.{plain_at}
 use Rattle.param_plan.specs.Slices.{ParamSlice, slice_for}
 use Rattle.param_plan.proofs.PlanFacts.{position-map}
-use Rattle.fold_state.specs.declared.sketch.Mark.TheVariants as mark
-use Rattle.fold_state.specs.Boards.{Slots, is_name_of, plan_names}
-use Rattle.fold_state.specs.Demands.{asked_in, slice_asks}
-use Rattle.fold_state.specs.Premises.{IsParamsOf, planned}
-use Rattle.fold_state.specs.Sketches.{IsShown}
-use Rattle.fold_state.proofs.BoardFacts.{same-name}
-use Rattle.fold_state.proofs.FinishFacts.{finish-plain-at, found-passes, plan-found, plan-within, some-item}
+use Rattle.line_sketches.specs.declared.sketch.Mark.TheVariants as mark
+use Rattle.fold_state.specs.Boards.{Slots}
+use Rattle.param_state.specs.ParamPlans.{is_name_of, plan_names, IsParamsOf, planned}
+use Rattle.param_state.specs.Demands.{asked_in, slice_asks}
+use Rattle.line_sketches.specs.Sketches.{IsShown}
+use Rattle.param_state.proofs.NamedFacts.{same-name}
+use Rattle.fold_state.proofs.FinishFacts.{finish-plain-at, plan-found, plan-within}
+use Rattle.param_state.proofs.ValueFacts.{found-passes, some-item}
 use Rattle.line_sheets.specs.Drawings.{HasPlan}
 
 -- a seat is the place of a name

@@ -1,7 +1,8 @@
 -- The pieces of a sheet: the records of a stretch of packets, as far as they are known before it is known what is kept. [This profile.]
 use Rattle.std.specs.Prelude.{ℕ, ℤ, List, [], ◌∷◌, ◌++◌, Option, Some}
-use Rattle.fold_state.specs.Opened.{bare_value, opened}
-use Rattle.fold_state.specs.Sketches.{told_after_nominal}
+use Rattle.param_state.specs.FinishedValues.{bare_value}
+use Rattle.fold_state.specs.Opened.{opened}
+use Rattle.line_sketches.specs.Sketches.{told_after_nominal}
 use Rattle.mib_model.specs.declared.database.Database.{Database}
 use Rattle.mib_model.specs.Finish.{finished}
 use Rattle.mib_model.specs.Kept.{Memory, entered}

@@ -3,11 +3,10 @@ ghost use Rattle.std.specs.Prelude.{◌≡◌, ◌≤◌, ◌<◌, ◌+◌, ◌*
 ghost use Rattle.std.specs.List.{All, position};
 ghost use Rattle.std.specs.Option.{option_copied};
 ghost use Rattle.std.specs.Str.{bytes_eq};
-ghost use Rattle.fold_state.specs.Boards.{plan_names};
-ghost use Rattle.fold_state.specs.Demands.{AreAsked, AreDemandsOf, AreNoted};
-ghost use Rattle.fold_state.specs.Entering.{entered_at};
-ghost use Rattle.fold_state.specs.Premises.{IsParamsOf, IsRaw};
-ghost use Rattle.fold_state.specs.Sketches.{IsShown, behind, finished_lines};
+ghost use Rattle.param_state.specs.ParamPlans.{plan_names, IsParamsOf};
+ghost use Rattle.param_state.specs.Demands.{AreAsked, AreDemandsOf, AreNoted, entered_at};
+ghost use Rattle.param_state.specs.FinishedValues.{IsRaw};
+ghost use Rattle.line_sketches.specs.Sketches.{IsShown, behind, finished_lines};
 ghost use Rattle.line_sheets.specs.Drawings.{Adds, AddsFor, HasPlan, body_played, values_played};
 ghost use Rattle.line_sheets.specs.Sheets.{with_text};
 ghost use Rattle.line_sheets.specs.declared.sheet.TheConstants.{EVENT_ROOM, SEATS_MOST, SHEET_ROOM};
@@ -18,11 +17,14 @@ ghost use Rattle.mib_model.specs.Texts.{ended_text, head_text};
 ghost use Rattle.record_text.specs.declared.lines.TheConstants.{BEGIN_ROOM, HEAD_ROOM, NOTE_ROOM, VALUE_ROOM};
 ghost use Rattle.record_text.specs.ValueParts.{begin_text};
 
-use crate::noted::{draw_noted, is_asked};
+use crate::noted::draw_noted;
 use crate::sheet::{SEATS_MOST, Sheet};
-use fold_state::{Demand, Mark, Places, Seen, is_raw};
+use fold_state::Seen;
+use line_sketches::Mark;
 use mib_model::{Ended, Value};
 use param_plan::Params;
+use param_state::{Demand, is_asked, is_raw};
+use plan_places::Places;
 use record_text::{begin_value, ended_line, head_line};
 
 // A place among plans as a seat.

@@ -1,8 +1,8 @@
 // A sheet that is played.
 ghost use Rattle.std.specs.Prelude.{◌≡◌, ◌≤◌, ◌<◌, ◌+◌, ◌++◌, length};
-ghost use Rattle.fold_state.specs.Boards.{memory_of, plan_names};
+ghost use Rattle.fold_state.specs.Boards.{memory_of};
+ghost use Rattle.param_state.specs.ParamPlans.{plan_names, IsParamsOf};
 ghost use Rattle.fold_state.specs.declared.finish.TheConstants.{TEXT_BEFORE};
-ghost use Rattle.fold_state.specs.Premises.{IsParamsOf};
 ghost use Rattle.line_sheets.specs.Pieces.{played, played_one};
 ghost use Rattle.line_sheets.specs.Readings.{HasPlayed, HasRaw};
 ghost use Rattle.line_sheets.specs.Lying.{act_as};

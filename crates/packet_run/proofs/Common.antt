@@ -7,7 +7,8 @@ pub use Rattle.decode_pool.specs.Served.{AllServe, Ready}
 pub use Rattle.decode_session.specs.Cells.{packet_in, stamped_cell}
 pub use Rattle.edition_register.specs.Seats.{first_of, IsSeat}
 pub use Rattle.edition_register.specs.Shown.{HasItsTables, last_stamped, stamped_by}
-pub use Rattle.fold_state.specs.Boards.{is_made_for, memory_of, plan_names, planned_names, Slots}
+pub use Rattle.fold_state.specs.Boards.{is_made_for, memory_of, Slots}
+pub use Rattle.param_state.specs.ParamPlans.{plan_names, planned_names}
 pub use Rattle.histories.specs.History.{move, moves_of, Permits, StartsWith}
 pub use Rattle.mib_model.specs.Interpreter.{Course, course_after, record_for, records_text, StampedPacket, start, title_of, values_of}
 pub use Rattle.run_model.specs.RegisterHistories.{IsRegisterHistory, MayEnter, register_after, RegisterHistory}

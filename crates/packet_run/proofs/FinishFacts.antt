@@ -7,7 +7,9 @@ use Rattle.decode_one.specs.Values.{IsValueOf, SoundValues}
 use Rattle.decode_one.specs.declared.half.Half.{Half}
 use Rattle.edition_plans.specs.Params.{param_slices}
 use Rattle.fold_state.specs.Laws.{FinishIsAStep}
-use Rattle.fold_state.specs.Premises.{Fits, HasSlot, IsParamsOf, IsRaw}
+use Rattle.fold_state.specs.Premises.{Fits, HasSlot}
+use Rattle.param_state.specs.ParamPlans.{IsParamsOf}
+use Rattle.param_state.specs.FinishedValues.{IsRaw}
 use Rattle.mib_model.specs.Bits.{is_inside}
 use Rattle.mib_model.specs.Finish.{all_finished}
 use Rattle.mib_model.specs.Headers.{header_of}

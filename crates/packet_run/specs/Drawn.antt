@@ -2,7 +2,7 @@
 use Rattle.std.specs.Prelude.{take}
 use Rattle.decode_session.specs.Cells.{packet_in}
 use Rattle.decode_session.specs.declared.cell.Cell.{Cell}
-use Rattle.fold_state.specs.Sketches.{AreShown}
+use Rattle.line_sketches.specs.Sketches.{AreShown}
 use Rattle.mib_model.specs.declared.database.Database.{Database}
 
 -- the sketch of a cell shows the first of the values that lie in it

@@ -1,7 +1,7 @@
 ghost use Rattle.std.specs.Prelude.{◌≡◌};
 ghost use Rattle.std.specs.Arc.{arc_value};
 ghost use Rattle.edition_plans.specs.Params.{param_slices};
-ghost use Rattle.fold_state.specs.Boards.{plan_names};
+ghost use Rattle.param_state.specs.ParamPlans.{plan_names};
 
 use fold_state::Board;
 use std::sync::Arc;

@@ -10,7 +10,7 @@ use decode_one::draw;
 use decode_pool::Work;
 use decode_session::{Buffers, Cell};
 use edition_plans::Plans;
-use fold_state::Drawer;
+use line_sketches::Drawer;
 use param_plan::Params;
 use std::alloc::{AllocError, Global};
 use std::marker::PhantomData;

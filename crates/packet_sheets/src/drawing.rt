@@ -1,8 +1,8 @@
 // The sheet of a stretch.
 ghost use Rattle.std.specs.Prelude.{◌≡◌, ◌≤◌, ◌<◌, ◌+◌, ℕ, Bool, List, IsFalse, IsTrue, length, take};
 ghost use Rattle.edition_plans.specs.Params.{param_slices};
-ghost use Rattle.fold_state.specs.Boards.{plan_names};
-ghost use Rattle.fold_state.specs.Demands.{AreDemandsOf};
+ghost use Rattle.param_state.specs.ParamPlans.{plan_names};
+ghost use Rattle.param_state.specs.Demands.{AreDemandsOf};
 ghost use Rattle.line_sheets.specs.Drawings.{AddsFor, IsSheetFor, packet_played};
 ghost use Rattle.mib_model.specs.Fixed.{most_values};
 ghost use Rattle.mib_model.specs.Headers.{header_of};
@@ -12,9 +12,10 @@ ghost use Rattle.mib_model.specs.Packets.{IsPacket};
 use crate::stretch::Stretch;
 use decode_one::{Half, draw_record};
 use edition_plans::Plans;
-use fold_state::{Demand, Places};
 use line_sheets::Sheet;
 use mib_model::{Header, Value};
+use param_state::Demand;
+use plan_places::Places;
 
 // The header that a packet begins with.
 fn header_at(packet: &[u8]) -> Header

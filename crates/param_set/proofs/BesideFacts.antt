@@ -9,7 +9,7 @@ use Rattle.std.specs.List.{list_any}
 use Rattle.std.specs.Option.{option_eq, option_or}
 use Rattle.std.specs.Str.{bytes_eq}
 use Rattle.edition_plans.specs.Params.{param_slices}
-use Rattle.fold_state.specs.Boards.{plan_names}
+use Rattle.param_state.specs.ParamPlans.{plan_names}
 use Rattle.mib_model.specs.Checks.{checks_of}
 use Rattle.mib_model.specs.Columns.{Column, Cells}
 use Rattle.mib_model.specs.Curves.{curve_named, selections}

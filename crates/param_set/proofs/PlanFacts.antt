@@ -4,7 +4,7 @@ use Rattle.std.proofs.lemmas.List.Folds.{find-append}
 use Rattle.std.specs.Option.{option_or}
 use Rattle.std.specs.Str.{bytes_eq}
 use Rattle.edition_plans.specs.Params.{param_slices}
-use Rattle.fold_state.specs.Premises.{planned}
+use Rattle.param_state.specs.ParamPlans.{planned}
 use Rattle.mib_model.specs.declared.database.Database.{Database}
 use Rattle.mib_model.specs.declared.plan.Plan.{Plan}
 use Rattle.mib_model.specs.declared.plan.PlanName.TheVariants as plan

@@ -1,8 +1,7 @@
 -- Laws of the plans of all parameters. [This profile.]
 use Rattle.std.specs.Prelude.{◌≡◌, List, [], filter, map}
 use Rattle.edition_plans.specs.Params.{param_slices}
-use Rattle.fold_state.specs.Boards.{plan_names, planned_names}
-use Rattle.fold_state.specs.Premises.{IsParamsOf}
+use Rattle.param_state.specs.ParamPlans.{plan_names, planned_names, IsParamsOf}
 use Rattle.mib_model.specs.declared.database.Database.{Database}
 use Rattle.mib_model.specs.declared.plan.PlanName.TheVariants as plan
 use Rattle.mib_model.specs.Plans.{param_plans, plans}

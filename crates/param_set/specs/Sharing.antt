@@ -2,7 +2,7 @@
 use Rattle.std.specs.Prelude.{ℕ, Bool, false, List, [], ◌∷◌, Option, Some, None, filter, not, if◌then◌else◌}
 use Rattle.std.specs.List.{find}
 use Rattle.std.specs.Str.{bytes_eq}
-use Rattle.fold_state.specs.Boards.{plan_names}
+use Rattle.param_state.specs.ParamPlans.{plan_names}
 use Rattle.mib_model.specs.Touched.{same_slice}
 use Rattle.param_plan.specs.Slices.{ParamSlice, as_slice}
 

@@ -7,7 +7,7 @@ ghost use Rattle.mib_keys.specs.Kept.{AreSameIn};
 ghost use Rattle.mib_model.specs.Plans.{has_plan};
 ghost use Rattle.mib_model.specs.Soundness.{IsSound};
 ghost use Rattle.mib_model.specs.declared.limits.TheConstants.{HELD_MOST};
-ghost use Rattle.fold_state.specs.Boards.{plan_names};
+ghost use Rattle.param_state.specs.ParamPlans.{plan_names};
 ghost use Rattle.param_plan.specs.Blocks.{IsCut};
 ghost use Rattle.param_plan.specs.Slices.{slice_of};
 ghost use Rattle.param_set.specs.Beside.{AreAlike, AreAllKept, AreKeptBy, AreUntouched, IsKeptBy, IsOtherNow, are_curves_kept, has_changed, has_changed_curve, is_other, now_of, one_if};

@@ -1,6 +1,6 @@
 use Rattle.std.proofs.Common.{List, sym, subst, take}
 use Rattle.fold_state.specs.Boards.{memory_of}
-use Rattle.fold_state.specs.Demands.{AreDemandsOf}
+use Rattle.param_state.specs.Demands.{AreDemandsOf}
 use Rattle.fold_state.specs.Entering.{StandsFor}
 use Rattle.param_plan.specs.Slices.{ParamSlice}
 use Rattle.decode_one.proofs.FinishFacts.{taken-inside, taken-fit, has-stepped}

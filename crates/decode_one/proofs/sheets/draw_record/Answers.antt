@@ -1,6 +1,6 @@
 use Rattle.std.proofs.Common.{List, ℕ, ap, subst, sym}
-use Rattle.fold_state.specs.Boards.{plan_names}
-use Rattle.fold_state.specs.Demands.{AreDemandsOf}
+use Rattle.param_state.specs.ParamPlans.{plan_names}
+use Rattle.param_state.specs.Demands.{AreDemandsOf}
 use Rattle.line_sheets.specs.Drawings.{AddsFor, packet_played}
 use Rattle.param_plan.specs.Slices.{ParamSlice}
 use Rattle.line_sheets.proofs.AskedFacts.{for-same}

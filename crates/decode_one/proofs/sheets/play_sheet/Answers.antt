@@ -1,8 +1,8 @@
 use Rattle.std.proofs.Common.{◌∙◌, ◌++◌, List, ℕ, ap, subst, sym}
 use Rattle.memory_laws.specs.Alike.{AreAlike}
 use Rattle.mib_model.specs.Kept.{Memory}
-use Rattle.fold_state.specs.Boards.{memory_of, plan_names}
-use Rattle.fold_state.specs.Premises.{IsParamsOf}
+use Rattle.fold_state.specs.Boards.{memory_of}
+use Rattle.param_state.specs.ParamPlans.{plan_names, IsParamsOf}
 use Rattle.line_sheets.specs.Pieces.{Played}
 use Rattle.line_sheets.specs.Drawings.{packets_played}
 use Rattle.decode_one.proofs.ParamFacts.{params-of}

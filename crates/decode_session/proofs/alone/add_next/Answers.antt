@@ -5,9 +5,8 @@ use Rattle.decode_session.proofs.FinishFacts.{comes-to, exactly}
 use Rattle.decode_session.proofs.TurnFacts.{adds-one}
 use Rattle.decode_session.proofs.alone.add_next.Goals as goal
 use Rattle.edition_plans.specs.Params.{param_slices}
-use Rattle.fold_state.specs.Demands.{asked_in}
-use Rattle.mib_model.specs.Interpreter.{course_after}
-use Rattle.mib_model.specs.Interpreter.{stamped_first}
+use Rattle.param_state.specs.Demands.{asked_in}
+use Rattle.mib_model.specs.Interpreter.{course_after, stamped_first}
 
 pub returns-in-Packet-clause-adds : goal.returns-in-Packet-clause-adds
 returns-in-Packet-clause-adds g c =

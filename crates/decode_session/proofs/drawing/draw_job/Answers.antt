@@ -1,7 +1,7 @@
 use Rattle.std.proofs.Common.{refl}
 use Rattle.decode_session.proofs.drawing.draw_job.Goals as goal
 use Rattle.edition_plans.specs.Params.{param_slices}
-use Rattle.fold_state.specs.Demands.{asked_in}
+use Rattle.param_state.specs.Demands.{asked_in}
 
 pub returns : goal.returns
 returns g c = λ demands. record {

@@ -2,9 +2,8 @@ use Rattle.decode_session.specs.Finishing.{standing}
 use Rattle.decode_session.proofs.FinishFacts.{comes-to, exactly, step-leaves, step-text}
 use Rattle.decode_session.proofs.playing.add_record.Goals as goal
 use Rattle.edition_plans.specs.Params.{param_slices}
-use Rattle.fold_state.specs.Demands.{asked_in}
-use Rattle.mib_model.specs.Interpreter.{course_after}
-use Rattle.mib_model.specs.Interpreter.{stamped_first}
+use Rattle.param_state.specs.Demands.{asked_in}
+use Rattle.mib_model.specs.Interpreter.{course_after, stamped_first}
 use Rattle.std.proofs.Common.{refl}
 
 pub returns-clause-finishes : goal.returns-clause-finishes

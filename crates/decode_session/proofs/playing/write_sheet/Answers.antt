@@ -5,10 +5,9 @@ use Rattle.decode_session.proofs.FinishFacts.{come-to, leaves-run}
 use Rattle.decode_session.proofs.TurnFacts.{on-err, on-ok}
 use Rattle.decode_session.proofs.playing.write_sheet.Goals as goal
 use Rattle.edition_plans.specs.Params.{param_slices}
-use Rattle.fold_state.specs.Demands.{asked_in}
+use Rattle.param_state.specs.Demands.{asked_in}
 use Rattle.line_sheets.specs.Drawings.{IsSheetFor}
-use Rattle.mib_model.specs.Interpreter.{course_after_all}
-use Rattle.mib_model.specs.Interpreter.{stamped_from}
+use Rattle.mib_model.specs.Interpreter.{course_after_all, stamped_from}
 use Rattle.tm_io.specs.Octets.{AppendsPrefix}
 
 pub returns-clause-done : goal.returns-clause-done

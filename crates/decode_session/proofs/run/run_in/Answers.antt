@@ -10,7 +10,7 @@ use Rattle.decode_session.proofs.TurnFacts.{err-of, going-next, ok-of, stopped-n
 use Rattle.decode_session.proofs.run.run_in.Goals as goal
 use Rattle.edition_plans.specs.Params.{param_slices}
 use Rattle.fold_state.specs.Boards.{memory_of}
-use Rattle.fold_state.specs.Demands.{asked_in}
+use Rattle.param_state.specs.Demands.{asked_in}
 use Rattle.memory_laws.proofs.AlikeFacts.{alike-same}
 use Rattle.packet_feed.specs.Feed.{source_of}
 

@@ -1,10 +1,12 @@
 use Rattle.std.proofs.Common.{◌≡◌, ◌∙◌, ◌++◌, [], ◌∷◌, ◌<◌, List, ap, arith, get_or, length, map, subst, sym, take}
 use Rattle.std.proofs.lemmas.List.{map_more, take_all}
 use Rattle.std.specs.Arc.{arc_value}
-use Rattle.fold_state.specs.declared.slot.Slot.{Slot}
-use Rattle.fold_state.specs.Boards.{plan_names, slot_name, vacant_for}
+use Rattle.param_state.specs.declared.slot.ParamSlot.{ParamSlot}
+use Rattle.param_state.specs.ParamPlans.{plan_names}
+use Rattle.param_state.specs.SlotViews.{slot_name, vacant_for}
 use Rattle.fold_state.specs.Places.{Rise}
-use Rattle.fold_state.proofs.BoardFacts.{names-vacant, plan-there, rise-map}
+use Rattle.fold_state.proofs.BoardFacts.{names-vacant, rise-map}
+use Rattle.param_state.proofs.NamedFacts.{plan-there}
 use Rattle.param_plan.specs.Slices.{ParamSlice}
 use Rattle.fold_state.proofs.board.slots_for.Goals as goal
 

@@ -1,6 +1,6 @@
 use Rattle.std.proofs.Common.{◌≡◌, ◌≤◌, length, map, take}
 use Rattle.std.specs.Vec.{vec_capacity}
-use Rattle.fold_state.specs.Boards.{vacant_for}
+use Rattle.param_state.specs.SlotViews.{vacant_for}
 use Rattle.fold_state.proofs.board.slots_for.Given as goal
 
 abbrev pub invariant-loop-at : goal.invariant-loop-at

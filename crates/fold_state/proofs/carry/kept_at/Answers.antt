@@ -1,8 +1,9 @@
 use Rattle.std.proofs.Common.{ap, arith, sym}
 use Rattle.std.specs.Arc.{arc_value}
 use Rattle.fold_state.specs.Boards.{memory_of}
-use Rattle.fold_state.proofs.BoardFacts.{plan-there}
-use Rattle.fold_state.proofs.FinishFacts.{plan-found, slice-found}
+use Rattle.param_state.proofs.NamedFacts.{plan-there}
+use Rattle.fold_state.proofs.FinishFacts.{plan-found}
+use Rattle.param_state.proofs.ValueFacts.{slice-found}
 use Rattle.fold_state.proofs.carry.kept_at.Goals as goal
 
 pub returns : goal.returns

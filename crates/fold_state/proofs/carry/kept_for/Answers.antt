@@ -1,7 +1,8 @@
 use Rattle.std.proofs.Common.{◌∙◌, List, ℕ, sym, ap}
-use Rattle.fold_state.specs.Boards.{kept_as, memory_of, place_of}
+use Rattle.param_state.specs.SlotViews.{kept_as}
+use Rattle.fold_state.specs.Boards.{memory_of, place_of}
 use Rattle.fold_state.proofs.BoardFacts.{kept-missing}
-use Rattle.fold_state.proofs.CarryFacts.{carry-nothing}
+use Rattle.param_state.proofs.CarriedFacts.{carry-nothing}
 use Rattle.fold_state.proofs.carry.kept_for.Goals as goal
 
 pub returns-in-None : goal.returns-in-None

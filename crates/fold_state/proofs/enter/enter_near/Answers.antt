@@ -2,8 +2,8 @@ use Rattle.std.proofs.Common.{◌≡◌, ◌∙◌, ◌<◌, List, ℕ, length, 
 use Rattle.fold_state.specs.Boards.{board_of}
 use Rattle.fold_state.specs.Entering.{HasEntered}
 use Rattle.fold_state.specs.Places.{Rise}
-use Rattle.fold_state.specs.Premises.{IsRaw}
-use Rattle.fold_state.proofs.FinishFacts.{each-item}
+use Rattle.param_state.specs.FinishedValues.{IsRaw}
+use Rattle.param_state.proofs.ValueFacts.{each-item}
 use Rattle.fold_state.proofs.EnterFacts.{entered-next}
 use Rattle.fold_state.proofs.SeatFacts.{place-kept, seated-more}
 use Rattle.fold_state.proofs.enter.enter_near.Goals as goal

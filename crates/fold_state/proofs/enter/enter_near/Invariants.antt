@@ -1,8 +1,10 @@
 use Rattle.std.proofs.Common.{◌≡◌, map, take}
 use Rattle.std.specs.List.{All}
-use Rattle.fold_state.specs.Boards.{board_of, slot_name}
+use Rattle.fold_state.specs.Boards.{board_of}
+use Rattle.param_state.specs.SlotViews.{slot_name}
 use Rattle.fold_state.specs.Entering.{HasEntered}
-use Rattle.fold_state.specs.Premises.{AreSeated, IsRaw}
+use Rattle.fold_state.specs.Premises.{AreSeated}
+use Rattle.param_state.specs.FinishedValues.{IsRaw}
 use Rattle.fold_state.proofs.enter.enter_near.Given as goal
 
 abbrev pub invariant-loop-k : goal.invariant-loop-k

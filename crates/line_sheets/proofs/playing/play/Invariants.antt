@@ -1,6 +1,6 @@
 use Rattle.std.proofs.Common.{◌≡◌, ◌≤◌, ◌+◌, length}
-use Rattle.fold_state.specs.Boards.{memory_of, plan_names}
-use Rattle.fold_state.specs.Premises.{IsParamsOf}
+use Rattle.fold_state.specs.Boards.{memory_of}
+use Rattle.param_state.specs.ParamPlans.{plan_names, IsParamsOf}
 use Rattle.mib_model.specs.declared.database.Database.{Database}
 use Rattle.record_text.specs.declared.lines.TheConstants.{LINES_ROOM, LINE_MOST}
 use Rattle.line_sheets.specs.Playing.{GoesOn, most_size}

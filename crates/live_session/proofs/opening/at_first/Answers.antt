@@ -1,6 +1,6 @@
 use Rattle.std.proofs.Common.{◌∙◌, ap}
 use Rattle.desk.proofs.ShownFacts.{made-for}
-use Rattle.fold_state.specs.Boards.{plan_names}
+use Rattle.param_state.specs.ParamPlans.{plan_names}
 use Rattle.live_session.proofs.opening.at_first.Goals as goal
 
 pub returns-clause-start : goal.returns-clause-start

@@ -1,7 +1,7 @@
 use Rattle.packet_run.proofs.Common.{◌∙◌, ◌≡◌, ap, arc_value, Database, plan_names, subst, sym}
 use Rattle.decode_one.proofs.ParamFacts.{params-of}
 use Rattle.edition_plans.specs.Params.{param_slices}
-use Rattle.fold_state.specs.Premises.{IsParamsOf}
+use Rattle.param_state.specs.ParamPlans.{IsParamsOf}
 use Rattle.packet_run.proofs.OpeningFacts.{made-names}
 use Rattle.packet_run.proofs.turning.begin.Goals as goal
 

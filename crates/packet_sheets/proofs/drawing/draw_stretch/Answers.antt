@@ -1,11 +1,10 @@
 use Rattle.std.proofs.Common.{◌∙◌, ◌+◌, List, ℕ, arith, sym, subst, take}
 use Rattle.std.proofs.lemmas.List.{take_all}
 use Rattle.edition_plans.specs.Params.{param_slices}
-use Rattle.fold_state.specs.Boards.{plan_names}
+use Rattle.param_state.specs.ParamPlans.{plan_names}
 use Rattle.line_sheets.specs.Drawings.{IsSheetFor}
 use Rattle.line_sheets.specs.Sheets.{SheetView, no_sheet}
-use Rattle.mib_model.specs.Interpreter.{StampedPacket}
-use Rattle.mib_model.specs.Interpreter.{stamped_first, stamped_from}
+use Rattle.mib_model.specs.Interpreter.{StampedPacket, stamped_first, stamped_from}
 use Rattle.packet_sheets.proofs.SheetFacts.{sheet-more, sheet-none, stamped-next, stamped-none}
 use Rattle.packet_sheets.proofs.drawing.draw_stretch.Goals as goal
 

@@ -1,7 +1,7 @@
 use Rattle.std.proofs.Common.{◌≡◌, ℕ, Bool, List, length, take}
 use Rattle.edition_plans.specs.Params.{param_slices}
-use Rattle.fold_state.specs.Boards.{plan_names}
-use Rattle.fold_state.specs.Demands.{AreDemandsOf}
+use Rattle.param_state.specs.ParamPlans.{plan_names}
+use Rattle.param_state.specs.Demands.{AreDemandsOf}
 use Rattle.line_sheets.specs.Drawings.{IsSheetFor}
 use Rattle.mib_model.specs.Fixed.{most_values}
 use Rattle.mib_model.specs.Interpreter.{stamped_from}

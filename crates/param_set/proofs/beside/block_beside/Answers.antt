@@ -1,7 +1,7 @@
 use Rattle.std.proofs.Common.{◌≡◌, ◌∙◌, ◌++◌, List, ap, arith, length, rules, sym}
 use Rattle.std.proofs.lemmas.List.{append-nil}
 use Rattle.std.specs.Arc.{arc_value}
-use Rattle.fold_state.specs.Boards.{plan_names}
+use Rattle.param_state.specs.ParamPlans.{plan_names}
 use Rattle.param_plan.specs.Slices.{ParamSlice}
 use Rattle.param_set.proofs.TouchFacts.{untouched-none, untouched-now}
 use Rattle.param_set.proofs.beside.block_beside.Goals as goal

@@ -2,7 +2,7 @@ use Rattle.std.proofs.Common.{◌≡◌, ◌∙◌, All, List, false, nat_eq, ap
 use Rattle.std.proofs.lemmas.List.{take_all}
 use Rattle.std.specs.Arc.{arc_value}
 use Rattle.std.specs.List.{list_any}
-use Rattle.fold_state.specs.Boards.{plan_names}
+use Rattle.param_state.specs.ParamPlans.{plan_names}
 use Rattle.param_plan.specs.Names.{Ascend}
 use Rattle.param_plan.specs.Slices.{ParamSlice}
 use Rattle.param_plan.proofs.BlockFacts.{cut-alike, cut-map, flat-alike, map-blocks}

@@ -1,6 +1,6 @@
 use Rattle.std.proofs.Common.{◌≡◌, ◌+◌, map, filter, length, take, flat_map}
 use Rattle.std.specs.Arc.{arc_value}
-use Rattle.fold_state.specs.Boards.{plan_names}
+use Rattle.param_state.specs.ParamPlans.{plan_names}
 use Rattle.param_set.specs.Beside.{is_other, now_of}
 use Rattle.param_set.proofs.beside.blocks_beside.Given as goal
 

@@ -2,7 +2,7 @@ use Rattle.std.proofs.Common.{◌≡◌, ◌∙◌, ◌+◌, ◌++◌, [], ◌�
 use Rattle.std.proofs.lemmas.List.{append_assoc, map-append}
 use Rattle.std.specs.Arc.{arc_value}
 use Rattle.std.specs.declared.sync.Arc.{Arc}
-use Rattle.fold_state.specs.Boards.{plan_names}
+use Rattle.param_state.specs.ParamPlans.{plan_names}
 use Rattle.param_plan.specs.Slices.{ParamSlice}
 use Rattle.param_set.proofs.BesideFacts.{count-more, count-one, image-at, images-all, images-more, names-more}
 use Rattle.param_set.proofs.AlikeFacts.{name-now}

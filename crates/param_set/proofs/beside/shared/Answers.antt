@@ -1,6 +1,6 @@
 use Rattle.std.proofs.Common.{◌≡◌, ◌∙◌, [], ap, arith, filter, length, sym}
 use Rattle.edition_plans.specs.Params.{param_slices}
-use Rattle.fold_state.specs.Boards.{plan_names}
+use Rattle.param_state.specs.ParamPlans.{plan_names}
 use Rattle.param_set.proofs.SharedFacts.{none-beside, slices-same}
 use Rattle.param_set.specs.Sharing.{is_new}
 use Rattle.param_set.proofs.beside.shared.Goals as goal

@@ -1,7 +1,7 @@
 use Rattle.std.proofs.Common.{◌≡◌, ◌∙◌, ◌+◌, ◌++◌, [], ◌∷◌, Bor, ℕ, List, ap, arith, filter, length, map, sym, take}
 use Rattle.std.proofs.lemmas.List.{map-append}
 use Rattle.std.specs.Arc.{arc_value}
-use Rattle.fold_state.specs.Boards.{plan_names}
+use Rattle.param_state.specs.ParamPlans.{plan_names}
 use Rattle.mib_model.specs.declared.rows.PcfRow.{PcfRow}
 use Rattle.param_plan.specs.Slices.{ParamSlice, slice_for}
 use Rattle.param_set.proofs.BesideFacts.{count-more, images-more, names-more}

@@ -3,8 +3,10 @@ use Rattle.std.proofs.lemmas.Bool.{cases_lt}
 use Rattle.std.proofs.lemmas.List.{take_all}
 use Rattle.mib_model.specs.declared.packet.Value.{Value}
 use Rattle.fold_state.specs.Entering.{HasEntered}
-use Rattle.fold_state.specs.Premises.{AreSeated, HasSlot, IsRaw}
-use Rattle.fold_state.proofs.FinishFacts.{each-item, slot-kept}
+use Rattle.fold_state.specs.Premises.{AreSeated, HasSlot}
+use Rattle.param_state.specs.FinishedValues.{IsRaw}
+use Rattle.param_state.proofs.ValueFacts.{each-item}
+use Rattle.fold_state.proofs.FinishFacts.{slot-kept}
 use Rattle.fold_state.proofs.EnterFacts.{entered-next}
 use Rattle.fold_state.proofs.SeatFacts.{seated-kept, seated-more, seated-past, place-kept, slots-kept}
 use Rattle.fold_state.proofs.board.Board.enter_all.Goals as goal

@@ -2,7 +2,8 @@ use Rattle.std.proofs.Common.{◌≡◌, take}
 use Rattle.std.specs.List.{All}
 use Rattle.fold_state.specs.Boards.{Slots}
 use Rattle.fold_state.specs.Entering.{HasEntered}
-use Rattle.fold_state.specs.Premises.{AreSeated, HasSlot, IsRaw}
+use Rattle.fold_state.specs.Premises.{AreSeated, HasSlot}
+use Rattle.param_state.specs.FinishedValues.{IsRaw}
 use Rattle.fold_state.proofs.board.Board.enter_all.Given as goal
 
 abbrev pub invariant-loop-k : goal.invariant-loop-k

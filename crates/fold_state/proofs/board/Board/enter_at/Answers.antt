@@ -1,7 +1,8 @@
 use Rattle.std.proofs.Common.{Some, refl, sym}
 use Rattle.std.proofs.lemmas.Int.{to_z-of_z}
 use mir.Syntax.{w128}
-use Rattle.fold_state.specs.Opened.{bare_value, name_at}
+use Rattle.param_state.specs.FinishedValues.{bare_value}
+use Rattle.fold_state.specs.Opened.{name_at}
 use Rattle.fold_state.proofs.board.Board.enter_at.Goals as goal
 
 pub returns-then-has_seat-clause-memory : goal.returns-then-has_seat-clause-memory

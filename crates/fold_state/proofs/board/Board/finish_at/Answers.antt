@@ -7,7 +7,7 @@ use Rattle.mib_model.specs.Curves.{calibration}
 use Rattle.mib_model.specs.Finish.{tail_for}
 use Rattle.param_plan.specs.Slices.{curve_in}
 use Rattle.fold_state.specs.Boards.{memory_of}
-use Rattle.fold_state.proofs.FinishFacts.{finish-invalid, finish-numberless, finish-valid, given-number}
+use Rattle.param_state.proofs.ValueFacts.{finish-invalid, finish-numberless, finish-valid, given-number}
 use Rattle.fold_state.proofs.board.Board.finish_at.Goals as goal
 
 pub returns-then-not-valid-clause-finished : goal.returns-then-not-valid-clause-finished

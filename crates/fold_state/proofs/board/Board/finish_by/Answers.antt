@@ -1,8 +1,10 @@
 use Rattle.std.proofs.Common.{◌∙◌, sym, arith}
 use Rattle.std.proofs.lemmas.Bool.Decides.{nat_tests}
 use Rattle.std.specs.Arc.{arc_value}
-use Rattle.fold_state.proofs.BoardFacts.{place-within, plan-there}
-use Rattle.fold_state.proofs.FinishFacts.{plan-found, plan-within, slice-found}
+use Rattle.fold_state.proofs.BoardFacts.{place-within}
+use Rattle.param_state.proofs.NamedFacts.{plan-there}
+use Rattle.fold_state.proofs.FinishFacts.{plan-found, plan-within}
+use Rattle.param_state.proofs.ValueFacts.{slice-found}
 use Rattle.fold_state.proofs.board.Board.finish_by.Goals as goal
 
 pub returns-then-seat-len-clause-finished : goal.returns-then-seat-len-clause-finished

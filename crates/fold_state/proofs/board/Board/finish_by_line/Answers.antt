@@ -1,7 +1,7 @@
 use Rattle.std.proofs.Common.{◌<◌, length, sym, subst, arith}
-use Rattle.fold_state.specs.declared.sketch.Mark.{Mark}
+use Rattle.line_sketches.specs.declared.sketch.Mark.{Mark}
 use Rattle.fold_state.specs.Boards.{memory_of}
-use Rattle.fold_state.specs.Sketches.{IsShown, MarkedLine}
+use Rattle.line_sketches.specs.Sketches.{IsShown, MarkedLine}
 use Rattle.fold_state.proofs.ShownFacts.{finished-else, finished-nominal}
 use Rattle.fold_state.proofs.board.Board.finish_by_line.Goals as goal
 

@@ -2,9 +2,11 @@ use Rattle.std.proofs.Common.{◌≡◌, ◌∙◌, ◌+◌, ◌<◌, length, ge
 use Rattle.std.proofs.lemmas.List.{take_more}
 use Rattle.mib_model.specs.declared.packet.Value.{Value}
 use Rattle.fold_state.specs.Boards.{memory_of, place_of}
-use Rattle.fold_state.specs.Premises.{AreFinished, HasSlot, IsRaw}
-use Rattle.fold_state.specs.Sketches.{IsShown, MarkedLine}
-use Rattle.fold_state.proofs.FinishFacts.{are-none, are-more, each-item, slot-kept}
+use Rattle.param_state.specs.FinishedValues.{AreFinished, IsRaw}
+use Rattle.fold_state.specs.Premises.{HasSlot}
+use Rattle.line_sketches.specs.Sketches.{IsShown, MarkedLine}
+use Rattle.param_state.proofs.ValueFacts.{are-none, are-more, each-item}
+use Rattle.fold_state.proofs.FinishFacts.{slot-kept}
 use Rattle.fold_state.proofs.SeatFacts.{seated-kept}
 use Rattle.fold_state.proofs.board.Board.finish_shown.Goals as goal
 

@@ -1,7 +1,8 @@
 use Rattle.std.proofs.Common.{◌≡◌, ◌≤◌, ◌+◌, ◌*◌, length, take}
 use Rattle.fold_state.specs.Boards.{memory_of}
-use Rattle.fold_state.specs.Premises.{AreSeated, Fits, AreFinished}
-use Rattle.fold_state.specs.Sketches.{AreShown}
+use Rattle.fold_state.specs.Premises.{AreSeated, Fits}
+use Rattle.param_state.specs.FinishedValues.{AreFinished}
+use Rattle.line_sketches.specs.Sketches.{AreShown}
 use Rattle.mib_model.specs.declared.database.Database.{Database}
 use Rattle.record_text.specs.declared.lines.TheConstants.{VALUE_ROOM, NOTE_ROOM}
 use Rattle.fold_state.proofs.board.Board.finish_shown.Given as goal

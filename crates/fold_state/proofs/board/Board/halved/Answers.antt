@@ -6,8 +6,10 @@ use Rattle.std.specs.Ordering.{nat_cmp}
 use Rattle.std.specs.Str.{bytes_eq}
 use Rattle.param_plan.proofs.NameFacts.{named-nowhere}
 use Rattle.param_plan.proofs.PlanFacts.{adjacent-map}
-use Rattle.fold_state.specs.declared.slot.Slot.{Slot}
-use Rattle.fold_state.specs.Boards.{Slots, is_name_of, place_of, slot_name, vacant}
+use Rattle.param_state.specs.declared.slot.ParamSlot.{ParamSlot}
+use Rattle.fold_state.specs.Boards.{Slots, place_of}
+use Rattle.param_state.specs.ParamPlans.{is_name_of}
+use Rattle.param_state.specs.SlotViews.{slot_name, vacant}
 use Rattle.fold_state.proofs.BoardFacts.{name-tied, place-nowhere, place-risen, slots-long}
 use Rattle.fold_state.proofs.board.Board.halved.Goals as goal
 
@@ -17,10 +19,10 @@ returns-in-Ok c =
     let slots = c.self.inside.slots.items in
     let at = c.in-Ok.at in
     let d = vacant [] in
-    let below : at < length slots = subst (λ (xs : List Slot). at < length xs) c.deref.ensures.value c.in-Ok.ensures.bound in
+    let below : at < length slots = subst (λ (xs : List ParamSlot). at < length xs) c.deref.ensures.value c.in-Ok.ensures.bound in
     let by_key = c.in-Ok.ensures.position slot_name (answers_always _ _ _ (λ f a r g called. search rules)) in
     let same : slice_cmp nat_cmp (slot_name (get_or slots at d)) name ≡ Equal =
-    subst (λ (xs : List Slot). slice_cmp nat_cmp (slot_name (get_or xs at d)) name ≡ Equal) c.deref.ensures.value (by_key d) in
+    subst (λ (xs : List ParamSlot). slice_cmp nat_cmp (slot_name (get_or xs at d)) name ≡ Equal) c.deref.ensures.value (by_key d) in
     let here : get_or (map slot_name slots) at [] ≡ name = get_or-map slot_name slots at d [] below ∙ name-tied (slot_name (get_or slots at d)) name same in
     let long = slots-long slots in
     let within : at < length (map slot_name slots) = omega (arith, below, long) in

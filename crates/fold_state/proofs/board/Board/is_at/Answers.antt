@@ -1,6 +1,8 @@
 use Rattle.std.proofs.Common.{◌≡◌, ◌∙◌, ◌<◌, [], Some, length, get_or, map, sym, subst, arith}
-use Rattle.fold_state.specs.Boards.{Slots, place_of, slot_name}
-use Rattle.fold_state.proofs.BoardFacts.{name-at, place-risen, same-name, slots-long}
+use Rattle.fold_state.specs.Boards.{Slots, place_of}
+use Rattle.param_state.specs.SlotViews.{slot_name}
+use Rattle.fold_state.proofs.BoardFacts.{name-at, place-risen, slots-long}
+use Rattle.param_state.proofs.NamedFacts.{same-name}
 use Rattle.fold_state.proofs.board.Board.is_at.Goals as goal
 
 pub returns-then-at-len : goal.returns-then-at-len

@@ -2,8 +2,11 @@ use Rattle.std.proofs.Common.{◌≡◌, ◌∙◌, ◌<◌, List, [], ℕ, ap, 
 use Rattle.std.proofs.lemmas.List.{get_or-map, length-map, take_all, take_more_same}
 use Rattle.std.specs.Arc.{arc_value}
 use Rattle.param_plan.specs.Slices.{ParamSlice}
-use Rattle.fold_state.specs.Boards.{Slots, plan_names, slot_name}
-use Rattle.fold_state.proofs.BoardFacts.{name-at, plan-there, same-name}
+use Rattle.fold_state.specs.Boards.{Slots}
+use Rattle.param_state.specs.ParamPlans.{plan_names}
+use Rattle.param_state.specs.SlotViews.{slot_name}
+use Rattle.fold_state.proofs.BoardFacts.{name-at}
+use Rattle.param_state.proofs.NamedFacts.{plan-there, same-name}
 use Rattle.fold_state.proofs.board.Board.is_of.Goals as goal
 
 pub loop-at-preserved : goal.loop-at-preserved

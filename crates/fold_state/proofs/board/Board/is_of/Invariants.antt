@@ -1,5 +1,5 @@
 use Rattle.std.proofs.Common.{◌≡◌, take}
-use Rattle.fold_state.specs.Boards.{plan_names}
+use Rattle.param_state.specs.ParamPlans.{plan_names}
 use Rattle.fold_state.proofs.board.Board.is_of.Given as goal
 
 abbrev pub invariant-loop-at : goal.invariant-loop-at

@@ -4,12 +4,13 @@ use Rattle.std.specs.Arc.{arc_value}
 use Rattle.mib_model.specs.Carry.{carry as carried}
 use Rattle.mib_model.specs.Kept.{keeping}
 use Rattle.param_plan.specs.Slices.{ParamSlice}
-use Rattle.fold_state.specs.Boards.{Slots, memory_of, place_of, plan_names}
-use Rattle.fold_state.specs.Premises.{IsParamsOf}
+use Rattle.fold_state.specs.Boards.{Slots, memory_of, place_of}
+use Rattle.param_state.specs.ParamPlans.{plan_names, IsParamsOf}
 use Rattle.mib_model.specs.declared.database.Database.{Database}
-use Rattle.fold_state.proofs.BoardFacts.{plan-there}
+use Rattle.param_state.proofs.NamedFacts.{plan-there}
 use Rattle.fold_state.proofs.CarryFacts.{carried-all, carried-more, carry-alike, kept-more, plan-placed}
-use Rattle.fold_state.proofs.FinishFacts.{plan-found, slice-found}
+use Rattle.fold_state.proofs.FinishFacts.{plan-found}
+use Rattle.param_state.proofs.ValueFacts.{slice-found}
 use Rattle.fold_state.proofs.board.Board.keep.Goals as goal
 
 pub loop-at-preserved : goal.loop-at-preserved

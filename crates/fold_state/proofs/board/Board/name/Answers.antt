@@ -1,7 +1,9 @@
 use Rattle.std.proofs.Common.{◌∙◌, [], ap, sym, get_or}
 use Rattle.std.proofs.lemmas.List.Quantifiers.{position-Some}
-use Rattle.fold_state.specs.Boards.{Slots, is_name_of}
-use Rattle.fold_state.proofs.BoardFacts.{name-at, same-name, slot-within}
+use Rattle.fold_state.specs.Boards.{Slots}
+use Rattle.param_state.specs.ParamPlans.{is_name_of}
+use Rattle.fold_state.proofs.BoardFacts.{name-at, slot-within}
+use Rattle.param_state.proofs.NamedFacts.{same-name}
 use Rattle.fold_state.proofs.board.Board.name.Goals as goal
 
 pub returns : goal.returns

@@ -1,5 +1,6 @@
 use Rattle.std.proofs.Common.{◌≡◌, ◌<◌, [], Some, get_or, length, map, refl, subst, sym}
-use Rattle.fold_state.specs.Boards.{Slots, place_of, slot_name}
+use Rattle.fold_state.specs.Boards.{Slots, place_of}
+use Rattle.param_state.specs.SlotViews.{slot_name}
 use Rattle.fold_state.specs.Opened.{name_at}
 use Rattle.fold_state.proofs.BoardFacts.{place-risen}
 use Rattle.fold_state.proofs.board.Board.named.Goals as goal

@@ -2,7 +2,8 @@ use Rattle.std.proofs.Common.{◌∙◌, List, ℕ, ap, sym, subst, Some, ℤ}
 use Rattle.std.proofs.lemmas.Int.{to_z-of_z}
 use mir.Syntax.{w128}
 use Rattle.mib_model.specs.Kept.{entered}
-use Rattle.fold_state.specs.Boards.{Slots, board_of, kept_as, memory_of, place_of}
+use Rattle.fold_state.specs.Boards.{Slots, board_of, memory_of, place_of}
+use Rattle.param_state.specs.SlotViews.{kept_as}
 use Rattle.fold_state.specs.Places.{Rise}
 use Rattle.fold_state.proofs.BoardFacts.{board-set, latest-set, names-set, slot-within, slots-long}
 use Rattle.fold_state.proofs.board.Board.set_latest.Goals as goal

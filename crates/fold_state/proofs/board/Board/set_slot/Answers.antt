@@ -1,6 +1,7 @@
 use Rattle.std.proofs.Common.{◌∙◌, List, ℕ, ap, sym, subst}
 use Rattle.mib_model.specs.Kept.{keeping}
-use Rattle.fold_state.specs.Boards.{Slots, board_of, kept_as, memory_of, place_of}
+use Rattle.fold_state.specs.Boards.{Slots, board_of, memory_of, place_of}
+use Rattle.param_state.specs.SlotViews.{kept_as}
 use Rattle.fold_state.specs.Places.{Rise}
 use Rattle.fold_state.proofs.BoardFacts.{board-set, kept-set, names-set, slot-within, slots-long}
 use Rattle.fold_state.proofs.board.Board.set_slot.Goals as goal

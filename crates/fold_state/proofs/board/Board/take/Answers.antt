@@ -1,11 +1,13 @@
 use Rattle.std.proofs.Common.{◌≡◌, ◌∙◌, ◌<◌, ◌≤◌, List, ℕ, length, ap, arith}
 use Rattle.std.proofs.lemmas.List.{length-map}
 use Rattle.std.specs.Arc.{arc_value}
-use Rattle.fold_state.specs.Boards.{memory_of, plan_names}
+use Rattle.fold_state.specs.Boards.{memory_of}
+use Rattle.param_state.specs.ParamPlans.{plan_names}
 use Rattle.mib_model.specs.Kept.{keeping}
-use Rattle.fold_state.proofs.BoardFacts.{plan-there}
+use Rattle.param_state.proofs.NamedFacts.{plan-there}
 use Rattle.fold_state.proofs.CarryFacts.{carried-all, carried-more, plan-placed}
-use Rattle.fold_state.proofs.FinishFacts.{plan-found, slice-found}
+use Rattle.fold_state.proofs.FinishFacts.{plan-found}
+use Rattle.param_state.proofs.ValueFacts.{slice-found}
 use Rattle.fold_state.proofs.board.Board.take.Goals as goal
 
 pub loop-at-preserved : goal.loop-at-preserved

@@ -1,5 +1,5 @@
 use Rattle.std.proofs.Common.{◌≡◌}
-use Rattle.fold_state.specs.Premises.{IsParamsOf}
+use Rattle.param_state.specs.ParamPlans.{IsParamsOf}
 use Rattle.mib_model.specs.declared.database.Database.{Database}
 use Rattle.fold_state.proofs.CarryFacts.{CarriedBelow}
 use Rattle.fold_state.proofs.board.Board.take.Given as goal

@@ -4,7 +4,7 @@ use mir.Syntax.{w128}
 use Rattle.std.specs.Option.{option_eq}
 use Rattle.std.specs.Ordering.{int_eq}
 use Rattle.mib_model.specs.Kept.{Kept}
-use Rattle.fold_state.specs.Boards.{kept_as}
+use Rattle.param_state.specs.SlotViews.{kept_as}
 use Rattle.fold_state.proofs.BoardFacts.{kept-missing, place-within}
 use Rattle.fold_state.proofs.board.BoardHolds.holds.Goals as goal
 

@@ -1,5 +1,5 @@
 use Rattle.std.proofs.Common.{◌∙◌, ap, map}
-use Rattle.fold_state.specs.Boards.{slot_name}
+use Rattle.param_state.specs.SlotViews.{slot_name}
 use Rattle.fold_state.proofs.BoardFacts.{names-vacant}
 use Rattle.fold_state.proofs.room.BoardRoom.into_board.Goals as goal
 

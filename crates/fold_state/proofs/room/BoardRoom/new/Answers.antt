@@ -1,4 +1,4 @@
-use Rattle.fold_state.specs.Boards.{plan_names}
+use Rattle.param_state.specs.ParamPlans.{plan_names}
 use Rattle.fold_state.proofs.BoardFacts.{kept-empty}
 use Rattle.fold_state.proofs.room.BoardRoom.new.Goals as goal
 

@@ -1,9 +1,9 @@
 use Rattle.std.proofs.Common.{◌≡◌, ◌∙◌, ◌+◌, ◌++◌, ◌∷◌, [], List, ap, arith, sym, take}
 use Rattle.std.proofs.lemmas.List.{take_all, take_more}
 use Rattle.mib_model.specs.declared.packet.Value.{Value}
-use Rattle.fold_state.specs.Boards.{plan_names}
-use Rattle.fold_state.specs.Premises.{IsRaw}
-use Rattle.fold_state.proofs.FinishFacts.{each-item}
+use Rattle.param_state.specs.ParamPlans.{plan_names}
+use Rattle.param_state.specs.FinishedValues.{IsRaw}
+use Rattle.param_state.proofs.ValueFacts.{each-item}
 use Rattle.line_sheets.specs.Drawings.{HasPlan, values_played}
 use Rattle.line_sheets.proofs.AddFacts.{adds-none, adds-same, adds-then}
 use Rattle.line_sheets.proofs.PacketFacts.{values-more, values-none}

@@ -1,8 +1,8 @@
 use Rattle.std.proofs.Common.{◌≤◌, ◌+◌, ◌*◌, ℕ, Bool, List, length, take}
 use Rattle.std.specs.List.{All}
-use Rattle.fold_state.specs.Boards.{plan_names}
-use Rattle.fold_state.specs.Demands.{AreNoted}
-use Rattle.fold_state.specs.Premises.{IsParamsOf, IsRaw}
+use Rattle.param_state.specs.ParamPlans.{plan_names, IsParamsOf}
+use Rattle.param_state.specs.Demands.{AreNoted}
+use Rattle.param_state.specs.FinishedValues.{IsRaw}
 use Rattle.mib_model.specs.declared.database.Database.{Database}
 use Rattle.record_text.specs.declared.lines.TheConstants.{VALUE_ROOM}
 use Rattle.line_sheets.specs.Drawings.{Adds, HasPlan, values_played}

@@ -4,7 +4,7 @@ use Rattle.mib_model.specs.Finish.{all_finished}
 use Rattle.mib_model.specs.Kept.{all_entered}
 use Rattle.std.specs.Option.{option_copied}
 use Rattle.mib_model.specs.Texts.{ended_text, head_text, told_text}
-use Rattle.fold_state.specs.Boards.{plan_names}
+use Rattle.param_state.specs.ParamPlans.{plan_names}
 use Rattle.line_sheets.proofs.AskedFacts.{for-exact, for-same, for-text, for-then, values-alike}
 use Rattle.line_sheets.proofs.PlaceFacts.{covers-values}
 use Rattle.line_sheets.proofs.sheet.Sheet.draw.Goals as goal

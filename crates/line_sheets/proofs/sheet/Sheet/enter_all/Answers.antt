@@ -2,9 +2,9 @@ use Rattle.std.proofs.Common.{◌∙◌, List, [], ap, arith, refl, sym}
 use Rattle.std.proofs.lemmas.List.{take_all}
 use Rattle.mib_model.specs.declared.packet.Value.{Value}
 use Rattle.mib_model.specs.Kept.{Memory, all_entered}
-use Rattle.fold_state.specs.Boards.{plan_names}
-use Rattle.fold_state.specs.Premises.{IsRaw}
-use Rattle.fold_state.proofs.FinishFacts.{each-item}
+use Rattle.param_state.specs.ParamPlans.{plan_names}
+use Rattle.param_state.specs.FinishedValues.{IsRaw}
+use Rattle.param_state.proofs.ValueFacts.{each-item}
 use Rattle.fold_state.proofs.SeatFacts.{entered-more}
 use Rattle.line_sheets.specs.Drawings.{HasPlan}
 use Rattle.line_sheets.specs.declared.sheet.TheConstants.{SEATS_MOST}

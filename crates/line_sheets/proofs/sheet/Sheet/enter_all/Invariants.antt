@@ -1,8 +1,8 @@
 use Rattle.std.proofs.Common.{◌≡◌, ◌≤◌, ◌+◌, ℕ, Bool, List, [], length, take}
 use Rattle.std.specs.List.{All}
-use Rattle.fold_state.specs.Boards.{plan_names}
-use Rattle.fold_state.specs.Demands.{AreAsked}
-use Rattle.fold_state.specs.Premises.{IsRaw}
+use Rattle.param_state.specs.ParamPlans.{plan_names}
+use Rattle.param_state.specs.Demands.{AreAsked}
+use Rattle.param_state.specs.FinishedValues.{IsRaw}
 use Rattle.mib_model.specs.declared.database.Database.{Database}
 use Rattle.mib_model.specs.Kept.{all_entered}
 use Rattle.line_sheets.specs.Drawings.{AddsFor, HasPlan}

@@ -1,6 +1,0 @@
-use Rattle.std.proofs.Common.{◌≡◌, map, take}
-use Rattle.fold_state.specs.Demands.{unasked_for}
-use Rattle.fold_state.proofs.demands.unasked.Given as goal
-
-abbrev pub invariant-loop-at : goal.invariant-loop-at
-invariant-loop-at l = l.demands.items ≡ map unasked_for (take l.at l.params)

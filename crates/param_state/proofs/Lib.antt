@@ -1,0 +1,4 @@
+pub mod NamedFacts
+pub mod ValueFacts
+pub mod CarriedFacts
+pub mod DemandFacts

@@ -1,0 +1,4 @@
+pub mod SlotViews
+pub mod ParamPlans
+pub mod FinishedValues
+pub mod Demands
