@@ -58,3 +58,11 @@ module _ {S N C E A : Type 0} where
   -- the seat has the turn, and has made its entry
   abbrev pub HasEntered : Seat (Slot S N) (View C E A) → Type 0
   HasEntered seat = (has_entered seat.me.0.standing ≡ true) × ((note : N) × (seat.me.1 ≡ (0, Noted note) ∷ []))
+
+  -- the seat is one of this turn, and has it under one of its numbers with no entry made
+  abbrev pub IsInTurn : {M Q : Type 0} → (M → C) → Lock (Slot S N) (View C E A) (About M) Q → Seat (Slot S N) (View C E A) → Type 0
+  IsInTurn mean turn seat = IsSeatOf mean turn seat × HasTurn seat
+
+  -- the seat is one of this turn, and has it with its entry made
+  abbrev pub IsEntered : {M Q : Type 0} → (M → C) → Lock (Slot S N) (View C E A) (About M) Q → Seat (Slot S N) (View C E A) → Type 0
+  IsEntered mean turn seat = IsSeatOf mean turn seat × HasEntered seat

@@ -152,7 +152,7 @@ impl<S: Machine + Drop> Turn<S> {
     ghost use Rattle.std.specs.Prelude.{true, false};
     ghost use Rattle.turn_cell.specs.Standings.{has_entered, has_ticket, has_turn, ticket_of};
     ghost use Rattle.turn_cell.specs.Rule.{Seizes};
-    ghost use Rattle.turn_cell.specs.Seats.{callers_of, first_state, holdings_of, number_of, own_moves, seen_by, HasEntered, HasTurn, IsIdle, IsSeatOf};
+    ghost use Rattle.turn_cell.specs.Seats.{callers_of, first_state, holdings_of, number_of, own_moves, seen_by, IsEntered, IsIdle, IsInTurn, IsSeatOf};
 
     /// Waits for the turn, and takes the state in hand. The seat has then seen the whole history.
     #[inline(always)]
@@ -161,8 +161,7 @@ impl<S: Machine + Drop> Turn<S> {
         requires idle { IsIdle seat.old }
         requires number { 1 ≤ length (holdings_of seat.old) }
         requires room { length (own_moves seat.old) < 2 ^ 32 }
-        ensures seat { IsSeatOf S.state self.now seat.new }
-        ensures turn { HasTurn seat.new }
+        ensures turn { IsInTurn S.state self.now seat.new }
         ensures numbers { holdings_of seat.new ≡ holdings_of seat.old }
         ensures seen { StartsWith (seen_by seat.new) (seen_by seat.old) }
         ensures state { S.state result ≡ state_after S.after (S.state (first_state self.now)) (seen_by seat.new) }
@@ -203,13 +202,11 @@ impl<S: Machine + Drop> Turn<S> {
     /// and the seat's list under its number grow by this one move.
     #[inline(always)]
     pub fn append(&self, seat: &mut Seat<S>, held: &mut Held<S>, entry: S::Entry) -> S::Reply
-        requires seat { IsSeatOf S.state self.now seat.old }
-        requires turn { HasTurn seat.old }
+        requires turn { IsInTurn S.state self.now seat.old }
         requires state { S.state held.old ≡ state_after S.after (S.state (first_state self.now)) (seen_by seat.old) }
         requires fits { S.fits (state_after S.after (S.state (first_state self.now)) (seen_by seat.old)) entry }
         requires may { S.may (number_of seat.old) (S.event entry) }
-        ensures seat { IsSeatOf S.state self.now seat.new }
-        ensures entered { HasEntered seat.new }
+        ensures entered { IsEntered S.state self.now seat.new }
         ensures gives { S.gives (state_after S.after (S.state (first_state self.now)) (seen_by seat.old)) entry result }
         ensures reply { S.answer result ≡ S.reply (state_after S.after (S.state (first_state self.now)) (seen_by seat.old)) (S.event entry) }
         ensures seen { seen_by seat.new ≡ seen_by seat.old ++ move (number_of seat.old) (S.event entry) (S.answer result) ∷ [] }
@@ -232,8 +229,7 @@ impl<S: Machine + Drop> Turn<S> {
 
     /// Gives the state back, and passes the turn.
     pub fn leave(&self, seat: &mut Seat<S>, held: Held<S>)
-        requires seat { IsSeatOf S.state self.now seat.old }
-        requires entered { HasEntered seat.old }
+        requires entered { IsEntered S.state self.now seat.old }
         requires state { S.state held ≡ state_after S.after (S.state (first_state self.now)) (seen_by seat.old) }
         ensures seat { IsSeatOf S.state self.now seat.new }
         ensures idle { IsIdle seat.new }
