@@ -18,7 +18,7 @@ ghost use Rattle.packet_feed.specs.declared.feed.TheConstants.{PACKET_SIZE};
 ghost use Rattle.tm_io.specs.Causes.{HasCause};
 
 use crate::batch::Filled;
-use crate::job::Job;
+use crate::job::DrawingJob;
 use crate::room::{Buffers, Room};
 use decode_one::{finish, play_sheet};
 use edition_plans::Plans;
@@ -85,7 +85,7 @@ fn add_record<P: Plans>(
 // Writes the records of the first packets of a job, so many, each by itself.
 fn write_each<P: Plans, O: Sink>(
     count: usize,
-    job: &Job,
+    job: &DrawingJob,
     plans: &P,
     demands: &[Demand],
     room: &mut Room,
@@ -124,7 +124,7 @@ fn write_each<P: Plans, O: Sink>(
 
 // Writes the records of the packets of a job that are drawn.
 fn write_sheet<P: Plans, O: Sink>(
-    job: &Job,
+    job: &DrawingJob,
     plans: &P,
     board: &mut Board,
     lines: &mut Lines,
@@ -147,7 +147,7 @@ fn write_sheet<P: Plans, O: Sink>(
 
 /// Reads the packets of a job that are drawn, and writes their records.
 pub(crate) fn print_job<P: Plans, S: Source, O: Sink>(
-    job: &Job,
+    job: &DrawingJob,
     plans: &P,
     demands: &[Demand],
     feed: &mut Feed<S>,

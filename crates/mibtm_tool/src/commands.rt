@@ -25,7 +25,7 @@ use std::alloc::Global;
 use std::sync::Wait;
 use std::thread::Threads;
 use tm_io::{Gate, Shelf, Sink};
-use tool_words::{Request, WordsFault, request_in};
+use tool_words::{ToolRequest, WordsFault, request_in};
 
 /// How a call of the tool ended. A live run that opened hands out its register, closed; contracts see its history.
 #[derive(Drop)]
@@ -105,16 +105,16 @@ pub fn tool<
     ensures closed { UnlessLive (command_of (map string_bytes words.now)) (result.closed ≡ None) }
 {
     let code = match request_in(alloc, words) {
-        Ok(Request::Check { folder }) => check(alloc, folder, tables, out),
+        Ok(ToolRequest::Check { folder }) => check(alloc, folder, tables, out),
         Ok(
-            Request::Decode {
+            ToolRequest::Decode {
                 folder,
                 feed: name,
                 workers,
             },
         ) => decode(rt, alloc, folder, name, workers, tables, feed, out),
         Ok(
-            Request::Live {
+            ToolRequest::Live {
                 folder,
                 feed: name,
                 desk: desk_name,
@@ -130,7 +130,7 @@ pub fn tool<
             let host = Host { rt, alloc, gate };
             return live(&host, &asked, tables, feed, desk, out, replies);
         }
-        Ok(Request::Drill { seed }) => drill(rt, alloc, seed, out),
+        Ok(ToolRequest::Drill { seed }) => drill(rt, alloc, seed, out),
         Err(WordsFault::Misuse(misuse)) => Code::Usage(misuse),
         Err(WordsFault::Memory) => Code::Want,
     };
