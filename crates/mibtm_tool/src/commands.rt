@@ -9,7 +9,8 @@ ghost use Rattle.mib_model.specs.declared.fault.MibFault.{MibFault};
 ghost use Rattle.mibtm_tool.specs.Statement.{LivedBy, Names, Shelves, TellsItsEnd, names, shelves, Checked, Decoded, Drilled};
 ghost use Rattle.tool_objects.specs.Objects.{ShelfView, SinkView, shelf, sink};
 ghost use Rattle.tool_objects.specs.Sources.{sound_in};
-ghost use Rattle.mibtm_tool.specs.Tool.{Completes, CompletesCheck, CompletesDrill, Held, IsSteady, IsSteadySink};
+ghost use Rattle.mibtm_tool.specs.Tool.{Completes, CompletesCheck, CompletesDrill, Held, IsSteady};
+ghost use Rattle.tool_objects.specs.Calm.{IsCalmSink};
 ghost use Rattle.session.specs.Sources.{Files};
 
 use crate::check::check;
@@ -143,7 +144,7 @@ pub fn decoding_is_complete<T, F, O>()
     ensures { (c : Code) (folder name octets : List ℕ) (files feeds : Files) (db : Database)
         → (tables : ShelfView T) (feed : ShelfView F) (out : SinkView O)
         → Held tables files → sound_in files folder ≡ Ok db → Held feed feeds → feeds name ≡ Some octets
-        → Decoded c folder name tables feed out → IsSteady tables → IsSteady feed → IsSteadySink out
+        → Decoded c folder name tables feed out → IsSteady tables → IsSteady feed → IsCalmSink out
         → Completes c db octets out }
 {}
 
@@ -151,13 +152,13 @@ pub fn decoding_is_complete<T, F, O>()
 pub fn checking_is_complete<T, O>()
     ensures { (c : Code) (folder : List ℕ) (files : Files) (db : Database) (tables : ShelfView T) (out : SinkView O)
         → Held tables files → sound_in files folder ≡ Ok db
-        → Checked c folder tables out → IsSteady tables → IsSteadySink out
+        → Checked c folder tables out → IsSteady tables → IsCalmSink out
         → CompletesCheck c db out }
 {}
 
 /// Where nothing fails, a drill writes its summary whole, unless memory runs out.
 pub fn drilling_is_complete<O>()
-    ensures { (c : Code) (seed : ℕ) (out : SinkView O) → Drilled c seed out → IsSteadySink out → CompletesDrill c seed out }
+    ensures { (c : Code) (seed : ℕ) (out : SinkView O) → Drilled c seed out → IsCalmSink out → CompletesDrill c seed out }
 {}
 
 /// Where the tables are sound, feed and desk are held and nothing fails, a live run prints all packets, handles all lines and
