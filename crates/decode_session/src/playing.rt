@@ -172,8 +172,8 @@ pub(crate) fn print_job<P: Plans, S: Source, O: Sink>(
     ensures some { result.1 ≡ Filled.Paused → job.now.number < result.0 }
     ensures few { result.0 ≤ job.now.number + most_in_flight }
     ensures limit { result.0 ≤ most_packets }
-    ensures cause { HasFillCause result.1 (S.faults (source_of feed.old)) (S.faults (source_of feed.new)) }
-    ensures out { HasCause (O.faults out.old) (O.faults out.new) result.2 }
+    ensures causes { HasFillCause result.1 (S.faults (source_of feed.old)) (S.faults (source_of feed.new))
+        × HasCause (O.faults out.old) (O.faults out.new) result.2 }
     ensures kept { SourceStays S.holds S.missed S.borrow (source_of feed.old) (source_of feed.new) }
 {
     let (count, filled) = read_packets(job.drawn, feed, room);
