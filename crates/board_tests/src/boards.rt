@@ -1,7 +1,7 @@
 // Boards whose objects don't fail.
-use crate::objects::{Objects, shelf};
-use run_model::Misuse;
+use crate::objects::{BoardObjects, shelf};
 use page_texts::{BoardCode, BoardInput};
+use run_model::Misuse;
 use std::test::Fail;
 
 const FIRST: &[u8] = b"PAGE 1 EDITION 1\n  T1 2000 -\n  NOPE - -\n";
@@ -16,7 +16,7 @@ const VALUES: [u16; 7] = [2000, 2000, 500, 2000, 2000, 2000, 500];
 fn the_last_page_is_that_of_the_last_packet(rt: HostRuntime) -> Result<(), Fail> {
     let alloc = rt.alloc();
     for (count, workers, last) in [(1, "1", FIRST), (6, "2", SIXTH), (7, "4", SEVENTH)] {
-        let mut run = Objects::new(alloc, &VALUES[..count])?;
+        let mut run = BoardObjects::new(alloc, &VALUES[..count])?;
         let words = ["board", "mib", "feed", "desk", "page", "--workers", workers];
         let end = run.board(&rt, alloc, &words)?;
         assert_eq!(rt; end, (BoardCode::Ok, true), "{count} by {workers}");
@@ -28,7 +28,7 @@ fn the_last_page_is_that_of_the_last_packet(rt: HostRuntime) -> Result<(), Fail>
 #[test]
 fn a_page_has_the_edition_of_its_packet(rt: HostRuntime) -> Result<(), Fail> {
     let alloc = rt.alloc();
-    let mut run = Objects::new(alloc, &[2000, 2000])?;
+    let mut run = BoardObjects::new(alloc, &[2000, 2000])?;
     let script = b"put ocf\tT1\t1\t\tU\nsave\nuse 2 from 2\ngo\n";
     run.desk = shelf(alloc, "desk", script, &[])?;
     let end = run.board(&rt, alloc, &["board", "mib", "feed", "desk", "page"])?;
@@ -48,7 +48,7 @@ fn a_page_has_the_edition_of_its_packet(rt: HostRuntime) -> Result<(), Fail> {
 #[test]
 fn a_run_without_packets_shows_no_page(rt: HostRuntime) -> Result<(), Fail> {
     let alloc = rt.alloc();
-    let mut run = Objects::new(alloc, &[])?;
+    let mut run = BoardObjects::new(alloc, &[])?;
     let end = run.board(&rt, alloc, &["board", "mib", "feed", "desk", "page"])?;
     assert_eq!(rt; end, (BoardCode::Ok, true));
     assert!(rt; run.screen.bytes().is_empty());
@@ -90,7 +90,7 @@ fn wrong_words_and_inputs_that_are_not_there_open_no_run(rt: HostRuntime) -> Res
         ),
     ];
     for (words, code) in cases {
-        let mut run = Objects::new(alloc, &VALUES)?;
+        let mut run = BoardObjects::new(alloc, &VALUES)?;
         assert_eq!(rt; run.board(&rt, alloc, words)?, (code, false));
         assert!(rt; run.out.bytes().is_empty() && run.screen.bytes().is_empty());
     }
@@ -106,7 +106,7 @@ fn the_first_wrong_line_of_a_page_is_told(rt: HostRuntime) -> Result<(), Fail> {
         (b"T1\nNOPE\n\x80", 3),
     ];
     for (page, line) in cases {
-        let mut run = Objects::new(alloc, &VALUES)?;
+        let mut run = BoardObjects::new(alloc, &VALUES)?;
         run.page = shelf(alloc, "page", page, &[])?;
         let end = run.board(&rt, alloc, &["board", "mib", "feed", "desk", "page"])?;
         assert_eq!(rt; end, (BoardCode::BadPage { line }, false));

@@ -1,5 +1,5 @@
 // Boards with an object that fails.
-use crate::objects::{Objects, PAGE, packets, shelf, sink};
+use crate::objects::{BoardObjects, PAGE, packets, shelf, sink};
 use page_texts::BoardCode;
 use std::alloc::Global;
 use std::test::Fail;
@@ -10,8 +10,8 @@ const RECORDS: &[u8] =
 const WORDS: [&str; 5] = ["board", "mib", "feed", "desk", "page"];
 
 // So many octets of three packets, whose pages come to a screen that fails here.
-fn cut(alloc: Global, length: usize, place: u64) -> Result<Objects, Fail> {
-    let mut run = Objects::new(alloc, &[])?;
+fn cut(alloc: Global, length: usize, place: u64) -> Result<BoardObjects, Fail> {
+    let mut run = BoardObjects::new(alloc, &[])?;
     let mut octets = packets(alloc, &[500, 500, 500])?;
     octets.truncate(length);
     run.feed = shelf(alloc, "feed", &octets, &[])?;
@@ -56,7 +56,7 @@ fn a_fault_of_the_output_goes_before_one_of_the_screen(rt: HostRuntime) -> Resul
 fn a_page_that_cannot_be_read_opens_no_run(rt: HostRuntime) -> Result<(), Fail> {
     let alloc = rt.alloc();
     for place in [0, 4, 8] {
-        let mut run = Objects::new(alloc, &[2000])?;
+        let mut run = BoardObjects::new(alloc, &[2000])?;
         run.page = shelf(alloc, "page", PAGE, &[place])?;
         assert_eq!(rt;
             run.board(&rt, alloc, &WORDS)?,

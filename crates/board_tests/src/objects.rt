@@ -21,7 +21,7 @@ pub(crate) const TABLES: [(&str, &[u8]); 5] = [
 pub(crate) const PAGE: &[u8] = b"T1\nNOPE\n";
 
 #[derive(Drop)]
-pub(crate) struct Objects {
+pub(crate) struct BoardObjects {
     pub tables: MemShelf,
     pub feed: MemShelf,
     pub desk: MemShelf,
@@ -80,10 +80,10 @@ pub(crate) fn words(alloc: Global, words: &[&str]) -> Result<Vec<String>, Fail> 
     Ok(all)
 }
 
-impl Objects {
+impl BoardObjects {
     // Packets with these values, an empty desk, and the page of the parameter and of a name that the tables lack.
-    pub fn new(alloc: Global, values: &[u16]) -> Result<Objects, Fail> {
-        Ok(Objects {
+    pub fn new(alloc: Global, values: &[u16]) -> Result<BoardObjects, Fail> {
+        Ok(BoardObjects {
             tables: folder(alloc, &TABLES)?,
             feed: shelf(alloc, "feed", &packets(alloc, values)?, &[])?,
             desk: shelf(alloc, "desk", b"", &[])?,

@@ -70,12 +70,12 @@ impl Shelf for Waiting<'_> {
 
 // A screen that counts the pages that were handed on.
 #[derive(Drop)]
-struct Counted<'a> {
+struct FlushCounter<'a> {
     sink: MemSink,
     shown: &'a AtomicU64,
 }
 
-impl Sink for Counted<'_> {
+impl Sink for FlushCounter<'_> {
     ghost written = { λ s. ⟦<MemSink as Sink>⟧.written s.sink };
 
     ghost handed = { λ s. ⟦<MemSink as Sink>⟧.handed s.sink };
@@ -115,7 +115,7 @@ fn a_page_comes_while_the_feed_waits(rt: HostRuntime) -> Result<(), Fail> {
     for workers in ["1", "4"] {
         let shown = AtomicU64::new(0);
         let mut feed = unread(&first, &last, &shown);
-        let mut screen = Counted {
+        let mut screen = FlushCounter {
             sink: sink(alloc, &[])?,
             shown: &shown,
         };

@@ -52,14 +52,14 @@ fn words(alloc: Global, words: &[&str]) -> Result<Vec<String>, Fail> {
 }
 
 // What came of a call: its code, and what it wrote.
-struct Came {
+struct CallEnd {
     code: BuildCode,
     out: MemSink,
 }
 
-impl Drop for Came {
+impl Drop for CallEnd {
     fn drop(self) {
-        let Came { code: _, out: _out } = self;
+        let CallEnd { code: _, out: _out } = self;
     }
 }
 
@@ -70,12 +70,12 @@ fn build(
     lines: &[u8],
     asks_fail: &[u64],
     out_fails: &[u64],
-) -> Result<Came, Fail> {
+) -> Result<CallEnd, Fail> {
     let given = words(alloc, given)?;
     let mut asks = MemShelf::new(vec![in alloc; file(alloc, "asks", lines, asks_fail)?]?, 7);
     let mut out = MemSink::new(alloc, 5, Vec::from_slice(alloc, out_fails)?)?;
     let code = build_tool(alloc, &given, &mut tables(alloc)?, &mut asks, &mut out);
-    Ok(Came { code, out })
+    Ok(CallEnd { code, out })
 }
 
 // A call with these words and asks writes these octets, and ends with this status and line.

@@ -10,7 +10,7 @@ use Rattle.std.proofs.KnownBytes.{Consumes-nil, Consumes-trans}
 use Rattle.std.proofs.lemmas.List.Elements.{All-append, All-drop, All-get_or, All-head, All-nil, All-tail, All-take}
 use Rattle.std.proofs.lemmas.List.Folds.{concat-append}
 use Rattle.std.proofs.Math.Seq.{take-append_seam}
-use Rattle.decode_session.specs.declared.job.Job.{Job}
+use Rattle.decode_session.specs.declared.job.DrawingJob.{DrawingJob}
 use Rattle.decode_session.specs.declared.batch.Filled.{Filled}
 use Rattle.decode_session.specs.declared.batch.Filled.TheVariants as filled
 use Rattle.decode_session.specs.Ahead.{AreDealt, AreJobs, BeginsWith, Come, IsDrawn, IsJob, IsUnused, first_of, packets_from, packets_of}
@@ -112,25 +112,25 @@ drop-past : {X : Type 0} (xs ys : List X) (n m : ℕ) → n ≡ length xs + m �
 drop-past xs ys n m is = ap (λ k. drop k (xs ++ ys)) is ∙ sym (drop-drop m (length xs) (xs ++ ys)) ∙ ap (drop m) (drop_at xs ys (length xs) refl)
 
 -- one job more
-pub jobs-push : (db : Database) (number : ℕ) (jobs : List Job) (job : Job) → AreJobs db number jobs → job.number ≡ number + length (packets_of jobs) → IsJob db job → AreJobs db number (jobs ++ job ∷ [])
+pub jobs-push : (db : Database) (number : ℕ) (jobs : List DrawingJob) (job : DrawingJob) → AreJobs db number jobs → job.number ≡ number + length (packets_of jobs) → IsJob db job → AreJobs db number (jobs ++ job ∷ [])
 jobs-push db number [] job are is is_job = (omega (arith, is), is_job, tt)
 jobs-push db number (j ∷ js) job (same, each, are) is is_job =
     (same, each, jobs-push db (number + length j.stretch.packets) js job are (omega (arith, is, length-append j.stretch.packets (packets_of js))) is_job)
 
-packets-push : (jobs : List Job) (job : Job) → packets_of (jobs ++ job ∷ []) ≡ packets_of jobs ++ job.stretch.packets
-packets-push jobs job = flat_map-append (λ (j : Job). j.stretch.packets) jobs (job ∷ []) ∙ ap (λ l. packets_of jobs ++ l) (append-nil job.stretch.packets)
+packets-push : (jobs : List DrawingJob) (job : DrawingJob) → packets_of (jobs ++ job ∷ []) ≡ packets_of jobs ++ job.stretch.packets
+packets-push jobs job = flat_map-append (λ (j : DrawingJob). j.stretch.packets) jobs (job ∷ []) ∙ ap (λ l. packets_of jobs ++ l) (append-nil job.stretch.packets)
 
-pub count-push : (jobs : List Job) (job : Job) → length (packets_of (jobs ++ job ∷ [])) ≡ length (packets_of jobs) + length job.stretch.packets
+pub count-push : (jobs : List DrawingJob) (job : DrawingJob) → length (packets_of (jobs ++ job ∷ [])) ≡ length (packets_of jobs) + length job.stretch.packets
 count-push jobs job = ap (λ (l : List (List ℕ)). length l) (packets-push jobs job) ∙ length-append (packets_of jobs) job.stretch.packets
 
-pub octets-push : (jobs : List Job) (job : Job) (octets left rest : List ℕ) → octets ≡ concat (packets_of jobs) ++ left → left ≡ concat job.stretch.packets ++ rest
+pub octets-push : (jobs : List DrawingJob) (job : DrawingJob) (octets left rest : List ℕ) → octets ≡ concat (packets_of jobs) ++ left → left ≡ concat job.stretch.packets ++ rest
     → octets ≡ concat (packets_of (jobs ++ job ∷ [])) ++ rest
 octets-push jobs job octets left rest front behind =
     front ∙ ap (λ l. concat (packets_of jobs) ++ l) behind ∙ sym (append_assoc (concat (packets_of jobs)) (concat job.stretch.packets) rest)
     ∙ ap (λ l. l ++ rest) (sym (ap concat (packets-push jobs job) ∙ concat-append (packets_of jobs) job.stretch.packets))
 
 -- jobs that are drawn are jobs of the same packets
-pub drawn-jobs : (db : Database) (number : ℕ) (jobs done : List Job) → AllZip (IsDrawn db) jobs done → AreJobs db number jobs → AreJobs db number done × (packets_of done ≡ packets_of jobs)
+pub drawn-jobs : (db : Database) (number : ℕ) (jobs done : List DrawingJob) → AllZip (IsDrawn db) jobs done → AreJobs db number jobs → AreJobs db number done × (packets_of done ≡ packets_of jobs)
 drawn-jobs db number [] [] drawn are = (tt, refl)
 drawn-jobs db number [] (d ∷ ds) drawn are = absurd drawn
 drawn-jobs db number (j ∷ js) [] drawn are = absurd drawn
@@ -142,21 +142,21 @@ drawn-jobs db number (j ∷ js) (d ∷ ds) (one, others) (same, each, are) =
     )
 
 -- a job that nobody draws
-pub drawn_same : (db : Database) (job : Job) → IsDrawn db job job
+pub drawn_same : (db : Database) (job : DrawingJob) → IsDrawn db job job
 drawn_same db job = record { number = refl; stretch = refl; job = λ is_job. is_job }
 
-jobs-packets : (db : Database) (number : ℕ) (jobs : List Job) → AreJobs db number jobs → All IsPacket (packets_of jobs)
+jobs-packets : (db : Database) (number : ℕ) (jobs : List DrawingJob) → AreJobs db number jobs → All IsPacket (packets_of jobs)
 jobs-packets db number [] are = All-nil IsPacket
 jobs-packets db number (j ∷ js) (same, each, are) = All-append IsPacket j.stretch.packets (packets_of js) each.are_packets (jobs-packets db (number + length j.stretch.packets) js are)
 
 -- a job, and where its packets stand
-record Stands (db : Database) (number : ℕ) (jobs : List Job) (job : Job) : Type 0 where
+record Stands (db : Database) (number : ℕ) (jobs : List DrawingJob) (job : DrawingJob) : Type 0 where
   is_job : IsJob db job
   order : number ≤ job.number
   more : List (List ℕ)
   place : drop (job.number - number) (packets_of jobs) ≡ job.stretch.packets ++ more
 
-stands-at : (db : Database) (number : ℕ) (jobs : List Job) (i : ℕ) (d : Job) → i < length jobs → AreJobs db number jobs → Stands db number jobs (get_or jobs i d)
+stands-at : (db : Database) (number : ℕ) (jobs : List DrawingJob) (i : ℕ) (d : DrawingJob) → i < length jobs → AreJobs db number jobs → Stands db number jobs (get_or jobs i d)
 stands-at db number [] i d below are = absurd (omega (arith, below))
 stands-at db number (j ∷ js) zero d below (same, each, are) =
     let none : j.number - number ≡ 0 = omega (arith, same) in
@@ -172,7 +172,7 @@ stands-at db number (j ∷ js) (suc i) d below (same, each, are) =
       place = drop-past j.stretch.packets (packets_of js) (job.number - number) (job.number - next) (omega (arith, s.order)) ∙ s.place;
     }
 
-module _ (db : Database) (number : ℕ) (jobs : List Job) (i : ℕ) (job : Job) (below : i < length jobs) (is : job ≡ get_or jobs i job) (dealt : AreDealt db number jobs) where
+module _ (db : Database) (number : ℕ) (jobs : List DrawingJob) (i : ℕ) (job : DrawingJob) (below : i < length jobs) (is : job ≡ get_or jobs i job) (dealt : AreDealt db number jobs) where
   found : Stands db (first_of jobs) jobs job
   found = subst (Stands db (first_of jobs) jobs) (sym is) (stands-at db (first_of jobs) jobs i job below dealt.0)
 
@@ -187,17 +187,17 @@ module _ (db : Database) (number : ℕ) (jobs : List Job) (i : ℕ) (job : Job) 
       (concat found.more ++ rest, whole ∙ ap (λ l. l ++ rest) (concat-append job.stretch.packets found.more) ∙ append_assoc (concat job.stretch.packets) (concat found.more) rest)
 
 -- packets of which none was read yet
-pub dealt-first : (db : Database) (number : ℕ) (jobs : List Job) → AreJobs db number jobs → AreDealt db number jobs × (packets_from number jobs ≡ packets_of jobs)
+pub dealt-first : (db : Database) (number : ℕ) (jobs : List DrawingJob) → AreJobs db number jobs → AreDealt db number jobs × (packets_from number jobs ≡ packets_of jobs)
 dealt-first db number [] are = ((tt, omega arith), drop_all (number - 0) [] (omega arith))
 dealt-first db number (j ∷ js) are =
     let none : number - j.number ≡ 0 = omega (arith, are.0) in
     ((subst (λ n. AreJobs db n (j ∷ js)) (sym are.0) are, omega (arith, are.0)), ap (λ n. drop n (packets_of (j ∷ js))) none)
 
-pub dealt-next : (db : Database) (number next : ℕ) (jobs : List Job) → number ≤ next → AreDealt db number jobs → AreDealt db next jobs
+pub dealt-next : (db : Database) (number next : ℕ) (jobs : List DrawingJob) → number ≤ next → AreDealt db number jobs → AreDealt db next jobs
 dealt-next db number next jobs more (are, order) = (are, omega (arith, order, more))
 
 -- packets were read, and the others come
-pub come-next : (db : Database) (number next : ℕ) (jobs : List Job) (packets : List (List ℕ)) (start left new : Option (List ℕ)) → AreDealt db number jobs
+pub come-next : (db : Database) (number next : ℕ) (jobs : List DrawingJob) (packets : List (List ℕ)) (start left new : Option (List ℕ)) → AreDealt db number jobs
     → Reads filled.Paused start number next packets left new → IfSome start (λ octets. Come (packets_from number jobs) left) → IfSome start (λ octets. Come (packets_from next jobs) new)
 come-next db number next jobs packets None left new dealt reads come = tt
 come-next db number next jobs packets (Some octets) left new dealt reads come =
@@ -217,7 +217,7 @@ come-next db number next jobs packets (Some octets) left new dealt reads come =
 
 -- ---- jobs without packets
 
-pub unused-jobs : (db : Database) (jobs : List Job) → All IsUnused jobs → AreJobs db 0 jobs × (packets_of jobs ≡ [])
+pub unused-jobs : (db : Database) (jobs : List DrawingJob) → All IsUnused jobs → AreJobs db 0 jobs × (packets_of jobs ≡ [])
 unused-jobs db [] each = (tt, refl)
 unused-jobs db (j ∷ js) each =
     let u = All-head IsUnused j js each in
@@ -236,13 +236,13 @@ unused-jobs db (j ∷ js) each =
     )
 
 -- nothing is expected at the start of a run
-pub unused-dealt : (db : Database) (jobs : List Job) → All IsUnused jobs → AreDealt db 1 jobs
+pub unused-dealt : (db : Database) (jobs : List DrawingJob) → All IsUnused jobs → AreDealt db 1 jobs
 unused-dealt db [] each = (tt, omega arith)
 unused-dealt db (j ∷ js) each =
     let (are, nothing) = unused-jobs db (j ∷ js) each in
     (subst (λ n. AreJobs db n (j ∷ js)) (sym are.0) are, omega (arith, are.0))
 
-pub unused-come : (db : Database) (jobs : List Job) (start : Option (List ℕ)) → All IsUnused jobs → IfSome start (λ octets. Come (packets_from 1 jobs) start)
+pub unused-come : (db : Database) (jobs : List DrawingJob) (start : Option (List ℕ)) → All IsUnused jobs → IfSome start (λ octets. Come (packets_from 1 jobs) start)
 unused-come db jobs None each = tt
 unused-come db jobs (Some octets) each =
     let (are, nothing) = unused-jobs db jobs each in

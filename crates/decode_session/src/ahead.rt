@@ -11,8 +11,8 @@ ghost use Rattle.packet_feed.specs.Feed.{source_of};
 
 use crate::alone::AT_ONCE;
 use crate::batch::MOST_PACKETS;
-use crate::drawing::{Drawing, Tool};
-use crate::job::Job;
+use crate::drawing::{Drawing, DrawingTool};
+use crate::job::DrawingJob;
 use decode_pool::run_batch;
 use edition_plans::Plans;
 use packet_feed::{Feed, packet_at};
@@ -35,7 +35,7 @@ const MOST_JOBS: usize = 16;
 const MOST_DEALT: u64 = 1_024;
 
 // Deals the packets that octets begin with, numbered from a number on, and tells the number behind them.
-fn deal(number: u64, octets: &[u8], jobs: &mut [Job]) -> u64
+fn deal(number: u64, octets: &[u8], jobs: &mut [DrawingJob]) -> u64
     requires some { 0 < length jobs.old }
     requires few { length jobs.old ≤ MOST_JOBS }
     requires low { number + MOST_DEALT ≤ most_packets }
@@ -59,10 +59,10 @@ fn draw_jobs<P: Plans + Sync, R: Threads + Sync>(
     rt: &R,
     plans: &P,
     demands: &[Demand],
-    tools: &[Mutex<Tool>],
+    tools: &[Mutex<DrawingTool>],
     number: u64,
     octets: &[u8],
-    jobs: &mut [Job],
+    jobs: &mut [DrawingJob],
     workers: u8,
 ) -> u64
     requires workers { 1 ≤ workers }
@@ -87,8 +87,8 @@ fn draw_jobs<P: Plans + Sync, R: Threads + Sync>(
 /// Jobs, what they are drawn with, the first that may come next, and the number behind their packets.
 #[derive(Drop)]
 pub(crate) struct Ahead {
-    pub jobs: Vec<Job>,
-    tools: Vec<Mutex<Tool>>,
+    pub jobs: Vec<DrawingJob>,
+    tools: Vec<Mutex<DrawingTool>>,
     next: usize,
     end: u64,
     ghost few: { vec_len jobs ≤ MOST_JOBS },
@@ -102,13 +102,13 @@ fn jobs_for(workers: u8) -> usize
 }
 
 // So many jobs. An error is want of memory.
-fn new_jobs(alloc: Global, count: usize) -> Result<Vec<Job>, AllocError>
+fn new_jobs(alloc: Global, count: usize) -> Result<Vec<DrawingJob>, AllocError>
     ensures count { IfOk result (λ jobs. vec_len jobs ≡ count) }
     ensures unused { IfOk result (λ jobs. All IsUnused jobs.items) }
 {
     let mut jobs = Vec::with_capacity(alloc, count)?;
     for _job in 0..count {
-        jobs.push(Job::new(alloc)?)?;
+        jobs.push(DrawingJob::new(alloc)?)?;
     }
     Ok(jobs)
 }
@@ -118,10 +118,10 @@ fn new_tools<P: Plans>(
     alloc: Global,
     plans: &P,
     count: usize,
-) -> Result<Vec<Mutex<Tool>>, AllocError> {
+) -> Result<Vec<Mutex<DrawingTool>>, AllocError> {
     let mut tools = Vec::with_capacity(alloc, count)?;
     for _tool in 0..count {
-        tools.push(Mutex::new(Tool::new(alloc, plans.params())?))?;
+        tools.push(Mutex::new(DrawingTool::new(alloc, plans.params())?))?;
     }
     Ok(tools)
 }
@@ -198,7 +198,7 @@ impl Ahead {
     }
 
     /// The job whose packets come next, from the one of this number on, where some of them are drawn.
-    pub fn job(&self, number: u64) -> Option<&Job>
+    pub fn job(&self, number: u64) -> Option<&DrawingJob>
         ensures number { IfSome result (λ job. job.now.number ≡ number) }
         ensures some { IfSome result (λ job. 0 < job.now.drawn) }
         ensures job { (db : Database) → AreDealt db number self.now.jobs.items → IfSome result (λ job. IsJob db job.now) }

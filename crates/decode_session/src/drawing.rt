@@ -4,7 +4,7 @@ ghost use Rattle.decode_session.specs.Ahead.{IsDrawn};
 ghost use Rattle.decode_session.specs.Finishing.{AreDemandsIn};
 ghost use Rattle.mib_model.specs.Fixed.{most_values};
 
-use crate::job::Job;
+use crate::job::DrawingJob;
 use crate::stock::{unheard, unused};
 use bit_field::MOST_VALUES;
 use decode_one::Half;
@@ -20,17 +20,17 @@ use std::sync::{Mutex, MutexGuard};
 
 /// What one thread draws with: slots for the values of a packet, its half, and what finds plans.
 #[derive(Drop)]
-pub(crate) struct Tool {
+pub(crate) struct DrawingTool {
     slots: Vec<Value>,
     half: Half,
     places: Places,
     ghost slot_count: { vec_len slots ≡ most_values },
 }
 
-impl Tool {
+impl DrawingTool {
     /// What draws by these plans. An error is want of memory.
-    pub fn new(alloc: Global, params: &Params) -> Result<Tool, AllocError> {
-        Ok(Tool {
+    pub fn new(alloc: Global, params: &Params) -> Result<DrawingTool, AllocError> {
+        Ok(DrawingTool {
             slots: Vec::from_elem(alloc, unused(), MOST_VALUES as usize)?,
             half: unheard(),
             places: Places::new(alloc, params)?,
@@ -43,11 +43,11 @@ impl Tool {
 pub(crate) struct Drawing<'a, P> {
     pub plans: &'a P,
     pub demands: &'a [Demand],
-    pub tools: &'a [Mutex<Tool>],
+    pub tools: &'a [Mutex<DrawingTool>],
 }
 
 // A tool that no other thread has. There are as many as threads.
-fn free_tool(tools: &[Mutex<Tool>]) -> Option<MutexGuard<'_, Tool>> {
+fn free_tool(tools: &[Mutex<DrawingTool>]) -> Option<MutexGuard<'_, DrawingTool>> {
     for tool in tools {
         if let Some(tool) = tool.try_lock() {
             return Some(tool);
@@ -57,7 +57,7 @@ fn free_tool(tools: &[Mutex<Tool>]) -> Option<MutexGuard<'_, Tool>> {
 }
 
 // Draws the packets of a job.
-fn draw_job<P: Plans>(plans: &P, demands: &[Demand], tool: &mut Tool, job: &mut Job)
+fn draw_job<P: Plans>(plans: &P, demands: &[Demand], tool: &mut DrawingTool, job: &mut DrawingJob)
     ensures { AreDemandsIn (P.tables plans.now) demands.now → IsDrawn (P.tables plans.now) job.old job.new }
 {
     job.drawn = draw_stretch(
@@ -73,12 +73,12 @@ fn draw_job<P: Plans>(plans: &P, demands: &[Demand], tool: &mut Tool, job: &mut 
 }
 
 impl<P: Plans + Sync> Work for Drawing<'_, P> {
-    type Cell = Job;
+    type Cell = DrawingJob;
 
     ghost made = { λ work before after. AreDemandsIn (P.tables work.plans.now) work.demands.now → IsDrawn (P.tables work.plans.now) before after };
 
     #[tactic(auto, using(crate::proofs::AheadFacts::drawn_same))]
-    fn work(&self, job: &mut Job) {
+    fn work(&self, job: &mut DrawingJob) {
         let Some(mut tool) = free_tool(self.tools) else {
             return;
         };

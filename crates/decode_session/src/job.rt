@@ -13,7 +13,7 @@ const MOST_AHEAD: usize = 64;
 
 /// Packets, numbered from a number on, and the sheet of the first of them, so many.
 #[derive(Drop)]
-pub(crate) struct Job {
+pub(crate) struct DrawingJob {
     pub number: u64,
     pub stretch: Stretch,
     pub drawn: usize,
@@ -22,7 +22,7 @@ pub(crate) struct Job {
     ghost low: { number + length stretch.packets ≤ most_packets },
 }
 
-impl Numbered for Job {
+impl Numbered for DrawingJob {
     ghost number_of = { λ job. job.number };
 
     fn number(&self) -> u64 {
@@ -30,17 +30,17 @@ impl Numbered for Job {
     }
 }
 
-impl Job {
+impl DrawingJob {
     ghost use Rattle.std.specs.Prelude.{◌≡◌, take, IfOk};
     ghost use Rattle.std.specs.List.{concat};
     ghost use Rattle.decode_session.specs.Ahead.{IsJob, IsUnused};
     ghost use Rattle.mib_model.specs.declared.database.Database.{Database};
 
     /// No packets. An error is want of memory.
-    pub fn new(alloc: Global) -> Result<Job, AllocError>
+    pub fn new(alloc: Global) -> Result<DrawingJob, AllocError>
         ensures { IfOk result (λ job. IsUnused job) }
     {
-        Ok(Job {
+        Ok(DrawingJob {
             number: 0,
             stretch: Stretch::new(alloc)?,
             drawn: 0,

@@ -19,7 +19,7 @@ ghost use Rattle.packet_feed.specs.declared.feed.TheConstants.{PACKET_SIZE};
 ghost use Rattle.tm_io.specs.Causes.{HasCause};
 
 use crate::batch::Filled;
-use crate::job::Job;
+use crate::job::DrawingJob;
 use crate::room::{Buffers, Room};
 use decode_one::{finish, play_sheet};
 use edition_plans::Plans;
@@ -87,7 +87,7 @@ fn add_record<P: Plans>(
 // Writes the records of the first packets of a job, so many, each by itself.
 fn write_each<P: Plans, O: Sink>(
     count: usize,
-    job: &Job,
+    job: &DrawingJob,
     plans: &P,
     demands: &[Demand],
     room: &mut Room,
@@ -126,7 +126,7 @@ fn write_each<P: Plans, O: Sink>(
 
 // Writes the records of the packets of a job that are drawn.
 fn write_sheet<P: Plans, O: Sink>(
-    job: &Job,
+    job: &DrawingJob,
     plans: &P,
     board: &mut Board,
     lines: &mut Lines,
@@ -149,7 +149,7 @@ fn write_sheet<P: Plans, O: Sink>(
 
 /// Reads the packets of a job that are drawn, and writes their records.
 pub(crate) fn print_job<P: Plans, S: Source, O: Sink>(
-    job: &Job,
+    job: &DrawingJob,
     plans: &P,
     demands: &[Demand],
     feed: &mut Feed<S>,
@@ -174,8 +174,8 @@ pub(crate) fn print_job<P: Plans, S: Source, O: Sink>(
     ensures some { result.1 ≡ Filled.Paused → job.now.number < result.0 }
     ensures few { result.0 ≤ job.now.number + most_in_flight }
     ensures limit { result.0 ≤ most_packets }
-    ensures cause { HasFillCause result.1 (S.faults (source_of feed.old)) (S.faults (source_of feed.new)) }
-    ensures out { HasCause (O.faults out.old) (O.faults out.new) result.2 }
+    ensures causes { HasFillCause result.1 (S.faults (source_of feed.old)) (S.faults (source_of feed.new))
+        × HasCause (O.faults out.old) (O.faults out.new) result.2 }
     ensures kept { SourceStays S.holds S.missed S.borrow (source_of feed.old) (source_of feed.new) }
 {
     let (count, filled) = read_packets(job.drawn, feed, room);

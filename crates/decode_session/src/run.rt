@@ -19,7 +19,7 @@ use crate::alone::add_batch;
 use crate::batch::{Filled, MOST_PACKETS};
 use crate::ending::{RunEnd, RunFault, Stop};
 use crate::playing::print_job;
-use crate::stock::Stock;
+use crate::stock::RunStock;
 use edition_plans::Plans;
 use packet_feed::Feed;
 use record_text::{Lines, cut_line};
@@ -55,7 +55,7 @@ fn print_next<P: Plans, S: Source, O: Sink>(
     number: u64,
     plans: &P,
     feed: &mut Feed<S>,
-    stock: &mut Stock,
+    stock: &mut RunStock,
     out: &mut O,
 ) -> (u64, Filled, Result<(), Failed>)
     requires number { number ≤ most_packets }
@@ -79,7 +79,7 @@ fn print_next<P: Plans, S: Source, O: Sink>(
     ensures out { HasCause (O.faults out.old) (O.faults out.new) result.2 }
     ensures kept { SourceStays S.holds S.missed S.borrow (source_of feed.old) (source_of feed.new) }
 {
-    let Stock {
+    let RunStock {
         room,
         board,
         demands,
@@ -101,7 +101,7 @@ fn run_in<P: Plans + Sync, S: Source, O: Sink, R: Threads + Sync>(
     rt: &R,
     plans: &P,
     feed: &mut Feed<S>,
-    stock: &mut Stock,
+    stock: &mut RunStock,
     out: &mut O,
     workers: u8,
 ) -> Result<RunEnd, RunFault>
@@ -165,7 +165,7 @@ pub fn decode_run<P: Plans + Sync, S: Source, O: Sink, R: Threads + Sync>(
     ensures missed { S.missed source.new ≡ S.missed source.old }
     ensures untouched { result ≡ Err (RunFault.Print Stop.Memory) → (source.new ≡ source.old) × (out.new ≡ out.old) }
 {
-    let Ok(mut stock) = Stock::new(alloc, plans, workers) else {
+    let Ok(mut stock) = RunStock::new(alloc, plans, workers) else {
         return Err(RunFault::Print(Stop::Memory));
     };
     let mut feed = Feed::new(source);

@@ -30,7 +30,7 @@ pub struct Home {
 
 /// What a run needs: a room for the packet that is read; what is kept from packet to packet, and what is demanded of values; the text of
 /// records; and what is drawn ahead.
-pub(crate) struct Stock {
+pub(crate) struct RunStock {
     pub room: Room,
     pub board: Board,
     pub demands: Vec<Demand>,
@@ -39,9 +39,9 @@ pub(crate) struct Stock {
 }
 
 /// By hand, so that whoever lets one go proves one call.
-impl Drop for Stock {
+impl Drop for RunStock {
     fn drop(self) {
-        let Stock {
+        let RunStock {
             room: _room,
             board: _board,
             demands: _demands,
@@ -179,14 +179,18 @@ fn one_room(alloc: Global) -> Result<Room, AllocError> {
     home.take_room(alloc, 1, 0)
 }
 
-impl Stock {
+impl RunStock {
     /// What a run of so many workers needs that begins by these plans, which keeps nothing yet. An error is want of memory.
-    pub(crate) fn new<P: Plans>(alloc: Global, plans: &P, workers: u8) -> Result<Stock, AllocError>
+    pub(crate) fn new<P: Plans>(
+        alloc: Global,
+        plans: &P,
+        workers: u8,
+    ) -> Result<RunStock, AllocError>
         ensures stock { IfOk result (λ stock. IsStockOf (P.tables plans.now) stock) }
         ensures unused { IfOk result (λ stock. All IsUnused stock.ahead.jobs.items) }
         ensures memory { IfOk result (λ stock. memory_of stock.board ≡ empty_memory) }
     {
-        Ok(Stock {
+        Ok(RunStock {
             room: one_room(alloc)?,
             board: Board::new(alloc, plans.params())?,
             demands: demands_of(alloc, plans.params())?,

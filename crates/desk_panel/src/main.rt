@@ -6,10 +6,10 @@
 
 use desk_panel_tool::panel_tool;
 use mib_model::Line;
-use run_model::Code;
 use panel_session::Station;
 use program_ends::{Ending, arguments};
 use reply_text::code_line;
+use run_model::Code;
 use std::alloc::{AllocError, Global};
 use std::process::ExitCode;
 use std::rt::{Stderr, Stdout};
@@ -23,7 +23,7 @@ type FileStation = Station<FileShelf<HostRuntime>, StdSink<Stderr>>;
 
 // The files and streams that a call is handed.
 #[derive(Drop)]
-struct Outside {
+struct PanelOutside {
     tables: FileShelf<HostRuntime>,
     feed: FileShelf<HostRuntime>,
     stations: [FileStation; MOST_DESKS],
@@ -37,9 +37,9 @@ fn station(rt: HostRuntime) -> Result<FileStation, AllocError> {
     })
 }
 
-impl Outside {
-    fn new(rt: HostRuntime) -> Result<Outside, AllocError> {
-        Ok(Outside {
+impl PanelOutside {
+    fn new(rt: HostRuntime) -> Result<PanelOutside, AllocError> {
+        Ok(PanelOutside {
             tables: FileShelf::new(rt, rt.alloc())?,
             feed: FileShelf::new(rt, rt.alloc())?,
             stations: [station(rt)?, station(rt)?, station(rt)?, station(rt)?],
@@ -49,13 +49,13 @@ impl Outside {
 }
 
 // The words, and real files and streams.
-fn prepare(rt: HostRuntime) -> Result<(Vec<String>, Outside), Code> {
+fn prepare(rt: HostRuntime) -> Result<(Vec<String>, PanelOutside), Code> {
     let words = match arguments(&rt) {
         Ok(words) => words,
         Err(WordsFault::Misuse(misuse)) => return Err(Code::Usage(misuse)),
         Err(WordsFault::Memory) => return Err(Code::Want),
     };
-    match Outside::new(rt) {
+    match PanelOutside::new(rt) {
         Ok(outside) => Ok((words, outside)),
         Err(_) => Err(Code::Want),
     }
@@ -66,9 +66,9 @@ fn call<X: Threads + Wait + Sync>(
     rt: &X,
     alloc: Global,
     words: &[String],
-    outside: &mut Outside,
+    outside: &mut PanelOutside,
 ) -> Code {
-    let Outside {
+    let PanelOutside {
         tables,
         feed,
         stations,

@@ -9,8 +9,8 @@ ghost use Rattle.tool_words.specs.Requests.{texts};
 
 use edition::Edition;
 use folder_edition::{folder_edition, let_go};
-use run_model::{Code, Input};
 use panel_session::Station;
+use run_model::{Code, Input};
 use std::alloc::Global;
 use tm_io::{Shelf, Sink};
 use tool_words::PanelRequest;

@@ -18,7 +18,7 @@ use tool_words::WordsFault;
 
 // The files and streams that a call is handed.
 #[derive(Drop)]
-struct Outside {
+struct BoardOutside {
     tables: FileShelf<HostRuntime>,
     feed: FileShelf<HostRuntime>,
     desk: FileShelf<HostRuntime>,
@@ -28,9 +28,9 @@ struct Outside {
     screen: StdSink<Stderr>,
 }
 
-impl Outside {
-    fn new(rt: HostRuntime) -> Result<Outside, AllocError> {
-        Ok(Outside {
+impl BoardOutside {
+    fn new(rt: HostRuntime) -> Result<BoardOutside, AllocError> {
+        Ok(BoardOutside {
             tables: FileShelf::new(rt, rt.alloc())?,
             feed: FileShelf::new(rt, rt.alloc())?,
             desk: FileShelf::new(rt, rt.alloc())?,
@@ -43,13 +43,13 @@ impl Outside {
 }
 
 // The words, and real files and streams.
-fn prepare(rt: HostRuntime) -> Result<(Vec<String>, Outside), BoardCode> {
+fn prepare(rt: HostRuntime) -> Result<(Vec<String>, BoardOutside), BoardCode> {
     let words = match arguments(&rt) {
         Ok(words) => words,
         Err(WordsFault::Misuse(misuse)) => return Err(BoardCode::Usage(misuse)),
         Err(WordsFault::Memory) => return Err(BoardCode::Want),
     };
-    match Outside::new(rt) {
+    match BoardOutside::new(rt) {
         Ok(outside) => Ok((words, outside)),
         Err(_) => Err(BoardCode::Want),
     }
@@ -60,9 +60,9 @@ fn call<X: Threads + Wait + Sync>(
     rt: &X,
     alloc: Global,
     words: &[String],
-    outside: &mut Outside,
+    outside: &mut BoardOutside,
 ) -> BoardCode {
-    let Outside {
+    let BoardOutside {
         tables,
         feed,
         desk,

@@ -3,8 +3,8 @@ ghost use Rattle.std.specs.Prelude.{◌≡◌};
 ghost use Rattle.std.specs.Result.{is_err};
 ghost use Rattle.live_board_tool.specs.Codes.{code_by, code_of_live};
 
-use run_model::{Code, Input};
 use page_texts::{BoardCode, BoardInput};
+use run_model::{Code, Input};
 use tm_io::Failed;
 
 // The end of a board that ends as its live run does.

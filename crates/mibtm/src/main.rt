@@ -5,13 +5,12 @@
 #![tactic(auto)]
 
 use mib_model::Line;
-
-use run_model::Code;
 use mibtm_audit::audit_tool;
 use mibtm_build::{BuildCode, build_tool};
 use mibtm_tool::tool;
 use program_ends::{Ending, arguments};
 use reply_text::code_line;
+use run_model::Code;
 use std::alloc::{AllocError, Global};
 use std::process::ExitCode;
 use std::rt::{Stderr, Stdout};
@@ -52,7 +51,7 @@ fn ending_of_audit(code: &AuditCode) -> Ending {
 
 // The files and streams that a call is handed.
 #[derive(Drop)]
-struct Outside {
+struct ToolOutside {
     tables: FileShelf<HostRuntime>,
     feed: FileShelf<HostRuntime>,
     desk: FileShelf<HostRuntime>,
@@ -61,9 +60,9 @@ struct Outside {
     replies: StdSink<Stderr>,
 }
 
-impl Outside {
-    fn new(rt: HostRuntime) -> Result<Outside, AllocError> {
-        Ok(Outside {
+impl ToolOutside {
+    fn new(rt: HostRuntime) -> Result<ToolOutside, AllocError> {
+        Ok(ToolOutside {
             tables: FileShelf::new(rt, rt.alloc())?,
             feed: FileShelf::new(rt, rt.alloc())?,
             desk: FileShelf::new(rt, rt.alloc())?,
@@ -75,9 +74,9 @@ impl Outside {
 }
 
 // The words, and real files and streams.
-fn prepare(rt: HostRuntime) -> Result<(Vec<String>, Outside), Code> {
+fn prepare(rt: HostRuntime) -> Result<(Vec<String>, ToolOutside), Code> {
     let words = arguments(&rt).map_err(code_of)?;
-    match Outside::new(rt) {
+    match ToolOutside::new(rt) {
         Ok(outside) => Ok((words, outside)),
         Err(_) => Err(Code::Want),
     }
@@ -88,9 +87,9 @@ fn call<X: Threads + Wait + Sync>(
     rt: &X,
     alloc: Global,
     words: &[String],
-    outside: &mut Outside,
+    outside: &mut ToolOutside,
 ) -> Ending {
-    let Outside {
+    let ToolOutside {
         tables,
         feed,
         desk,

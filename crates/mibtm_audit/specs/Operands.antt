@@ -5,7 +5,7 @@ use Rattle.std.specs.Str.{bytes_eq}
 use Rattle.run_model.specs.declared.code.Misuse.{Misuse}
 use Rattle.run_model.specs.declared.code.Misuse.TheVariants as misuse
 use Rattle.run_model.specs.Words.{is_option, is_standard}
-use Rattle.mibtm_audit.specs.declared.inputs.Inputs.{Inputs}
+use Rattle.mibtm_audit.specs.declared.inputs.AuditInputs.{AuditInputs}
 
 -- the names of a folder of tables, of a feed, of a desk's script and of a printed text
 pub record Named : Type 0 where
@@ -15,7 +15,7 @@ pub record Named : Type 0 where
   pub text : List ℕ
 
 -- the names of inputs
-abbrev pub named : Inputs → Named
+abbrev pub named : AuditInputs → Named
 named inputs = record { folder = inputs.folder.now; feed = inputs.feed.now; desk = inputs.desk.now; text = inputs.text.now }
 
 -- the word that ends the options

@@ -13,7 +13,7 @@ ghost use Rattle.tool_objects.specs.Objects.{shelf, sink};
 ghost use Rattle.tool_objects.specs.Sources.{sound_in};
 
 use crate::comparing::compare;
-use crate::inputs::{Inputs, inputs_in};
+use crate::inputs::{AuditInputs, inputs_in};
 use crate::text::text_of;
 use folder_tables::{Refusal, sound_book};
 use mib_model::Line;
@@ -205,7 +205,7 @@ fn audit_octets<F: Shelf, O: Sink>(
 fn audit_text<F: Shelf, X: Shelf, O: Sink>(
     alloc: Global,
     saved: &Saved,
-    inputs: &Inputs<'_>,
+    inputs: &AuditInputs<'_>,
     feed: &mut F,
     text: &mut X,
     out: &mut O,
@@ -227,7 +227,7 @@ fn audit_text<F: Shelf, X: Shelf, O: Sink>(
 fn audit_script<F: Shelf, D: Shelf, X: Shelf, O: Sink>(
     alloc: Global,
     book: Book,
-    inputs: &Inputs<'_>,
+    inputs: &AuditInputs<'_>,
     feed: &mut F,
     desk: &mut D,
     text: &mut X,
@@ -249,7 +249,7 @@ fn audit_script<F: Shelf, D: Shelf, X: Shelf, O: Sink>(
 // Audits the text of a name by the tables of a folder, a script and a feed.
 fn audit_by<T: Shelf, F: Shelf, D: Shelf, X: Shelf, O: Sink>(
     alloc: Global,
-    inputs: &Inputs<'_>,
+    inputs: &AuditInputs<'_>,
     tables: &mut T,
     feed: &mut F,
     desk: &mut D,

@@ -9,7 +9,7 @@ use run_model::Misuse;
 
 /// A folder of tables, a feed, a desk's script and a printed text.
 #[derive(Clone, Copy)]
-pub(crate) struct Inputs<'a> {
+pub(crate) struct AuditInputs<'a> {
     pub folder: &'a str,
     pub feed: &'a str,
     pub desk: &'a str,
@@ -91,7 +91,7 @@ fn is_shared(feed: &str, desk: &str, text: &str) -> bool
 }
 
 // The inputs that four words name, which are all but the one at `end`.
-fn inputs_at(words: &[String], end: usize) -> Option<Inputs<'_>>
+fn inputs_at(words: &[String], end: usize) -> Option<AuditInputs<'_>>
     requires end { end ≤ length words.now }
     requires four { length (without end (map string_bytes words.now)) ≡ 4 }
     ensures { option_map named result ≡ four (without end (map string_bytes words.now)) }
@@ -102,7 +102,7 @@ fn inputs_at(words: &[String], end: usize) -> Option<Inputs<'_>>
     if is_shared(feed, desk, text) {
         return None;
     }
-    Some(Inputs {
+    Some(AuditInputs {
         folder: operand(words, end, 0),
         feed,
         desk,
@@ -111,7 +111,7 @@ fn inputs_at(words: &[String], end: usize) -> Option<Inputs<'_>>
 }
 
 // The inputs that the words behind the command are.
-fn inputs_of(words: &[String]) -> Option<Inputs<'_>>
+fn inputs_of(words: &[String]) -> Option<AuditInputs<'_>>
     ensures { option_map named result ≡ inputs_by (map string_bytes words.now) }
 {
     let end = before_end(words);
@@ -125,7 +125,7 @@ fn inputs_of(words: &[String]) -> Option<Inputs<'_>>
 }
 
 /// The inputs that the words behind the program's name are.
-pub(crate) fn inputs_in(words: &[String]) -> Result<Inputs<'_>, Misuse>
+pub(crate) fn inputs_in(words: &[String]) -> Result<AuditInputs<'_>, Misuse>
     ensures { result_map_both named (λ misuse. misuse) result ≡ inputs_in (map string_bytes words.now) }
 {
     match words {

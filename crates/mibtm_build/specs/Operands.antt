@@ -4,7 +4,7 @@ use Rattle.std.specs.Str.{bytes_eq}
 use Rattle.run_model.specs.declared.code.Misuse.{Misuse}
 use Rattle.run_model.specs.declared.code.Misuse.TheVariants as misuse
 use Rattle.run_model.specs.Words.{is_option}
-use Rattle.mibtm_build.specs.declared.inputs.Inputs.{Inputs}
+use Rattle.mibtm_build.specs.declared.inputs.BuildInputs.{BuildInputs}
 
 -- the names of a folder of tables and of a file of asks
 pub record Named : Type 0 where
@@ -12,7 +12,7 @@ pub record Named : Type 0 where
   pub asks : List ℕ
 
 -- the names of inputs
-abbrev pub named : Inputs → Named
+abbrev pub named : BuildInputs → Named
 named inputs = record { folder = inputs.folder.now; asks = inputs.asks.now }
 
 -- the words of a command that takes no options: `--` ends them, and before it a word that looks like one is refused

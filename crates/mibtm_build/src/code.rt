@@ -6,8 +6,8 @@ ghost use Rattle.mibtm_build.specs.Codes.{build_line, build_number};
 
 use build_rules::BuildFault;
 use mib_model::{Line, MibFault};
-use run_model::{Code, Input, Misuse};
 use reply_text::{add_number, code_line};
+use run_model::{Code, Input, Misuse};
 
 /// How a call of `build_tool` ends. There is no feed and there are no replies, so their faults never come.
 #[derive(Clone, Copy)]

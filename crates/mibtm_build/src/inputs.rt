@@ -8,7 +8,7 @@ use run_model::Misuse;
 
 /// A folder of tables, and the file of asks.
 #[derive(Clone, Copy)]
-pub(crate) struct Inputs<'a> {
+pub(crate) struct BuildInputs<'a> {
     pub folder: &'a str,
     pub asks: &'a str,
 }
@@ -21,7 +21,7 @@ fn is_option(word: &str) -> bool
 }
 
 // Two words, of which none is an option.
-fn plain<'a>(folder: &'a str, asks: &'a str) -> Option<Inputs<'a>>
+fn plain<'a>(folder: &'a str, asks: &'a str) -> Option<BuildInputs<'a>>
     ensures { option_map named result ≡ inputs_by (folder.now ∷ asks.now ∷ []) }
 {
     if is_option(folder) {
@@ -30,15 +30,15 @@ fn plain<'a>(folder: &'a str, asks: &'a str) -> Option<Inputs<'a>>
     if is_option(asks) {
         return None;
     }
-    Some(Inputs { folder, asks })
+    Some(BuildInputs { folder, asks })
 }
 
 // Three words, of which one ends the options.
-fn around_end<'a>(first: &'a str, second: &'a str, third: &'a str) -> Option<Inputs<'a>>
+fn around_end<'a>(first: &'a str, second: &'a str, third: &'a str) -> Option<BuildInputs<'a>>
     ensures { option_map named result ≡ inputs_by (first.now ∷ second.now ∷ third.now ∷ []) }
 {
     if first == "--" {
-        return Some(Inputs {
+        return Some(BuildInputs {
             folder: second,
             asks: third,
         });
@@ -47,7 +47,7 @@ fn around_end<'a>(first: &'a str, second: &'a str, third: &'a str) -> Option<Inp
         return None;
     }
     if second == "--" {
-        return Some(Inputs {
+        return Some(BuildInputs {
             folder: first,
             asks: third,
         });
@@ -56,7 +56,7 @@ fn around_end<'a>(first: &'a str, second: &'a str, third: &'a str) -> Option<Inp
         return None;
     }
     if third == "--" {
-        return Some(Inputs {
+        return Some(BuildInputs {
             folder: first,
             asks: second,
         });
@@ -65,7 +65,7 @@ fn around_end<'a>(first: &'a str, second: &'a str, third: &'a str) -> Option<Inp
 }
 
 // The inputs that the words behind the command are.
-fn inputs_of(words: &[String]) -> Option<Inputs<'_>>
+fn inputs_of(words: &[String]) -> Option<BuildInputs<'_>>
     ensures { option_map named result ≡ inputs_by (map string_bytes words.now) }
 {
     match words {
@@ -78,7 +78,7 @@ fn inputs_of(words: &[String]) -> Option<Inputs<'_>>
 }
 
 /// The inputs that the words behind the program's name are.
-pub(crate) fn inputs_in(words: &[String]) -> Result<Inputs<'_>, Misuse>
+pub(crate) fn inputs_in(words: &[String]) -> Result<BuildInputs<'_>, Misuse>
     ensures { result_map_both named (λ misuse. misuse) result ≡ inputs_in (map string_bytes words.now) }
 {
     match words {

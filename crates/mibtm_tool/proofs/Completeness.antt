@@ -1,5 +1,5 @@
 -- Where nothing fails, a call decodes the feed whole.
-use Rattle.std.proofs.Common.{◌≡◌, ℕ, List, [], ◌++◌, Option, Some, None, Result, Ok, Err, IfSome, IsOkAnd, IsSomeAnd, inl, inr, refl, ap, ◌∙◌, arith, append-nil, append_assoc, subst}
+use Rattle.std.proofs.Common.{◌≡◌, ℕ, List, [], ◌++◌, Option, Some, None, Result, Ok, Err, IfSome, IsOkAnd, IsSomeAnd, inl, inr, refl, ap, ◌∙◌, append-nil, append_assoc, subst}
 use Rattle.std.specs.List.{concat}
 use Rattle.run_model.specs.declared.code.Code.{Code}
 use Rattle.run_model.specs.declared.code.Code.TheVariants as code
@@ -8,18 +8,15 @@ use Rattle.mib_model.specs.Packets.{IsCut}
 use Rattle.run_model.specs.declared.code.Input.TheVariants as input
 use Rattle.mib_model.specs.declared.fault.MibFault.{MibFault}
 use Rattle.mib_model.specs.Summaries.{summary}
-use Rattle.tm_io.specs.Causes.{HasRisen}
 use Rattle.session.specs.Sources.{Files}
 use Rattle.std.specs.Io.KnownBytes.{Appends}
+use Rattle.tool_objects.proofs.CalmFacts.{not-failed}
+use Rattle.tool_objects.specs.Calm.{IsCalm}
 use Rattle.tool_objects.specs.Objects.{ShelfView, SinkView, Took}
 use Rattle.decode_session.specs.Run.{Ran, Says, EndsWhole, EndsCut, EndsAtLimit}
 use Rattle.tool_objects.specs.Sources.{sound_in}
 use Rattle.mibtm_tool.specs.Statement.{BySound, Checked, Decoded, Drilled, RanBy}
-use Rattle.mibtm_tool.specs.Tool.{Completes, CompletesCheck, CompletesDrill, IsUnfailed, PrintsWhole, PrintsCut, PrintsMost}
-
--- a count that stays as it was, below its end, didn't rise
-pub not_failed : (before now : ℕ) → IsUnfailed before now → HasRisen before now → ⊥
-not_failed before now still failed = omega (arith, still.same, still.more, failed.1)
+use Rattle.mibtm_tool.specs.Tool.{Completes, CompletesCheck, CompletesDrill, PrintsWhole, PrintsCut, PrintsMost}
 
 -- all that was read is all that there was
 whole-cut : (octets read left rest : List ℕ) (packets : List (List ℕ)) → octets ≡ read ++ left → left ≡ [] → IsCut read packets rest → IsCut octets packets rest
@@ -72,8 +69,8 @@ module _ {T F O : Type 0} (folder name octets : List ℕ) (files feeds : Files) 
       let whole = held (feed.holds feed.before) feeds name octets (λ o. run.octets ≡ Some o) is_held is_found run.of_feed in
       subst (λ (x : Database × Option (List ℕ)). Took out (Ran says x.0 x.1 (feed.left feed.now))) (λ i. (one i, whole i)) run.ran
 
-  all-decoded : (c : Code) → Decoded c folder name tables feed out → IsUnfailed (tables.faults tables.before) (tables.faults tables.now) → IsUnfailed (feed.faults feed.before) (feed.faults feed.now)
-      → IsUnfailed (out.faults out.before) (out.faults out.now) → Completes c db octets out
+  all-decoded : (c : Code) → Decoded c folder name tables feed out → IsCalm (tables.faults tables.before) (tables.faults tables.now) → IsCalm (feed.faults feed.before) (feed.faults feed.now)
+      → IsCalm (out.faults out.before) (out.faults out.now) → Completes c db octets out
   all-decoded code.Ok (read, handed, printed) t f o = inl (refl, ok-completes db octets (feed.left feed.now) _ _ (ran EndsWhole printed))
   all-decoded (code.Cut count) (read, handed, printed) t f o = inr (inl (count, refl, cut-completes db octets count (feed.left feed.now) _ _ (ran (EndsCut count) printed)))
   all-decoded code.Limit (read, handed, printed) t f o = inr (inr (inl (refl, limit-completes db octets (feed.left feed.now) _ _ (ran EndsAtLimit printed))))
@@ -88,9 +85,9 @@ module _ {T F O : Type 0} (folder name octets : List ℕ) (files feeds : Files) 
       no-feed said =
           let here = told (tables.holds tables.before) (λ f. sound_in f folder) files db (λ d. IfSome (feed.holds feed.before) (λ g. g name ≡ None)) is_told is_read said in
           let bad : feeds name ≡ None = subst (λ (x : Option Files). IfSome x (λ g. g name ≡ None)) is_held here in cc (bad, is_found)
-  all-decoded code.TablesFault (failed, uncalled, same) t f o = absurd (not_failed _ _ t failed)
-  all-decoded code.FeedFault (failed, handed, faulty) t f o = absurd (not_failed _ _ f failed)
-  all-decoded code.OutFault (read, failed, printed) t f o = absurd (not_failed _ _ o failed)
+  all-decoded code.TablesFault (failed, uncalled, same) t f o = absurd (not-failed _ _ t failed)
+  all-decoded code.FeedFault (failed, handed, faulty) t f o = absurd (not-failed _ _ f failed)
+  all-decoded code.OutFault (read, failed, printed) t f o = absurd (not-failed _ _ o failed)
   all-decoded (code.Usage misuse) said t f o = absurd said
   all-decoded (code.NoFile input.Desk) said t f o = absurd said
   all-decoded code.DeskFault said t f o = absurd said
@@ -99,7 +96,7 @@ module _ {T F O : Type 0} (folder name octets : List ℕ) (files feeds : Files) 
 pub completes : {T F O : Type 0} (c : Code) (folder name octets : List ℕ) (files feeds : Files) (db : Database) (tables : ShelfView T) (feed : ShelfView F) (out : SinkView O)
     → tables.holds tables.before ≡ Some files → sound_in files folder ≡ Ok db → feed.holds feed.before ≡ Some feeds → feeds name ≡ Some octets
     → Decoded c folder name tables feed out
-    → IsUnfailed (tables.faults tables.before) (tables.faults tables.now) → IsUnfailed (feed.faults feed.before) (feed.faults feed.now) → IsUnfailed (out.faults out.before) (out.faults out.now)
+    → IsCalm (tables.faults tables.before) (tables.faults tables.now) → IsCalm (feed.faults feed.before) (feed.faults feed.now) → IsCalm (out.faults out.before) (out.faults out.now)
     → Completes c db octets out
 completes c folder name octets files feeds db tables feed out is_told is_read is_held is_found said t f o =
     all-decoded folder name octets files feeds db tables feed out is_told is_read is_held is_found c said t f o
@@ -107,15 +104,15 @@ completes c folder name octets files feeds db tables feed out is_told is_read is
 -- of a check that nothing hinders
 pub completes_check : {T O : Type 0} (c : Code) (folder : List ℕ) (files : Files) (db : Database) (tables : ShelfView T) (out : SinkView O)
     → tables.holds tables.before ≡ Some files → sound_in files folder ≡ Ok db → Checked c folder tables out
-    → IsUnfailed (tables.faults tables.before) (tables.faults tables.now) → IsUnfailed (out.faults out.before) (out.faults out.now)
+    → IsCalm (tables.faults tables.before) (tables.faults tables.now) → IsCalm (out.faults out.before) (out.faults out.now)
     → CompletesCheck c db out
 completes_check code.Ok folder files db tables out is_told is_read (handed, (first, sound, wrote)) t o =
     inl (refl, subst (λ d. Took out (λ old new. Appends old new (summary d))) (same-tables (tables.holds tables.before) (λ f. sound_in f folder) files db first is_told is_read sound.of_tables) wrote)
 completes_check code.Want folder files db tables out is_told is_read said t o = inr refl
 completes_check (code.BadMib fault) folder files db tables out is_told is_read (stood, same, refused) t o =
     let bad : sound_in files folder ≡ Err fault = subst (λ (x : Option Files). IfSome x (λ g. sound_in g folder ≡ Err fault)) is_told refused in cc (bad, is_read)
-completes_check code.TablesFault folder files db tables out is_told is_read (failed, same) t o = absurd (not_failed _ _ t failed)
-completes_check code.OutFault folder files db tables out is_told is_read (failed, wrote) t o = absurd (not_failed _ _ o failed)
+completes_check code.TablesFault folder files db tables out is_told is_read (failed, same) t o = absurd (not-failed _ _ t failed)
+completes_check code.OutFault folder files db tables out is_told is_read (failed, wrote) t o = absurd (not-failed _ _ o failed)
 completes_check (code.Cut count) folder files db tables out is_told is_read said t o = absurd said
 completes_check code.Limit folder files db tables out is_told is_read said t o = absurd said
 completes_check (code.Usage misuse) folder files db tables out is_told is_read said t o = absurd said
@@ -125,10 +122,10 @@ completes_check code.DeskFault folder files db tables out is_told is_read said t
 completes_check code.ReplyFault folder files db tables out is_told is_read said t o = absurd said
 
 -- of a drill that nothing hinders
-pub completes_drill : {O : Type 0} (c : Code) (seed : ℕ) (out : SinkView O) → Drilled c seed out → IsUnfailed (out.faults out.before) (out.faults out.now) → CompletesDrill c seed out
+pub completes_drill : {O : Type 0} (c : Code) (seed : ℕ) (out : SinkView O) → Drilled c seed out → IsCalm (out.faults out.before) (out.faults out.now) → CompletesDrill c seed out
 completes_drill code.Ok seed out (handed, wrote) o = inl (refl, wrote)
 completes_drill code.Want seed out said o = inr refl
-completes_drill code.OutFault seed out (failed, wrote) o = absurd (not_failed _ _ o failed)
+completes_drill code.OutFault seed out (failed, wrote) o = absurd (not-failed _ _ o failed)
 completes_drill (code.BadMib fault) seed out said o = absurd said
 completes_drill code.TablesFault seed out said o = absurd said
 completes_drill (code.Cut count) seed out said o = absurd said

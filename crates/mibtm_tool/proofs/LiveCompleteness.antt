@@ -1,5 +1,5 @@
 -- Where nothing fails, a live run prints all packets and handles all lines.
-use Rattle.std.proofs.Common.{◌≡◌, ◌⊎◌, ◌<◌, ◌≤◌, ◌==◌, ◌++◌, ℕ, Bool, true, false, List, [], length, Option, Some, None, Ok, Err, IfSome, IsOkAnd, IsSomeAnd, refl, sym, ap, ◌∙◌, subst, inl, inr, arith, append-nil, nat_le}
+use Rattle.std.proofs.Common.{◌≡◌, ◌⊎◌, ◌<◌, ◌≤◌, ◌==◌, ◌++◌, ℕ, Bool, false, List, [], length, Option, Some, None, Ok, Err, IfSome, IsOkAnd, IsSomeAnd, refl, sym, ap, ◌∙◌, subst, inl, inr, arith, append-nil, nat_le}
 use Rattle.std.specs.Prelude.{if◌then◌else◌}
 use Rattle.std.specs.List.{concat}
 use Rattle.std.specs.Io.KnownBytes.{Appends, Consumes, IsAtEnd}
@@ -12,7 +12,6 @@ use Rattle.live_desk.specs.DeskEnds.{is_desk_fault, is_reply_fault, limit_line}
 use Rattle.live_desk.specs.Scripts.{IsHandled}
 use Rattle.mib_model.specs.Texts.{rest_unless}
 use Rattle.tm_io.specs.Octets.{WritesUnless}
-use Rattle.tm_io.specs.Causes.{RisesWhere}
 use Rattle.live_session.specs.Live.{Lives, ending_of, from, written_to}
 use Rattle.run_model.specs.declared.code.Code.{Code}
 use Rattle.run_model.specs.declared.code.Code.TheVariants as code
@@ -25,17 +24,13 @@ use Rattle.run_model.specs.RegisterHistories.{RegisterHistory}
 use Rattle.run_model.specs.Replies.{desk_text}
 use Rattle.run_model.specs.Script.{reaches_limit}
 use Rattle.session.specs.Sources.{Files}
-use Rattle.mibtm_tool.proofs.Completeness.{held, not_failed, told}
+use Rattle.mibtm_tool.proofs.Completeness.{held, told}
 use Rattle.mibtm_tool.specs.Live.{AreFound, AreRead, AreSteady, CompletesLive, HoldFiles, LivesWhole, limit_of}
-use Rattle.mibtm_tool.specs.Statement.{Lived, LivedBy, Names, Shelves, Unopened, opened, OfFile}
+use Rattle.mibtm_tool.specs.Statement.{Lived, LivedBy, Names, Shelves, Unopened, opened}
+use Rattle.tool_objects.proofs.CalmFacts.{not-failed, stood}
+use Rattle.tool_objects.specs.Told.{OfFile}
 use Rattle.tool_objects.specs.Objects.{SinkView}
 use Rattle.tool_objects.specs.Sources.{sound_in}
-use Rattle.mibtm_tool.specs.Tool.{IsUnfailed}
-
--- an object whose count didn't rise didn't fail
-stood : (failed : Bool) (before now : ℕ) → IsUnfailed before now → RisesWhere failed before now → failed ≡ false
-stood false before now still counts = refl
-stood true before now still counts = absurd (not_failed before now still counts)
 
 -- a file that is held isn't missing
 no-file : (holds : Option Files) (files : Files) (name octets : List ℕ) → holds ≡ Some files → files name ≡ Some octets → IfSome holds (λ f. f name ≡ None) → ⊥
@@ -97,9 +92,9 @@ module _ {T F D O P : Type 0} (names : Names) (octets script : List ℕ) (files 
       (no-file (s.desk.holds s.desk.before) desks names.desk script holds.of_desk found.desk
       (held (s.feed.holds s.feed.before) feeds names.feed octets (λ o. OfFile s.desk names.desk (λ file. file ≡ None)) holds.of_feed found.feed
       (by-feed (λ d file. IsSomeAnd file (λ o. OfFile s.desk names.desk (λ asked. asked ≡ None))) missing)))
-  unopened code.TablesFault (failed, uncalled, unasked) = absurd (not_failed _ _ steady.tables failed)
-  unopened code.FeedFault (same, missed, unasked, sound) = absurd (not_failed _ _ steady.feed missed.0)
-  unopened code.DeskFault (same, still, missed, found) = absurd (not_failed _ _ steady.desk missed.0)
+  unopened code.TablesFault (failed, uncalled, unasked) = absurd (not-failed _ _ steady.tables failed)
+  unopened code.FeedFault (same, missed, unasked, sound) = absurd (not-failed _ _ steady.feed missed.0)
+  unopened code.DeskFault (same, still, missed, found) = absurd (not-failed _ _ steady.desk missed.0)
   unopened code.Ok said = absurd said
   unopened (code.Usage misuse) said = absurd said
   unopened (code.Cut count) said = absurd said

@@ -8,11 +8,13 @@ use Rattle.mib_model.specs.declared.database.Database.{Database}
 use Rattle.mib_model.specs.declared.fault.MibFault.{MibFault}
 use Rattle.run_model.specs.RegisterHistories.{RegisterHistory}
 use Rattle.session.specs.Sources.{Files}
-use Rattle.mibtm_tool.proofs.Completeness.{not_failed, told}
+use Rattle.mibtm_tool.proofs.Completeness.{told}
+use Rattle.tool_objects.proofs.CalmFacts.{not-failed}
 use Rattle.mibtm_tool.specs.Live.{RefusesLive}
 use Rattle.tool_objects.specs.Objects.{SinkView}
 use Rattle.tool_objects.specs.Sources.{sound_in}
-use Rattle.mibtm_tool.specs.Statement.{ByTables, LivedBy, Names, OfFile, Shelves, Unopened}
+use Rattle.mibtm_tool.specs.Statement.{LivedBy, Names, Shelves, Unopened}
+use Rattle.tool_objects.specs.Told.{ByTables, OfFile}
 use Rattle.mibtm_tool.specs.Tool.{Held, IsSteady}
 
 -- what isn't sound is no database of which something is said
@@ -38,7 +40,7 @@ module _ {T F D O P : Type 0} (names : Names) (files : Files) (fault : MibFault)
       inl (cc (err, bad))
   refused (code.NoFile input.Feed) (same, still, unasked, missing) = absurd (never _ missing)
   refused (code.NoFile input.Desk) (same, still, calm, missing) = absurd (never _ missing)
-  refused code.TablesFault (failed, uncalled, unasked) = absurd (not_failed _ _ steady failed)
+  refused code.TablesFault (failed, uncalled, unasked) = absurd (not-failed _ _ steady failed)
   refused code.FeedFault (same, missed, unasked, sound) = absurd (never _ sound)
   refused code.DeskFault (same, still, missed, found) = absurd (never _ found)
   refused code.Ok said = absurd said
@@ -69,8 +71,8 @@ module _ {T F D O P : Type 0} (names : Names) (files feeds : Files) (db : Databa
       absurd (cc (err, sound))
   missing (code.NoFile input.Feed) said = inl refl
   missing (code.NoFile input.Desk) (same, still, calm, gone) = absurd (nowhere (λ d octets. OfFile s.desk names.desk (λ desk. desk ≡ None)) gone)
-  missing code.TablesFault (failed, uncalled, unasked) = absurd (not_failed _ _ steady failed)
-  missing code.FeedFault (same, missed, unasked, told) = absurd (not_failed _ _ feed_steady missed.0)
+  missing code.TablesFault (failed, uncalled, unasked) = absurd (not-failed _ _ steady failed)
+  missing code.FeedFault (same, missed, unasked, told) = absurd (not-failed _ _ feed_steady missed.0)
   missing code.DeskFault (same, still, missed, found) = absurd (nowhere (λ d octets. ⊤) found)
   missing code.Ok said = absurd said
   missing (code.Usage misuse) said = absurd said

@@ -12,7 +12,8 @@ use Rattle.live_session.specs.Live.{Lives, from, object, written_to}
 use Rattle.mibtm_tool.proofs.DecodeSteps.{fed, stood_at}
 use Rattle.mibtm_tool.proofs.StatementSteps.{each_told, missing_decoded}
 use Rattle.mibtm_tool.specs.Live.{LivedBeside, RanBeside}
-use Rattle.mibtm_tool.specs.Statement.{LivedBy, StoppedBeside, Unopened, Lived, names, shelves, Decoded, OfFile}
+use Rattle.mibtm_tool.specs.Statement.{LivedBy, StoppedBeside, Unopened, Lived, names, shelves, Decoded}
+use Rattle.tool_objects.specs.Told.{OfFile}
 use Rattle.tool_objects.specs.Objects.{ShelfView, SinkView, HasStood, IsUncalled, IsUnwritten, shelf}
 use Rattle.tool_objects.specs.Sources.{sound_in}
 

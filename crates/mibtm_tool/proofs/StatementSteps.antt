@@ -12,7 +12,8 @@ use Rattle.decode_session.specs.Run.{EndsBy}
 use Rattle.folder_tables.specs.Refusals.{HasRefusalCause, Refuses, code_of_refusal}
 use Rattle.tool_objects.specs.Opened.{AreSound}
 use Rattle.tool_objects.specs.Sources.{sound_in}
-use Rattle.mibtm_tool.specs.Statement.{Decoded, OfFile, RanBy}
+use Rattle.mibtm_tool.specs.Statement.{Decoded, RanBy}
+use Rattle.tool_objects.specs.Told.{OfFile}
 use Rattle.folder_tables.specs.declared.folder.Refusal.{Refusal}
 use Rattle.folder_tables.specs.declared.folder.Refusal.TheVariants as refusal
 use Rattle.decode_session.specs.declared.ending.Stop.TheVariants as stop

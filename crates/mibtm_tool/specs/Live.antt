@@ -19,10 +19,12 @@ use Rattle.run_model.specs.Replies.{desk_text}
 use Rattle.run_model.specs.Script as Script
 use Rattle.run_model.specs.Script.{reaches_limit}
 use Rattle.mib_model.specs.Texts.{rest_text, rest_unless}
+use Rattle.tool_objects.specs.Calm.{IsCalmSink}
 use Rattle.tool_objects.specs.Objects.{ShelfView, SinkView, IsUnwritten, Took}
 use Rattle.tool_objects.specs.Sources.{sound_in}
-use Rattle.mibtm_tool.specs.Statement.{Names, Shelves, StoodAt, HasTurned, StoppedBeside, opened}
-use Rattle.mibtm_tool.specs.Tool.{Held, IsSteady, IsSteadySink}
+use Rattle.mibtm_tool.specs.Statement.{Names, Shelves, StoppedBeside, opened}
+use Rattle.tool_objects.specs.Told.{HasTurned, StoodAt}
+use Rattle.mibtm_tool.specs.Tool.{Held, IsSteady}
 
 -- ---- a live run that nothing hinders
 
@@ -43,8 +45,8 @@ pub record AreSteady {T F D O P : Type 0} (s : Shelves T F D) (out : SinkView O)
   pub tables : IsSteady s.tables
   pub feed : IsSteady s.feed
   pub desk : IsSteady s.desk
-  pub output : IsSteadySink out
-  pub answers : IsSteadySink replies
+  pub output : IsCalmSink out
+  pub answers : IsCalmSink replies
 
 -- the feed begins with the most packets that a run reads
 abbrev pub BeginsWithMost : List ℕ → List (List ℕ) → List ℕ → Type 0

@@ -1,12 +1,11 @@
 -- The statement of `tool`: what a call shows of the objects that it is handed, by the status that it answers. [This profile.]
-use Rattle.std.specs.Prelude.{◌≡◌, ◌≢◌, ◌≤◌, ◌⊎◌, ℕ, List, Option, Some, None, Result, Ok, Err, IfSome, IsOkAnd, IsSomeAnd, ⊤}
+use Rattle.std.specs.Prelude.{◌≡◌, ◌≢◌, ◌≤◌, ◌⊎◌, ℕ, List, Option, Some, None, Ok, IfSome, IsSomeAnd, ⊤}
 use Rattle.std.specs.Io.KnownBytes.{Appends}
 use Rattle.tm_io.specs.Octets.{AppendsPrefix}
 use Rattle.run_model.specs.declared.code.Code.{Code}
 use Rattle.run_model.specs.declared.code.Code.TheVariants as code
 use Rattle.run_model.specs.declared.code.Input.TheVariants as input
 use Rattle.mib_model.specs.declared.database.Database.{Database}
-use Rattle.mib_model.specs.declared.fault.MibFault.{MibFault}
 use Rattle.run_model.specs.RegisterHistories.{RegisterHistory}
 use Rattle.mib_model.specs.Soundness.{IsSound}
 use Rattle.mib_model.specs.Summaries.{summary}
@@ -17,34 +16,14 @@ use Rattle.mib_model.specs.declared.meaning.Rows as Rows
 use Rattle.tm_io.specs.Causes.{HasRisen}
 use Rattle.mibtm_tool.specs.Drill.{drill_summary}
 use Rattle.tool_objects.specs.Objects.{ShelfView, SinkView, HasStood, HasFailed, IsUncalled, IsUnwritten, HasBroken, Took, IsHandedOn, TookNothing}
-use Rattle.session.specs.Sources.{Files}
 use Rattle.tool_objects.specs.Opened.{AreSound}
 use Rattle.tool_objects.specs.Sources.{sound_in}
+use Rattle.tool_objects.specs.Told.{ByTables, HasMissed, HasTurned, IsRefused, OfFile, StoodAt}
 use Rattle.decode_session.specs.Run.{Ran, Says, EndsWhole, EndsCut, EndsAtLimit, EndsUnread, EndsUnwritten}
 
 -- The objects of a call are views of what they show before and now. A further command has its equations below, one for each status.
 
 -- ---- what is said of the tables and the feed
-
--- the tables, read so, are a database of which this is said
-abbrev pub ByTables : {T : Type 0} → ShelfView T → (Files → Result Database MibFault) → (Database → Type 0) → Type 0
-ByTables t read says = IfSome (t.holds t.before) (λ files. IsOkAnd (read files) says)
-
--- the tables, read so, are refused for this fault
-abbrev pub IsRefused : {T : Type 0} → ShelfView T → (Files → Result Database MibFault) → MibFault → Type 0
-IsRefused t read fault = IfSome (t.holds t.before) (λ files. read files ≡ Err fault)
-
--- this is said of the file of that name, if there is one
-abbrev pub OfFile : {S : Type 0} → ShelfView S → List ℕ → (Option (List ℕ) → Type 0) → Type 0
-OfFile s name says = IfSome (s.holds s.before) (λ files. says (files name))
-
--- no turn to a file failed
-abbrev pub HasTurned : {S : Type 0} → ShelfView S → Type 0
-HasTurned s = s.missed s.now ≡ s.missed s.before
-
--- where the shelf tells, the file of that name is held, and this is what it had left as a run opened
-abbrev pub StoodAt : {S : Type 0} → ShelfView S → List ℕ → Option (List ℕ) → Type 0
-StoodAt s name start = OfFile s name (λ found. IsSomeAnd found (λ octets. start ≡ Some octets))
 
 -- the tables didn't fail and are a sound database, that of the folder where they are told, of which this is said
 abbrev pub BySound : {T : Type 0} → List ℕ → ShelfView T → (Database → Type 0) → Type 0
@@ -144,10 +123,6 @@ pub record Lived {T F D O P : Type 0} (c : Code) (history : RegisterHistory) (na
   pub of_feed : StoodAt s.feed names.feed octets
   pub of_desk : StoodAt s.desk names.desk lines
   pub lives : Lives c first history (from s.feed octets) (from s.desk lines) (written_to out) (written_to replies)
-
--- a turn to a file failed
-abbrev pub HasMissed : {S : Type 0} → ShelfView S → Type 0
-HasMissed s = HasFailed s × HasRisen (s.missed s.before) (s.missed s.now)
 
 -- the tables are sound, and this is said of the feed's file
 abbrev pub FeedIs : {T F D : Type 0} → Names → Shelves T F D → (Option (List ℕ) → Type 0) → Type 0

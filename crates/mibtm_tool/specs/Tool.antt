@@ -1,5 +1,5 @@
 -- What a call leaves that nothing hinders. [This profile.]
-use Rattle.std.specs.Prelude.{◌≡◌, ℕ, ◌⊎◌, List, [], ◌++◌, Option, Some, ◌<◌, ◌+◌, ◌^◌, length}
+use Rattle.std.specs.Prelude.{◌≡◌, ℕ, ◌⊎◌, List, [], ◌++◌, Option, Some, ◌<◌, length}
 use Rattle.std.specs.List.{All, concat}
 use Rattle.std.specs.Io.KnownBytes.{Appends}
 use Rattle.run_model.specs.declared.code.Code.{Code}
@@ -10,6 +10,7 @@ use Rattle.mib_model.specs.Summaries.{summary}
 use Rattle.mib_model.specs.Texts.{cut_text}
 use Rattle.session.specs.Sources.{Files}
 use Rattle.mibtm_tool.specs.Drill.{drill_summary}
+use Rattle.tool_objects.specs.Calm.{IsCalm}
 use Rattle.tool_objects.specs.Objects.{ShelfView, SinkView, Took}
 use Rattle.decode_session.specs.Run.{Writes, most_packets}
 
@@ -46,18 +47,9 @@ CompletesCheck c db out = ((c ≡ code.Ok) × Took out (λ old new. Appends old 
 abbrev pub CompletesDrill : {O : Type 0} → Code → ℕ → SinkView O → Type 0
 CompletesDrill c seed out = ((c ≡ code.Ok) × Took out (λ old new. Appends old new (drill_summary seed))) ⊎ (c ≡ code.Want)
 
--- a count of faults that didn't rise, and could still
-pub record IsUnfailed (before now : ℕ) : Type 0 where
-  pub same : now ≡ before
-  pub more : before + 1 < 2 ^ 64
-
 -- the shelf didn't fail, and its count could tell
 abbrev pub IsSteady : {S : Type 0} → ShelfView S → Type 0
-IsSteady s = IsUnfailed (s.faults s.before) (s.faults s.now)
-
--- the sink didn't fail, and its count could tell
-abbrev pub IsSteadySink : {O : Type 0} → SinkView O → Type 0
-IsSteadySink o = IsUnfailed (o.faults o.before) (o.faults o.now)
+IsSteady s = IsCalm (s.faults s.before) (s.faults s.now)
 
 -- the shelf held these files
 abbrev pub Held : {S : Type 0} → ShelfView S → Files → Type 0

@@ -12,8 +12,8 @@ use crate::print::print;
 use book_summary::summary_of;
 use decode_session::Stop;
 use folder_tables::sound_book;
-use run_model::Code;
 use mib_tables::Book;
+use run_model::Code;
 use std::alloc::Global;
 use tm_io::{Shelf, Sink};
 

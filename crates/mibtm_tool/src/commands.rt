@@ -9,7 +9,8 @@ ghost use Rattle.mib_model.specs.declared.fault.MibFault.{MibFault};
 ghost use Rattle.mibtm_tool.specs.Statement.{LivedBy, Names, Shelves, TellsItsEnd, names, shelves, Checked, Decoded, Drilled};
 ghost use Rattle.tool_objects.specs.Objects.{ShelfView, SinkView, shelf, sink};
 ghost use Rattle.tool_objects.specs.Sources.{sound_in};
-ghost use Rattle.mibtm_tool.specs.Tool.{Completes, CompletesCheck, CompletesDrill, Held, IsSteady, IsSteadySink};
+ghost use Rattle.mibtm_tool.specs.Tool.{Completes, CompletesCheck, CompletesDrill, Held, IsSteady};
+ghost use Rattle.tool_objects.specs.Calm.{IsCalmSink};
 ghost use Rattle.session.specs.Sources.{Files};
 
 use crate::check::check;
@@ -25,7 +26,7 @@ use std::alloc::Global;
 use std::sync::Wait;
 use std::thread::Threads;
 use tm_io::{Gate, Shelf, Sink};
-use tool_words::{Request, WordsFault, request_in};
+use tool_words::{ToolRequest, WordsFault, request_in};
 
 /// How a call of the tool ended. A live run that opened hands out its register, closed; contracts see its history.
 #[derive(Drop)]
@@ -105,16 +106,16 @@ pub fn tool<
     ensures closed { UnlessLive (command_of (map string_bytes words.now)) (result.closed ≡ None) }
 {
     let code = match request_in(alloc, words) {
-        Ok(Request::Check { folder }) => check(alloc, folder, tables, out),
+        Ok(ToolRequest::Check { folder }) => check(alloc, folder, tables, out),
         Ok(
-            Request::Decode {
+            ToolRequest::Decode {
                 folder,
                 feed: name,
                 workers,
             },
         ) => decode(rt, alloc, folder, name, workers, tables, feed, out),
         Ok(
-            Request::Live {
+            ToolRequest::Live {
                 folder,
                 feed: name,
                 desk: desk_name,
@@ -130,7 +131,7 @@ pub fn tool<
             let host = Host { rt, alloc, gate };
             return live(&host, &asked, tables, feed, desk, out, replies);
         }
-        Ok(Request::Drill { seed }) => drill(rt, alloc, seed, out),
+        Ok(ToolRequest::Drill { seed }) => drill(rt, alloc, seed, out),
         Err(WordsFault::Misuse(misuse)) => Code::Usage(misuse),
         Err(WordsFault::Memory) => Code::Want,
     };
@@ -143,7 +144,7 @@ pub fn decoding_is_complete<T, F, O>()
     ensures { (c : Code) (folder name octets : List ℕ) (files feeds : Files) (db : Database)
         → (tables : ShelfView T) (feed : ShelfView F) (out : SinkView O)
         → Held tables files → sound_in files folder ≡ Ok db → Held feed feeds → feeds name ≡ Some octets
-        → Decoded c folder name tables feed out → IsSteady tables → IsSteady feed → IsSteadySink out
+        → Decoded c folder name tables feed out → IsSteady tables → IsSteady feed → IsCalmSink out
         → Completes c db octets out }
 {}
 
@@ -151,13 +152,13 @@ pub fn decoding_is_complete<T, F, O>()
 pub fn checking_is_complete<T, O>()
     ensures { (c : Code) (folder : List ℕ) (files : Files) (db : Database) (tables : ShelfView T) (out : SinkView O)
         → Held tables files → sound_in files folder ≡ Ok db
-        → Checked c folder tables out → IsSteady tables → IsSteadySink out
+        → Checked c folder tables out → IsSteady tables → IsCalmSink out
         → CompletesCheck c db out }
 {}
 
 /// Where nothing fails, a drill writes its summary whole, unless memory runs out.
 pub fn drilling_is_complete<O>()
-    ensures { (c : Code) (seed : ℕ) (out : SinkView O) → Drilled c seed out → IsSteadySink out → CompletesDrill c seed out }
+    ensures { (c : Code) (seed : ℕ) (out : SinkView O) → Drilled c seed out → IsCalmSink out → CompletesDrill c seed out }
 {}
 
 /// Where the tables are sound, feed and desk are held and nothing fails, a live run prints all packets, handles all lines and

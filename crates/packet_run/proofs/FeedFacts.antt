@@ -5,7 +5,7 @@ use Rattle.edition_register.specs.declared.start.Start.{Start}
 use Rattle.packet_run.proofs.PipingFacts.{piping_keeps}
 use Rattle.packet_run.proofs.ReadingFacts.{last-read, reads-more, reads-none}
 use Rattle.packet_run.specs.Feeding.{EndsUntil, Fed, PipesUntil}
-use Rattle.packet_run.specs.declared.reading.Stamped.{Stamped}
+use Rattle.packet_run.specs.declared.reading.StampedCell.{StampedCell}
 use Rattle.packet_run.specs.declared.until.Until.{Until}
 use Rattle.packet_run.specs.declared.until.Until.TheVariants as until
 
@@ -72,7 +72,7 @@ module _ {P : Type 0} {plans : Ghosts P} {tables : P → Database} {W : Type 0} 
       record { stamped = stamped; packets = packets; left = left; reads = reads; ends = ends; ahead = ahead; pipes = pipes }
 
 module _ {P : Type 0} {plans : Ghosts P} {tables rows : P → Database} {W : Type 0} {stands : W → List Member → Type 0} {from : From W} {first : Database}
-    {own after : RegisterHistory} {p : Pipeline P plans} {u : InUse P plans} {w : W} {old left new x : Known} {read : Stamped P}
+    {own after : RegisterHistory} {p : Pipeline P plans} {u : InUse P plans} {w : W} {old left new x : Known} {read : StampedCell P}
     (f : Feeding tables stands from own p u w old left x) (e : from.first ≡ first)
     (is : IsStamped rows (last_stamped (1, first) own) read own after left new) (count : length own ≡ p.read) where
   -- one packet more was read: it comes behind those of the edition in use, and its number is the next

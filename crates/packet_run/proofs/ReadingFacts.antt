@@ -4,7 +4,7 @@ use Rattle.edition_register.proofs.RegisterFacts.{intake-counts}
 use Rattle.mib_model.specs.Packets.{IsPacket}
 use Rattle.run_model.specs.Register.{answer_to}
 use Rattle.std.proofs.lemmas.List.Folds.{concat-append}
-use Rattle.packet_run.specs.declared.reading.Stamped.{Stamped}
+use Rattle.packet_run.specs.declared.reading.StampedCell.{StampedCell}
 use Rattle.run_model.specs.declared.register.Answer.TheVariants as answer
 use Rattle.run_model.specs.declared.register.Entry.TheVariants as entry
 
@@ -49,12 +49,12 @@ last-read p own after s grows = ap (last_stamped p) grows ∙ last-append p own 
 pub reads-none : (left : Known) → Reads [] [] [] left left
 reads-none left = record { many = refl; are_packets = All-nil IsPacket; taken = Consumes-nil left; are_stamped = refl }
 
-pub more_moves : {P : Type 0} {rows : P → Database} {last : ℕ × Database} {read : Stamped P} {own after : RegisterHistory} {left new : Known}
+pub more_moves : {P : Type 0} {rows : P → Database} {last : ℕ × Database} {read : StampedCell P} {own after : RegisterHistory} {left new : Known}
     → IsStamped rows last read own after left new → length after ≡ length own + 1
 more_moves {own = own} is = ap (λ (l : RegisterHistory). length l) is.own ∙ length-append own (_ ∷ [])
 
 -- one packet more was read
-pub reads-more : {P : Type 0} {rows : P → Database} {last : ℕ × Database} {read : Stamped P} {own after : RegisterHistory} {stamped : List StampedPacket}
+pub reads-more : {P : Type 0} {rows : P → Database} {last : ℕ × Database} {read : StampedCell P} {own after : RegisterHistory} {stamped : List StampedPacket}
     {packets : List (List ℕ)} {old left new : Known}
     → (is : IsStamped rows last read own after left new) → Reads own stamped packets old left
     → Reads after (stamped ++ stamped_as read is.shown ∷ []) (packets ++ packet_in read.cell ∷ []) old new

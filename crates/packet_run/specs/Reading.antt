@@ -15,7 +15,7 @@ use Rattle.run_model.specs.declared.register.Entry.TheVariants as entry
 use Rattle.mib_model.specs.Interpreter.{StampedPacket}
 use Rattle.mib_model.specs.Packets.{IsPacket}
 use Rattle.run_model.specs.RegisterHistories.{RegisterHistory}
-use Rattle.packet_run.specs.declared.reading.Stamped.{Stamped}
+use Rattle.packet_run.specs.declared.reading.StampedCell.{StampedCell}
 use Rattle.packet_run.specs.Stamped.{stamped_by_moves}
 
 -- the move that stamps a packet
@@ -23,13 +23,13 @@ abbrev pub stamp_of : StampedPacket → Move Entry Answer
 stamp_of s = move 0 entry.Stamp (answer.Stamped s.number s.edition s.tables)
 
 -- a packet that was read and stamped, with the tables that its stamp shows
-abbrev pub stamped_as : {P : Type 0} → Stamped P → Database → StampedPacket
+abbrev pub stamped_as : {P : Type 0} → StampedCell P → Database → StampedPacket
 stamped_as read shown = stamped_cell read.edition shown read.cell
 
 module _ {P : Type 0} (tables : P → Database) where
   -- a packet was read and stamped, behind a stamp of an edition with its tables: its number is the next, a start is for the packet's tables,
   -- without one its edition is the one before, and one edition has the same tables
-  pub record IsStamped (last : ℕ × Database) (read : Stamped P) (before after : RegisterHistory) (old new : Option (List ℕ)) : Type 0 where
+  pub record IsStamped (last : ℕ × Database) (read : StampedCell P) (before after : RegisterHistory) (old new : Option (List ℕ)) : Type 0 where
     pub shown : Database
     pub own : after ≡ before ++ stamp_of (stamped_as read shown) ∷ []
     pub number : read.cell.number ≡ length before + 1

@@ -20,7 +20,7 @@ use crate::finishing::{finish_alone, write_record};
 use crate::in_use::InUse;
 use crate::parts::Pipeline;
 use crate::pipeline::{keep_room, pass_by};
-use crate::reading::Stamped;
+use crate::reading::StampedCell;
 use crate::turning::turn;
 use crate::watch::Watch;
 use decode_session::Cell;
@@ -63,7 +63,7 @@ fn print_alone<P: Plans + Rows + Drop, O: Sink, W: Watch, R: Wait>(
 /// Decodes a packet that was read, once all before it are committed, and commits it.
 pub(crate) fn do_alone<P: Plans + Rows + Drop, O: Sink, W: Watch, R: Wait>(
     rt: &R,
-    read: Stamped<P>,
+    read: StampedCell<P>,
     pipeline: &mut Pipeline<P>,
     in_use: &mut InUse<P>,
     out: &mut O,
@@ -88,7 +88,7 @@ pub(crate) fn do_alone<P: Plans + Rows + Drop, O: Sink, W: Watch, R: Wait>(
         → Stopped P.Structures.tables W.stands from (stamped ++ stamped_as read shown ∷ []) pipeline.new watch.new (O.written out.new)) }
     ensures cause { HasCause (O.faults out.old) (O.faults out.new) result }
 {
-    let Stamped {
+    let StampedCell {
         mut cell,
         edition,
         start,

@@ -22,7 +22,7 @@ use turn_cell::Seat;
 
 /// A packet that was read and stamped: its edition, and what begins with it.
 #[derive(Drop)]
-pub(crate) struct Stamped<P: Drop> {
+pub(crate) struct StampedCell<P: Drop> {
     pub cell: Cell,
     pub edition: u32,
     pub start: Option<Start<P, BoardRoom>>,
@@ -35,7 +35,7 @@ pub(crate) fn read_stamped<P: Plans + Rows + Drop, R: Wait, S: Source>(
     seat: &mut Seat<Editions<P, BoardRoom>>,
     feed: &mut Feed<S>,
     room: Room,
-) -> Result<Stamped<P>, Unread>
+) -> Result<StampedCell<P>, Unread>
     requires seat { IsSeat 0 register.now seat.old }
     requires room { length (own_moves seat.old) < most_packets }
     ensures seat { IsSeat 0 register.now seat.new }
@@ -59,7 +59,7 @@ pub(crate) fn read_stamped<P: Plans + Rows + Drop, R: Wait, S: Source>(
     } = register.stamp(rt, seat);
     intake_counts();
     cell.number = number;
-    Ok(Stamped {
+    Ok(StampedCell {
         cell,
         edition,
         start,

@@ -26,7 +26,7 @@ use crate::in_use::InUse;
 use crate::job::{Job, Task};
 use crate::parts::{Crew, Intake, Pipeline};
 use crate::pipeline::{keep_room, offer};
-use crate::reading::{Stamped, read_stamped};
+use crate::reading::{StampedCell, read_stamped};
 use crate::until::Until;
 use crate::watch::Watch;
 use decode_session::{Cell, Filled, MOST_PACKETS, Unread};
@@ -155,7 +155,7 @@ fn take_packet<P: Plans + Rows + Drop, O: Sink, W: Watch, R: Wait>(
     crew: &Crew<P>,
     pipeline: &mut Pipeline<P>,
     in_use: &mut InUse<P>,
-    read: Stamped<P>,
+    read: StampedCell<P>,
     goes_to_worker: bool,
     out: &mut O,
     watch: &mut W,
@@ -179,7 +179,7 @@ fn take_packet<P: Plans + Rows + Drop, O: Sink, W: Watch, R: Wait>(
         → Stopped P.Structures.tables W.stands from (stamped ++ stamped_as read shown ∷ []) pipeline.new watch.new (O.written out.new)) }
     ensures cause { HasCause (O.faults out.old) (O.faults out.new) result }
 {
-    let Stamped {
+    let StampedCell {
         cell,
         edition,
         start,
@@ -194,7 +194,7 @@ fn take_packet<P: Plans + Rows + Drop, O: Sink, W: Watch, R: Wait>(
         pipeline.read += 1;
         return Err(Failed);
     };
-    let read = Stamped {
+    let read = StampedCell {
         cell,
         edition,
         start,

@@ -18,8 +18,8 @@ use edition::Edition;
 use edition_register::{AddOnFault, Drawn, Editions, Register};
 use fold_state::BoardRoom;
 use mib_model::Steps;
+use panel_lines::{PanelLine, PanelReply, panel_request_of};
 use run_model::Reply;
-use panel_lines::{PanelReply, PanelRequest, panel_request_of};
 use std::alloc::{AllocError, Global};
 use std::sync::ledger::Ledger;
 use std::sync::{Arc, Wait};
@@ -78,10 +78,8 @@ impl PanelDesk {
         ensures steps { Ticks (Spec.request_of true line.now) (option_map told result) steps.old steps.new }
     {
         match panel_request_of(line) {
-            PanelRequest::Take => Some(self.take(rt, register, seat)),
-            PanelRequest::Plain(request) => {
-                self.handle(rt, alloc, register, seat, request, steps)
-            }
+            PanelLine::Take => Some(self.take(rt, register, seat)),
+            PanelLine::Plain(request) => { self.handle(rt, alloc, register, seat, request, steps) }
         }
     }
 

@@ -9,4 +9,4 @@ mod reply;
 mod request;
 
 pub use reply::{PanelReply, panel_reply_line};
-pub use request::{PanelRequest, panel_request_of};
+pub use request::{PanelLine, panel_request_of};

@@ -5,9 +5,8 @@ ghost use Rattle.mib_model.specs.declared.line.TheConstants.{LINE_ROOM};
 ghost use Rattle.panel_lines.specs.Replies.{told};
 
 use mib_model::Line;
-
-use run_model::Reply;
 use reply_text::{add_number, reply_line};
+use run_model::Reply;
 
 /// The answer to a line of a desk among several.
 #[derive(Clone, Copy, Debug, PartialEq, Eq)]

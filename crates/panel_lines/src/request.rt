@@ -9,7 +9,7 @@ use desk_lines::{Request, request_of};
 
 /// What a line asks a desk among several for.
 #[derive(Clone, Copy)]
-pub enum PanelRequest<'a> {
+pub enum PanelLine<'a> {
     /// The newest edition.
     Take,
     /// What a single desk is asked for too.
@@ -30,12 +30,12 @@ fn is_take(line: &[u8]) -> bool
 }
 
 /// What a line asks a desk among several for.
-pub fn panel_request_of(line: &[u8]) -> PanelRequest<'_>
+pub fn panel_request_of(line: &[u8]) -> PanelLine<'_>
     ensures { panel_asked result ≡ Spec.request_of true line.now }
 {
     if is_take(line) {
-        PanelRequest::Take
+        PanelLine::Take
     } else {
-        PanelRequest::Plain(request_of(line))
+        PanelLine::Plain(request_of(line))
     }
 }

@@ -1,7 +1,7 @@
 use crate::folders::{PACKET, PCF, PID, PLF, call, feed, file, sink};
 use mib_model::Line;
-use run_model::Code;
 use reply_text::code_line;
+use run_model::Code;
 use std::alloc::Global;
 use std::process::Abort;
 use std::sync::Wait;

@@ -1,6 +1,6 @@
 // A live run whose objects fail: each at the borders of what it gives or takes, and at every tenth place between.
 use crate::folders::{PACKET, feed, file, sink};
-use crate::lives::{CURVE, Objects, live};
+use crate::lives::{CURVE, LiveObjects, live};
 use run_model::Code;
 use std::alloc::Global;
 use std::process::Abort;
@@ -39,19 +39,19 @@ fn is_tried(place: usize, borders: &[usize]) -> bool {
 }
 
 // Three packets, behind whose first a better curve is used.
-fn objects(alloc: Global) -> Result<Objects, Fail> {
+fn objects(alloc: Global) -> Result<LiveObjects, Fail> {
     let mut packets = Vec::new(alloc);
     for _ in 0..3 {
         packets.extend_from_slice(PACKET)?;
     }
-    Objects::new(alloc, CURVE, &packets, SCRIPT)
+    LiveObjects::new(alloc, CURVE, &packets, SCRIPT)
 }
 
 // A run over these objects ends with this code, and leaves these octets.
 fn leaves<X: Abort + Threads + Wait + Sync>(
     rt: &X,
     alloc: Global,
-    mut objects: Objects,
+    mut objects: LiveObjects,
     workers: &str,
     code: Code,
     printed: &[u8],

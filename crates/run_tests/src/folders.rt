@@ -1,7 +1,7 @@
 ghost use Rattle.std.specs.Prelude.{◌≤◌};
 
-use run_model::{Code, Input};
 use mibtm_tool::tool;
+use run_model::{Code, Input};
 use std::alloc::Global;
 use std::sync::Wait;
 use std::test::Fail;

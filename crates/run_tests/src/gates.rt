@@ -1,9 +1,9 @@
 // The gate that the workers of a live run call.
 use crate::folders::{PACKET, feed, words};
-use crate::lives::Objects;
+use crate::lives::LiveObjects;
 use crate::pools::{COUPLED, Couples};
-use run_model::Code;
 use mibtm_tool::tool;
+use run_model::Code;
 use std::sync::atomic::Ordering;
 use std::test::Fail;
 
@@ -15,7 +15,7 @@ fn two_workers_of_a_live_run_are_inside_the_gate_at_once(rt: HostRuntime) -> Res
     for _ in 0..COUPLED {
         packets.extend_from_slice(PACKET)?;
     }
-    let mut objects = Objects::new(alloc, &[], &packets, b"go\n")?;
+    let mut objects = LiveObjects::new(alloc, &[], &packets, b"go\n")?;
     objects.feed = feed(alloc, &packets, &[], 4096)?;
     let gate = Couples::new(alloc)?;
     let given = words(alloc, &["live", "mib", "feed", "desk", "--workers", "2"])?;

@@ -1,8 +1,8 @@
 // Live runs over objects in memory, by one worker, by two and by four.
 use crate::checks::{Change, folder, text};
 use crate::folders::{PACKET, feed, file, sink, words};
-use run_model::Code;
 use mibtm_tool::tool;
+use run_model::Code;
 use std::alloc::Global;
 use std::sync::Wait;
 use std::test::Fail;
@@ -18,7 +18,7 @@ pub(crate) const CURVE: &[Change<'_>] = &[
 
 // What a live run is handed.
 #[derive(Drop)]
-pub(crate) struct Objects {
+pub(crate) struct LiveObjects {
     pub tables: MemShelf,
     pub feed: MemShelf,
     pub desk: MemShelf,
@@ -26,17 +26,17 @@ pub(crate) struct Objects {
     pub replies: MemSink,
 }
 
-impl Objects {
+impl LiveObjects {
     // A folder with these changes, these packets, and a script with `|` for each tab.
     pub fn new(
         alloc: Global,
         changes: &[Change<'_>],
         packets: &[u8],
         script: &[u8],
-    ) -> Result<Objects, Fail> {
+    ) -> Result<LiveObjects, Fail> {
         let script = text(alloc, script)?;
         let desk = file(alloc, "desk", &script, &[])?;
-        Ok(Objects {
+        Ok(LiveObjects {
             tables: folder(alloc, changes)?,
             feed: feed(alloc, packets, &[], 25)?,
             desk: MemShelf::new(vec![in alloc; desk]?, 5),
@@ -50,7 +50,7 @@ impl Objects {
 pub(crate) fn live<X: Threads + Wait + Sync>(
     rt: &X,
     alloc: Global,
-    objects: &mut Objects,
+    objects: &mut LiveObjects,
     workers: &str,
 ) -> Result<(Code, Option<(u64, u32)>), Fail> {
     let given = words(

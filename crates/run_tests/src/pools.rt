@@ -18,12 +18,12 @@ use work_queue::{Numbered, Pass, Queue};
 const CELLS: u64 = 10_000;
 
 #[derive(Clone, Copy)]
-struct Cell {
+struct NumberedCell {
     number: u64,
     value: u64,
 }
 
-impl Numbered for Cell {
+impl Numbered for NumberedCell {
     ghost number_of = { λ cell. cell.number };
 
     fn number(&self) -> u64 {
@@ -34,11 +34,11 @@ impl Numbered for Cell {
 struct Tripled;
 
 impl Work for Tripled {
-    type Cell = Cell;
+    type Cell = NumberedCell;
 
     ghost made = { λ _ before after. after.number ≡ before.number };
 
-    fn work(&self, cell: &mut Cell) {
+    fn work(&self, cell: &mut NumberedCell) {
         cell.value = cell.value.wrapping_mul(3).wrapping_add(cell.number);
     }
 }
@@ -109,10 +109,10 @@ impl Gate for Couples {
     }
 }
 
-fn cell_of(number: u64) -> Cell
+fn cell_of(number: u64) -> NumberedCell
     ensures { result.number ≡ number }
 {
-    Cell {
+    NumberedCell {
         number,
         value: number.wrapping_mul(7),
     }
@@ -125,7 +125,12 @@ fn expected(number: u64) -> u64 {
     one.value
 }
 
-fn put_until(rt: &impl Wait, queue: &Queue<Cell>, pass: &mut Pass<Cell>, job: Cell)
+fn put_until(
+    rt: &impl Wait,
+    queue: &Queue<NumberedCell>,
+    pass: &mut Pass<NumberedCell>,
+    job: NumberedCell,
+)
     requires { IsOf queue.now pass.old }
     ensures { IsOf queue.now pass.new }
 {
@@ -138,7 +143,12 @@ fn put_until(rt: &impl Wait, queue: &Queue<Cell>, pass: &mut Pass<Cell>, job: Ce
 }
 
 // Puts so many cells with a pause before each, and an end for each worker.
-fn feed<R: Wait + Clock>(rt: &R, jobs: &Queue<Cell>, mut pass: Pass<Cell>, load: Load)
+fn feed<R: Wait + Clock>(
+    rt: &R,
+    jobs: &Queue<NumberedCell>,
+    mut pass: Pass<NumberedCell>,
+    load: Load,
+)
     requires { IsOf jobs.now pass }
 {
     for number in 1..load.cells + 1 {
@@ -153,7 +163,12 @@ fn feed<R: Wait + Clock>(rt: &R, jobs: &Queue<Cell>, mut pass: Pass<Cell>, load:
 }
 
 // Takes as many results as there are cells, and counts those that are right and new.
-fn collect(rt: &impl Wait, results: &Queue<Cell>, mut pass: Pass<Cell>, cells: u64) -> u64
+fn collect(
+    rt: &impl Wait,
+    results: &Queue<NumberedCell>,
+    mut pass: Pass<NumberedCell>,
+    cells: u64,
+) -> u64
     requires { IsOf results.now pass }
 {
     let mut seen = [false; 10_000];
@@ -191,12 +206,12 @@ struct Load {
 // Two passes for each worker.
 fn passes_of(
     alloc: Global,
-    jobs: &Queue<Cell>,
-    first: &mut Pass<Cell>,
-    results: &Queue<Cell>,
-    second: &mut Pass<Cell>,
+    jobs: &Queue<NumberedCell>,
+    first: &mut Pass<NumberedCell>,
+    results: &Queue<NumberedCell>,
+    second: &mut Pass<NumberedCell>,
     workers: u64,
-) -> Result<Vec<Pass<Cell>>, AllocError>
+) -> Result<Vec<Pass<NumberedCell>>, AllocError>
     requires few { workers < 100 }
     requires jobs { IsOf jobs.now first.old × (200 ≤ (account_of first.old).shares) }
     requires results { IsOf results.now second.old × (200 ≤ (account_of second.old).shares) }
@@ -215,9 +230,9 @@ fn passes_of(
 fn serve<G: Gate + Sync, R: Threads + Wait + Sync>(
     rt: &R,
     gate: &G,
-    jobs: &Queue<Cell>,
-    results: &Queue<Cell>,
-    passes: Vec<Pass<Cell>>,
+    jobs: &Queue<NumberedCell>,
+    results: &Queue<NumberedCell>,
+    passes: Vec<Pass<NumberedCell>>,
 )
     requires { Ready jobs.now results.now passes.items }
 {
@@ -255,10 +270,10 @@ fn run<G: Gate + Sync, R: Threads + Wait + Clock + Sync>(
 
 fn feed_and_collect<R: Threads + Wait + Clock + Sync>(
     rt: &R,
-    jobs: &Queue<Cell>,
-    first: Pass<Cell>,
-    results: &Queue<Cell>,
-    second: Pass<Cell>,
+    jobs: &Queue<NumberedCell>,
+    first: Pass<NumberedCell>,
+    results: &Queue<NumberedCell>,
+    second: Pass<NumberedCell>,
     load: Load,
 ) -> u64
     requires { IsOf jobs.now first × IsOf results.now second }

@@ -1,8 +1,8 @@
 // A desk that is answered while the feed waits.
 use crate::checks::folder;
 use crate::folders::{PACKET, sink, words};
-use run_model::Code;
 use mibtm_tool::tool;
+use run_model::Code;
 use std::alloc::Global;
 use std::sync::Wait;
 use std::sync::atomic::{AtomicU64, Ordering};
@@ -103,12 +103,12 @@ impl Shelf for Parts<'_> {
 
 // Counts the octets that are written to a sink.
 #[derive(Drop)]
-struct Counted<'a> {
+struct OctetCounter<'a> {
     sink: MemSink,
     count: &'a AtomicU64,
 }
 
-impl Sink for Counted<'_> {
+impl Sink for OctetCounter<'_> {
     ghost written = { λ s. ⟦<MemSink as Sink>⟧.written s.sink };
 
     ghost handed = { λ s. ⟦<MemSink as Sink>⟧.handed s.sink };
@@ -148,7 +148,7 @@ fn run_waiting<X: Threads + Wait + Sync>(
     let mut feed = Parts::new(PACKET, PACKET, &asked, &replied, REPLIES.len() as u64);
     let mut desk = Parts::new(b"go\n", b"use 1\n", &told, &asked, 1);
     let mut out = sink(alloc, &[], 50)?;
-    let mut replies = Counted {
+    let mut replies = OctetCounter {
         sink: sink(alloc, &[], 50)?,
         count: &replied,
     };

@@ -4,15 +4,15 @@ use Rattle.std.specs.Borrow.{Bor}
 use Rattle.std.specs.Str.{bytes_eq}
 use Rattle.run_model.specs.Words.{Command, Check, Decode, Live, Drill, Parted, if_none, workers_of, check_of_words, decode_of_words, live_of_words, drill_of_words}
 use Rattle.run_model.specs.declared.code.Misuse.{Misuse}
-use Rattle.tool_words.specs.declared.request.Request.{Request}
-use Rattle.tool_words.specs.declared.request.Request.TheVariants as request
+use Rattle.tool_words.specs.declared.request.ToolRequest.{ToolRequest}
+use Rattle.tool_words.specs.declared.request.ToolRequest.TheVariants as request
 use Rattle.tool_words.specs.declared.request.Verb.{Verb}
 use Rattle.tool_words.specs.declared.request.Verb.TheVariants as verb
 use Rattle.tool_words.specs.declared.request.WordsFault.{WordsFault}
 use Rattle.tool_words.specs.declared.request.WordsFault.TheVariants as fault
 
 -- the command that a request is
-abbrev pub command_by : Request → Command
+abbrev pub command_by : ToolRequest → Command
 command_by (request.Check folder) = Check folder.now
 command_by (request.Decode folder feed workers) = Decode folder.now feed.now workers
 command_by (request.Live folder feed desk workers) = Live folder.now feed.now desk.now workers
@@ -39,7 +39,7 @@ asked verb.Live p = option_and_then (λ n. live_of_words n p.positional) (worker
 asked verb.Drill p = if_none p.workers (drill_of_words p.positional)
 
 -- an answer is the command that is asked for, or what is wrong with the words; nothing is said where memory runs out
-abbrev pub Asks : Result Request WordsFault → Result Command Misuse → Type 0
+abbrev pub Asks : Result ToolRequest WordsFault → Result Command Misuse → Type 0
 Asks (Ok request) asked = asked ≡ Ok (command_by request)
 Asks (Err (fault.Misuse misuse)) asked = asked ≡ Err misuse
 Asks (Err fault.Memory) asked = ⊤

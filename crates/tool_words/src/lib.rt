@@ -15,4 +15,4 @@ mod request;
 pub use board::{BoardRequest, board_request_in};
 pub use panel::panel_request_in;
 pub use panel_request::{MOST_DESKS, PanelRequest};
-pub use request::{Request, WordsFault, request_in};
+pub use request::{ToolRequest, WordsFault, request_in};

@@ -10,7 +10,7 @@ use std::alloc::Global;
 
 /// What the words ask for.
 #[derive(Clone, Copy, Debug, PartialEq, Eq)]
-pub enum Request<'a> {
+pub enum ToolRequest<'a> {
     Check {
         folder: &'a str,
     },
@@ -104,21 +104,21 @@ fn natural_in(word: &str) -> Option<u64>
 }
 
 // `check` with its words.
-fn check_of<'a>(words: &[&'a str]) -> Option<Request<'a>>
+fn check_of<'a>(words: &[&'a str]) -> Option<ToolRequest<'a>>
     ensures { option_map command_by result ≡ Words.check_of_words (texts words.now) }
 {
     match words {
-        [folder] => Some(Request::Check { folder }),
+        [folder] => Some(ToolRequest::Check { folder }),
         _ => None,
     }
 }
 
 // `decode` with its words.
-fn decode_of<'a>(words: &[&'a str], workers: u8) -> Option<Request<'a>>
+fn decode_of<'a>(words: &[&'a str], workers: u8) -> Option<ToolRequest<'a>>
     ensures { option_map command_by result ≡ Words.decode_of_words workers (texts words.now) }
 {
     match words {
-        [folder, feed] => Some(Request::Decode {
+        [folder, feed] => Some(ToolRequest::Decode {
             folder,
             feed,
             workers,
@@ -128,11 +128,11 @@ fn decode_of<'a>(words: &[&'a str], workers: u8) -> Option<Request<'a>>
 }
 
 // `live` with its words.
-fn live_of<'a>(words: &[&'a str], workers: u8) -> Option<Request<'a>>
+fn live_of<'a>(words: &[&'a str], workers: u8) -> Option<ToolRequest<'a>>
     ensures { option_map command_by result ≡ Words.live_of_words workers (texts words.now) }
 {
     match words {
-        [folder, feed, desk] if !(*feed == "-" && *desk == "-") => Some(Request::Live {
+        [folder, feed, desk] if !(*feed == "-" && *desk == "-") => Some(ToolRequest::Live {
             folder,
             feed,
             desk,
@@ -143,12 +143,12 @@ fn live_of<'a>(words: &[&'a str], workers: u8) -> Option<Request<'a>>
 }
 
 // `drill` with its words.
-fn drill_of<'a>(words: &[&'a str]) -> Option<Request<'a>>
+fn drill_of<'a>(words: &[&'a str]) -> Option<ToolRequest<'a>>
     ensures { option_map command_by result ≡ Words.drill_of_words (texts words.now) }
 {
     match words {
         [seed] => match natural_in(seed) {
-            Some(seed) => Some(Request::Drill { seed }),
+            Some(seed) => Some(ToolRequest::Drill { seed }),
             None => None,
         },
         _ => None,
@@ -156,7 +156,7 @@ fn drill_of<'a>(words: &[&'a str]) -> Option<Request<'a>>
 }
 
 // A command with its words and the numbers of workers.
-fn request_by<'a>(verb: Verb, words: &[&'a str], workers: &[&'a str]) -> Option<Request<'a>>
+fn request_by<'a>(verb: Verb, words: &[&'a str], workers: &[&'a str]) -> Option<ToolRequest<'a>>
     ensures { option_map command_by result ≡ asked verb (record { positional = texts words.now; workers = texts workers.now }) }
 {
     match (verb, workers_of(workers)) {
@@ -173,7 +173,7 @@ fn verb_request<'a>(
     alloc: Global,
     verb: Verb,
     words: &'a [String],
-) -> Result<Request<'a>, WordsFault>
+) -> Result<ToolRequest<'a>, WordsFault>
     ensures { Asks result (Words.or_words (option_and_then (asked verb) (Words.parted (map string_bytes words.now)))) }
 {
     let matches = match line_matches(alloc, words) {
@@ -190,7 +190,7 @@ fn verb_request<'a>(
 }
 
 /// What the words behind the program's name ask for.
-pub fn request_in<'a>(alloc: Global, words: &'a [String]) -> Result<Request<'a>, WordsFault>
+pub fn request_in<'a>(alloc: Global, words: &'a [String]) -> Result<ToolRequest<'a>, WordsFault>
     ensures { Asks result (Words.command_of (map string_bytes words.now)) }
 {
     match words {

@@ -1,6 +1,6 @@
 use Rattle.std.proofs.Common.{◌≡◌, ◌≤◌, ◌-◌, length, take}
 use Rattle.std.specs.List.{All, concat}
-use Rattle.decode_session.proofs.job.Job.take.Given as goal
+use Rattle.decode_session.proofs.job.DrawingJob.take.Given as goal
 use Rattle.mib_model.specs.Packets.{IsPacket}
 
 abbrev pub invariant-loop-at : goal.invariant-loop-at

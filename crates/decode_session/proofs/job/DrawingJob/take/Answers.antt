@@ -3,7 +3,7 @@ use Rattle.std.specs.List.{All, concat}
 use Rattle.std.proofs.lemmas.List.{take_rest}
 use Rattle.std.proofs.lemmas.List.Elements.{All-push}
 use Rattle.std.proofs.lemmas.List.Folds.{concat-append}
-use Rattle.decode_session.proofs.job.Job.take.Goals as goal
+use Rattle.decode_session.proofs.job.DrawingJob.take.Goals as goal
 use Rattle.mib_model.specs.Packets.{IsPacket}
 
 pub loop-at-preserved : goal.loop-at-preserved
