@@ -7,7 +7,7 @@ use Rattle.mib_model.specs.declared.key.Key.{Key}
 use Rattle.mib_model.specs.declared.key.Key.TheVariants as key
 use Rattle.mib_model.specs.Keys.{same_key}
 use Rattle.mib_keys.specs.Alike.{key_eq}
-use Rattle.mib_keys.proofs.AnyFacts.{both-same}
+use Rattle.row_flaws.proofs.AnyFacts.{both-same}
 
 option-flip : (a b : Option ℕ) → option_eq nat_eq a b ≡ option_eq nat_eq b a
 option-flip None None = refl

@@ -1,10 +1,4 @@
-mod AnyFacts
-mod LookupFacts
 mod KeyFacts
-mod PointFacts
-pub mod OrderFacts
-mod GroupFacts
-mod SweepFacts
 mod FlawFacts
 mod TwiceFacts
 mod KeptFacts

@@ -1,14 +1,24 @@
 -- Places of rows that are like a row, before its own place.
-use Rattle.std.proofs.Common.{◌≡◌, ℕ, ◌<◌, min, Bool, true, false, cond, List, take, Option, Some, None, unwrap_or, refl, ap, ◌∙◌, nat_lt, arith}
+use Rattle.std.proofs.Common.{◌≡◌, ℕ, ◌<◌, min, Bool, true, false, cond, List, [], ◌∷◌, take, Option, Some, None, unwrap_or, refl, sym, ap, ◌∙◌, nat_lt, arith}
 use Rattle.std.proofs.lemmas.Bool.{ltb-true, ltb-false, lt-ltb, le-ltb}
 use Rattle.std.specs.List.{position}
 use Rattle.mib_model.specs.declared.key.Key.{Key}
+use Rattle.mib_model.specs.declared.database.Database.{Database}
+use Rattle.mib_model.specs.declared.rows.PidRow.{PidRow}
 use Rattle.mib_model.specs.declared.rows.Row.{Row}
+use Rattle.mib_model.specs.declared.rows.Row.TheVariants as row
+use Rattle.mib_model.specs.Drafts.{rows_of}
+use Rattle.mib_model.specs.RowTexts.{kind_in}
+use Rattle.mib_model.specs.TypedRows.{as_pid}
 use Rattle.mib_model.specs.Keys.{key_in}
-use Rattle.mib_keys.specs.Alike.{AreKeyPlaces, has_its_key}
+use Rattle.mib_keys.specs.Alike.{AreKeyPlaces, are_of_a_kind, has_its_key, has_its_kind}
 use Rattle.mib_keys.specs.Firsts.{least}
-use Rattle.mib_keys.specs.Indexes.{cut}
-use Rattle.mib_keys.proofs.PointFacts.{position-take}
+use Rattle.mib_index.proofs.PlaceFacts.{position-cons}
+use Rattle.mib_tables.proofs.TableFacts.{position-map}
+use Rattle.row_flaws.specs.Indexes.{cut}
+use Rattle.mib_index.specs.Packets.{packet_eq, packet_of}
+use Rattle.row_flaws.specs.Rows.{IsFirst}
+use Rattle.row_flaws.proofs.PointFacts.{position-take}
 
 -- no place is before itself
 pub cut-default : (n : ℕ) (o : Option ℕ) → cut n (Some (unwrap_or o n)) ≡ cut n o
@@ -46,7 +56,25 @@ none-left (Some i) None h = h
 none-left (Some i) (Some j) h = absurd (cc h)
 
 -- the place of the first row before one that has its key
-pub own-place : {R : Type 0} (as_row : R → Row) (noted : Key → Option ℕ) (rows : List R) (n : ℕ) (row : R) → AreKeyPlaces as_row noted (take n rows)
-    → cut n (noted (key_in (as_row row))) ≡ cut n (position (has_its_key as_row row) rows)
-own-place as_row noted rows n row are =
-    ap (cut n) (are (key_in (as_row row)) ∙ position-take (has_its_key as_row row) n rows) ∙ cut-again n (position (has_its_key as_row row) rows)
+pub own-place : (noted : Key → Option ℕ) (rows : List Row) (n : ℕ) (r : Row) → AreKeyPlaces noted (take n rows) → cut n (noted (key_in r)) ≡ cut n (position (has_its_key r) rows)
+own-place noted rows n r are = ap (cut n) (are (key_in r) ∙ position-take (has_its_key r) n rows) ∙ cut-again n (position (has_its_key r) rows)
+
+-- a row of vpd whose key no row before has is the first at its place
+pub is-first : (db : Database) (n : ℕ) (r : Row) → cut n (position (has_its_key r) (rows_of db (kind_in r))) ≡ None → IsFirst db n r
+unfolding rows_of
+is-first db n (row.Vpd r) none = ap (cut n) (sym (position-map row.Vpd (has_its_key (row.Vpd r)) db.vpd)) ∙ none
+is-first db n other none = tt
+
+no-place : {X : Type 0} (p : X → Bool) → ((x : X) → p x ≡ false) → (xs : List X) → position p xs ≡ None
+no-place p none [] = refl
+no-place p none (x ∷ xs) = position-cons p x xs ∙ rw (none x, no-place p none xs) refl
+
+-- a row that is no packet has the kind of no row
+pub no-kind : (rows : List Row) (r : Row) → as_pid r ≡ None → position (has_its_kind r) rows ≡ None
+no-kind rows r none = no-place (has_its_kind r) (λ (other : Row). ap (λ (p : Option PidRow). are_of_a_kind p (as_pid other)) none) rows
+
+-- a packet has the kind of packets
+pub own-kind : (db : Database) (r : Row) (p : PidRow) → as_pid r ≡ Some p → position (has_its_kind r) (rows_of db (kind_in r)) ≡ position (λ (o : PidRow). packet_eq (packet_of o) (packet_of p)) db.pid
+unfolding rows_of
+own-kind db (row.Pid q) p is = let same : q ≡ p = cc in position-map row.Pid (has_its_kind (row.Pid q)) db.pid ∙ ap (λ (k : PidRow). position (λ (o : PidRow). packet_eq (packet_of o) (packet_of k)) db.pid) same
+own-kind db other p is = absurd (cc is)

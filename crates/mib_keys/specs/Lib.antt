@@ -1,9 +1,5 @@
-pub mod Indexes
-pub mod Firsts
 pub mod Alike
-pub mod Points
-pub mod Structures
-pub mod Known
+pub mod Firsts
 pub mod Answers
 pub mod Kept
 pub mod Read

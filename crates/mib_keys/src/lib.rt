@@ -1,28 +1,20 @@
 //! Soundness of a monitoring database: the first flaw of its tables, by table, row and code.
 //!
-//! `sound` answers `Ok` exactly where no flaw stands, and else exactly the first. It looks keys up in hash maps, one for each
-//! key that rules ask for, and notes the key of each row once. `sound_by` answers it of a book whose index is at hand, and
-//! `sound_beside` of a book beside a sound base, of which it tests the tables alone that read something new. It rests on the
-//! definitions of `mib_model`, on the `Book` of `mib_tables`, on `mib_index` for rows by their keys, on `row_laws` and
-//! `row_sameness` for rows that are the same, on the numbers of `dec_num` and on the types of `bit_field`.
+//! `sound` answers `Ok` exactly where no flaw stands, and else exactly the first. It notes the key of each row once, and asks
+//! `row_flaws` what else is wrong with a row. `sound_by` answers it of a book whose index is at hand, and `sound_beside` of a
+//! book beside a sound base, of which it tests the tables alone that read something new. It rests on the definitions of
+//! `mib_model`, on the `Book` of `mib_tables`, on `mib_index` for rows by their keys, on `row_flaws` for the rules of each table,
+//! and on `row_laws` and `row_sameness` for rows that are the same.
 #![tactic(auto)]
 
 mod beside;
 mod fault;
-mod flaw;
-mod groups;
 mod kept;
 mod keyed;
 mod known;
-mod lookups;
-mod points;
 mod read;
-mod rules;
 mod soundness;
-mod structures;
-mod tables;
 mod twice;
-mod types;
 
 pub use beside::{sound_beside, sound_with};
 pub use fault::SoundFault;

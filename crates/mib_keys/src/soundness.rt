@@ -1,86 +1,72 @@
 // The first flaw of a book's tables.
-ghost use Rattle.std.specs.Prelude.{◌≡◌, ◌+◌, ◌<◌, ◌≤◌, ◌∷◌, length, take, Some, None, IfOk, OnOk, if◌then◌else◌};
+ghost use Rattle.std.specs.Prelude.{◌≡◌, ◌+◌, ◌<◌, ◌≤◌, length, map, take, Some, None, IfOk, OnOk, if◌then◌else◌};
 ghost use Rattle.std.specs.HashMap.{get};
 ghost use Rattle.std.specs.Option.{option_or};
 ghost use Rattle.mib_model.specs.declared.key.Key.{Key};
-ghost use Rattle.mib_model.specs.Flaws.{table_flaws, twice_by};
+ghost use Rattle.mib_model.specs.Drafts.{rows_of};
 ghost use Rattle.mib_model.specs.Keys.{key_in};
 ghost use Rattle.mib_model.specs.Points.{first_of};
+ghost use Rattle.mib_model.specs.RowTexts.{kind_in};
 ghost use Rattle.mib_model.specs.Soundness.{first_flaw, flaws_of};
 ghost use Rattle.mib_keys.specs.Alike.{AreKeyPlaces, key_eq};
 ghost use Rattle.mib_keys.specs.Answers.{Gives};
-ghost use Rattle.mib_keys.specs.Firsts.{flaw_in, first_in};
+ghost use Rattle.mib_keys.specs.Firsts.{flaw_at};
 ghost use Rattle.mib_model.specs.declared.limits.TheConstants.{HELD_MOST};
 
 use crate::fault::SoundFault;
 use crate::keyed::ByOwn;
-use crate::lookups::Lookups;
-use crate::tables::Rules;
-use crate::twice::{ByItsKey, ByNumberOrKind, Repeats};
+use crate::twice::earlier;
 use mib_index::Index;
-use mib_model::{
-    CafRow, CapRow, CurRow, KINDS, Kind, LgfRow, McfRow, MibCode, MibFault, OcfRow, OcpRow, PcfRow,
-    PicRow, PlfRow, TableRow, TpcfRow, TxfRow, TxpRow, VpdRow,
-};
+use mib_model::{KINDS, Kind, MibCode, MibFault, TableRow};
 use mib_tables::Book;
+use row_flaws::{Lookups, row_flaw};
 use std::alloc::{AllocError, Global};
 use std::collections::HashMap;
 
 // The first flaw of a row. Notes its key.
-fn row_flaw<'a, T: Repeats>(
+fn row_flaw_of<'a, R: TableRow>(
     lookups: &Lookups<'_>,
-    seen: &mut HashMap<ByOwn<'a, T::Row>, usize>,
+    seen: &mut HashMap<ByOwn<'a, R>, usize>,
     place: usize,
-    row: &'a T::Row,
+    row: &'a R,
 ) -> Result<Option<MibFault>, AllocError>
-    requires seen { AreKeyPlaces T.Row.as_row (get key_eq seen.old) (take place (T.Row.listed lookups.now)) }
+    requires seen { AreKeyPlaces (get key_eq seen.old) (take place (rows_of lookups.now (kind_in (R.as_row row.now)))) }
+    requires own { kind_in (R.as_row row.now) ≡ R.kind }
     requires few { place < HELD_MOST }
-    ensures flaw { IfOk result (λ flaw. flaw ≡ flaw_in T.Row.kind T.alike (T.Row.rest lookups.now) (T.Row.listed lookups.now) (place + 1) row.now) }
+    ensures flaw { IfOk result (λ flaw. flaw ≡ flaw_at lookups.now (place + 1) (R.as_row row.now)) }
     ensures seen { OnOk result ((q : Key) → get key_eq seen.new q
-        ≡ option_or (get key_eq seen.old q) (if key_eq (key_in (T.Row.as_row row.now)) q then Some place else None)) }
+        ≡ option_or (get key_eq seen.old q) (if key_eq (key_in (R.as_row row.now)) q then Some place else None)) }
 {
-    match T::earlier(row, lookups, seen, place)? {
+    match earlier(lookups, seen, place, row)? {
         Some(first) => Ok(Some(MibFault {
-            table: T::Row::kind(),
+            table: R::kind(),
             row: place as u32 + 1,
             column: 0,
             first: first as u32 + 1,
             code: MibCode::Twice,
         })),
-        None => Ok(row.flaw(lookups, place as u32 + 1)),
+        None => Ok(row_flaw(lookups, place as u32 + 1, &row.to_row())),
     }
 }
 
-// The first flaw of rows, row by row.
-fn rows_flaw<T: Repeats>(
+// The first flaw of the rows of a table, row by row.
+fn table_flaw<R: TableRow>(
     alloc: Global,
     lookups: &Lookups<'_>,
-    rows: &[T::Row],
+    rows: &[R],
 ) -> Result<Option<MibFault>, AllocError>
-    requires own { rows.now ≡ T.Row.listed lookups.now }
+    requires own { (row : R) → kind_in (R.as_row row) ≡ R.kind }
+    requires rows { map R.as_row rows.now ≡ rows_of lookups.now R.kind }
     requires few { length rows.now ≤ HELD_MOST }
-    ensures { IfOk result (λ flaw. flaw ≡ first_in (flaw_in T.Row.kind T.alike (T.Row.rest lookups.now) (T.Row.listed lookups.now)) 1 rows.now) }
+    ensures { IfOk result (λ flaw. flaw ≡ first_of (flaws_of lookups.now R.kind)) }
 {
     let mut seen = HashMap::with_capacity(alloc, rows.len())?;
     for (place, row) in rows.iter().enumerate() {
-        if let Some(flaw) = row_flaw::<T>(lookups, &mut seen, place, row)? {
+        if let Some(flaw) = row_flaw_of(lookups, &mut seen, place, row)? {
             return Ok(Some(flaw));
         }
     }
     Ok(None)
-}
-
-// The first flaw of the rows of a table.
-fn table_flaw<T: Repeats>(
-    alloc: Global,
-    lookups: &Lookups<'_>,
-    rows: &[T::Row],
-) -> Result<Option<MibFault>, AllocError>
-    requires own { rows.now ≡ T.Row.listed lookups.now }
-    requires few { length rows.now ≤ HELD_MOST }
-    ensures { IfOk result (λ flaw. flaw ≡ first_of (table_flaws T.Row.kind (twice_by T.alike ∷ T.Row.rest lookups.now) (T.Row.listed lookups.now))) }
-{
-    rows_flaw::<T>(alloc, lookups, rows)
 }
 
 // The first flaw of a table.
@@ -93,21 +79,21 @@ fn kind_flaw(
 {
     let book = lookups.book();
     match kind {
-        Kind::Pcf => table_flaw::<ByItsKey<PcfRow>>(alloc, lookups, book.pcf()),
-        Kind::Pid => table_flaw::<ByNumberOrKind>(alloc, lookups, book.pid()),
-        Kind::Pic => table_flaw::<ByItsKey<PicRow>>(alloc, lookups, book.pic()),
-        Kind::Tpcf => table_flaw::<ByItsKey<TpcfRow>>(alloc, lookups, book.tpcf()),
-        Kind::Plf => table_flaw::<ByItsKey<PlfRow>>(alloc, lookups, book.plf()),
-        Kind::Vpd => table_flaw::<ByItsKey<VpdRow>>(alloc, lookups, book.vpd()),
-        Kind::Cur => table_flaw::<ByItsKey<CurRow>>(alloc, lookups, book.cur()),
-        Kind::Caf => table_flaw::<ByItsKey<CafRow>>(alloc, lookups, book.caf()),
-        Kind::Cap => table_flaw::<ByItsKey<CapRow>>(alloc, lookups, book.cap()),
-        Kind::Txf => table_flaw::<ByItsKey<TxfRow>>(alloc, lookups, book.txf()),
-        Kind::Txp => table_flaw::<ByItsKey<TxpRow>>(alloc, lookups, book.txp()),
-        Kind::Mcf => table_flaw::<ByItsKey<McfRow>>(alloc, lookups, book.mcf()),
-        Kind::Lgf => table_flaw::<ByItsKey<LgfRow>>(alloc, lookups, book.lgf()),
-        Kind::Ocf => table_flaw::<ByItsKey<OcfRow>>(alloc, lookups, book.ocf()),
-        Kind::Ocp => table_flaw::<ByItsKey<OcpRow>>(alloc, lookups, book.ocp()),
+        Kind::Pcf => table_flaw(alloc, lookups, book.pcf()),
+        Kind::Pid => table_flaw(alloc, lookups, book.pid()),
+        Kind::Pic => table_flaw(alloc, lookups, book.pic()),
+        Kind::Tpcf => table_flaw(alloc, lookups, book.tpcf()),
+        Kind::Plf => table_flaw(alloc, lookups, book.plf()),
+        Kind::Vpd => table_flaw(alloc, lookups, book.vpd()),
+        Kind::Cur => table_flaw(alloc, lookups, book.cur()),
+        Kind::Caf => table_flaw(alloc, lookups, book.caf()),
+        Kind::Cap => table_flaw(alloc, lookups, book.cap()),
+        Kind::Txf => table_flaw(alloc, lookups, book.txf()),
+        Kind::Txp => table_flaw(alloc, lookups, book.txp()),
+        Kind::Mcf => table_flaw(alloc, lookups, book.mcf()),
+        Kind::Lgf => table_flaw(alloc, lookups, book.lgf()),
+        Kind::Ocf => table_flaw(alloc, lookups, book.ocf()),
+        Kind::Ocp => table_flaw(alloc, lookups, book.ocp()),
     }
 }
 

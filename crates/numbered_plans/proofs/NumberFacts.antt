@@ -3,7 +3,7 @@ use Rattle.std.proofs.Common.{◌≡◌, ℕ, suc, nat_le, Bool, true, false, co
 use Rattle.std.proofs.lemmas.Bool.{leb-false, leb-true}
 use Rattle.std.specs.List.Sorted.{IsNonDecreasingBy, IsStableByKey}
 use Rattle.std.specs.Ordering.{nat_cmp}
-use Rattle.mib_keys.proofs.OrderFacts.{sorted-filter}
+use Rattle.row_flaws.proofs.OrderFacts.{sorted-filter}
 use Rattle.mib_model.specs.Orders.{insert_by, sorted_by, sorted_by_number}
 
 -- numbers in order

@@ -3,7 +3,7 @@ use Rattle.std.proofs.lemmas.Fn.{always_returns_same}
 use Rattle.std.proofs.lemmas.List.Sorted.{IsNonDecreasingBy-from_sort_by_key}
 use Rattle.std.specs.List.Sorted.{IsNonDecreasingBy, IsStableByKey}
 use Rattle.std.specs.Ordering.{nat_cmp}
-use Rattle.mib_keys.proofs.OrderFacts.{sorted-filter}
+use Rattle.row_flaws.proofs.OrderFacts.{sorted-filter}
 use Rattle.mib_model.specs.declared.rows.VpdRow.{VpdRow}
 use Rattle.numbered_plans.proofs.structure_sources.by_pos.Goals as goal
 
