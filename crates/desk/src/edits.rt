@@ -8,9 +8,9 @@ ghost use Rattle.run_model.specs.DeskLines as Spec;
 use crate::draft::Draft;
 use desk_lines::Request;
 use mib_model::Kind;
-use run_model::Reply;
 use mib_rows::{ReadFault, read_key, read_row};
 use mib_tables::{DelFault, Put};
+use run_model::Reply;
 use std::alloc::Global;
 
 /// A request that makes an entry into the register.

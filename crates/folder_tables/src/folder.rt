@@ -6,8 +6,8 @@ ghost use Rattle.tool_objects.specs.Sources.{if_sound, sound_in};
 
 use mib_keys::{SoundFault, sound};
 use mib_model::MibFault;
-use run_model::Code;
 use mib_tables::Book;
+use run_model::Code;
 use session::{LoadFault, load};
 use std::alloc::Global;
 use tm_io::Shelf;

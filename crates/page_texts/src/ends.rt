@@ -4,8 +4,8 @@ ghost use Rattle.page_texts.specs.Codes as Spec;
 
 use crate::code::{BoardCode, BoardInput};
 use mib_model::Line;
-use run_model::{Code, Input};
 use reply_text::{add_number, code_line};
+use run_model::{Code, Input};
 
 // Writes the line of a file of names that is refused into an empty line.
 fn add_bad_page(line: u32, out: &mut Line)

@@ -4,8 +4,8 @@ ghost use Rattle.tm_audit.specs.Codes as Spec;
 
 use crate::code::{AuditCode, AuditInput};
 use mib_model::Line;
-use run_model::{Code, Input};
 use reply_text::{add_number, code_line};
+use run_model::{Code, Input};
 
 impl AuditCode {
     // The code of a decoding that ends so too; none of an end that an audit alone has.
