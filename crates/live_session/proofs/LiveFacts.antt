@@ -82,7 +82,7 @@ module _ {W : Type 0} (stands : W → List Member → Type 0) (watch watched : W
     feed_count = i.feed_count;
     whole = read-out ended i.feed_failed i.packets i.rest l0 l1 before now i.is_failed i.ends;
     written = subst (WritesUnless (is_out_failed ended) w0 w1) (text-same first history own legal permits is i.packets (rest_unless i.feed_failed i.rest)) i.text;
-    ahead = reads-ahead first history own legal permits is i.packets i.commits.count i.commits.more w0 w1 out_before out_now i.many i.commits.few i.commits.least;
+    ahead = reads-ahead first history own legal permits is i.packets i.commits.count i.commits.more w0 w1 out_before out_now i.many i.commits.few i.commits.least i.commits.in_next;
   }
 
   -- a live run

@@ -22,7 +22,8 @@ use Rattle.run_model.specs.Output as Output
 use Rattle.run_model.specs.Output.{output, stamped_in}
 use Rattle.run_model.specs.Register.{answer_to, after, opening}
 use Rattle.run_model.specs.RegisterHistories.{IsRegisterHistory, MayEnter, RegisterHistory, register_after, stamp_in, stamps}
-use Rattle.packet_run.specs.Stamped.{stamped_by_moves, stamped_with, text_of}
+use Rattle.packet_run.proofs.StampFacts.{take_one}
+use Rattle.packet_run.specs.Stamped.{EndsInNext, stamped_by_moves, stamped_with, text_of}
 use Rattle.packet_run.specs.Told.{Member, members_from}
 
 -- a reply is a stamp
@@ -153,16 +154,27 @@ module _ (first : Database) (history own : RegisterHistory) (legal : IsRegisterH
   pub none-left : (n : ℕ) (packets : List (List ℕ)) → length packets ≡ length own → n ≡ length (by_moves own packets) → drop n packets ≡ []
   none-left n packets many all = drop_all n packets (let s = stamped-count packets many in omega (arith, s, all))
 
-  -- where so many records were written whole, and maybe more, no more packets were read behind them than may be in flight
+  -- the text of the first stamps is the output of the first packets
+  text-taken : (n : ℕ) (packets : List (List ℕ)) → text_of first (take n (by_moves own packets)) ≡ output first (take n packets) history []
+  text-taken n packets =
+      ap (λ ss. text_of first ss) (first-stamped n packets) ∙ sym (append-nil (text_of first (by_moves own (take n packets)))) ∙ text-same (take n packets) []
+
+  -- where so many records were written whole and no other, no more packets were read behind them than may be in flight
   unfoldable pub reads-ahead : (packets : List (List ℕ)) (count : ℕ) (more : List ℕ) (old new : Option (List ℕ)) (before now : ℕ) → length packets ≡ length own
       → length (by_moves own packets) ≤ count + most_in_flight → Appends old new (text_of first (take count (by_moves own packets)) ++ more)
-      → ReadsAhead first history packets (object old new before now)
-  reads-ahead packets count more old new before now many few least = record {
+      → EndsInNext first (by_moves own packets) count more → ReadsAhead first history packets (object old new before now)
+  reads-ahead packets count more old new before now many few least in_next = record {
     printed = take count packets;
     others = drop count packets;
     parted = sym (take-append-drop count packets);
     few = (let l = length-drop count packets in let s = stamped-count packets many in omega (arith, l, s, few));
     more = more;
-    least = subst (λ text. Appends old new (text ++ more))
-        (ap (λ ss. text_of first ss) (first-stamped count packets) ∙ sym (append-nil (text_of first (by_moves own (take count packets)))) ∙ text-same (take count packets) []) least;
+    least = subst (λ text. Appends old new (text ++ more)) (text-taken count packets) least;
+    in_next = λ next rest is.
+        let one = ap (λ ps. output first ps history []) (take_one packets count next rest is) in
+        let here = ap (λ text. length (text ++ more)) (text-taken count packets) in
+        let there = ap (λ (text : List ℕ). length text) (text-taken (count + 1) packets ∙ one) in
+        let left = length-drop count packets in let some = ap (λ (ps : List (List ℕ)). length ps) is in let s = stamped-count packets many in
+        let ends = in_next (omega (arith, left, some, s)) in
+        omega (arith, here, there, ends);
   }

@@ -1,5 +1,5 @@
 -- What a live run leaves. [This profile.]
-use Rattle.std.specs.Prelude.{◌≡◌, ◌≢◌, ◌⊎◌, ℕ, ◌≤◌, ◌<◌, ◌+◌, ◌^◌, ◌==◌, Bool, false, List, [], ◌++◌, length, Option, IfSome}
+use Rattle.std.specs.Prelude.{◌≡◌, ◌≢◌, ◌⊎◌, ℕ, ◌≤◌, ◌<◌, ◌+◌, ◌^◌, ◌==◌, Bool, false, List, [], ◌∷◌, ◌++◌, length, Option, IfSome}
 use Rattle.std.specs.Io.KnownBytes.{Appends, Consumes, IsAtEnd}
 use Rattle.decode_session.specs.Run.{most_in_flight, most_packets}
 use Rattle.histories.specs.History.{IsOfSeatsBelow, Permits, calls_of, moves_of}
@@ -60,8 +60,8 @@ pub record IsLiveHistory (first : Database) (history : RegisterHistory) : Type 0
 abbrev pub IsReadOut : Object → List (List ℕ) → Type 0
 IsReadOut feed packets = IfSome feed.old (λ octets. IsAtEnd feed.new) ⊎ (length packets ≡ most_packets)
 
--- of the packets that were read the first ones were printed whole, by their stamps in the history, and maybe more was; no more packets
--- were read behind those than may be in flight
+-- of the packets that were read the records of the first ones were printed whole, by their stamps in the history, and no other: what stands behind them
+-- ends before the next record does; no more packets were read behind those than may be in flight
 pub record ReadsAhead (first : Database) (history : RegisterHistory) (packets : List (List ℕ)) (out : Object) : Type 0 where
   pub printed : List (List ℕ)
   pub others : List (List ℕ)
@@ -69,6 +69,8 @@ pub record ReadsAhead (first : Database) (history : RegisterHistory) (packets : 
   pub few : length others ≤ most_in_flight
   pub more : List ℕ
   pub least : Appends out.old out.new (output first printed history [] ++ more)
+  pub in_next : (next : List ℕ) (rest : List (List ℕ)) → others ≡ next ∷ rest
+      → length (output first printed history [] ++ more) < length (output first (printed ++ next ∷ []) history [])
 
 -- what was read of the feed is cut into packets and a rest; each packet was stamped, and the output got the text of all by their
 -- stamps in the history, or where it failed a first part of it, behind which few packets were read; where neither failed the feed was

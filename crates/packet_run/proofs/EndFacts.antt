@@ -188,6 +188,7 @@ module _ {W : Type 0} {stands : W → List Member → Type 0} {from : From W} {o
           few = omega (arith, read, ahead, same, more);
           more = prints.over;
           least = prints.printed;
+          in_next = prints.in_next;
           told = prints.watched;
         }))
 
@@ -216,6 +217,7 @@ module _ {W : Type 0} {stands : W → List Member → Type 0} {from : From W} {o
           more = take over.0 (rest_unless b.failed b.rest);
           least = rw (same, whole)
               (Appends-trans from.written mid written (text_of from.first ss) (take over.0 (rest_unless b.failed b.rest)) wrote over.1);
+          in_next = λ some. absurd (omega (arith, read, all, some));
           told = g.watched;
         }))
 

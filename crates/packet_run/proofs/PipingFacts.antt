@@ -3,9 +3,9 @@ use Rattle.packet_run.proofs.Common.{[], ℕ, ◌++◌, ◌+◌, ◌<◌, ◌∙
 use Rattle.decode_pool.proofs.PutFacts.{puts_further, puts_job, puts_nothing}
 use Rattle.decode_session.specs.Finishing.{standing}
 use Rattle.mib_model.specs.Interpreter.{course_after_all, interpret}
-use Rattle.tm_io.specs.Octets.{AppendsPrefix}
+use Rattle.tm_io.specs.Octets.{AppendsPart}
 use Rattle.packet_run.proofs.KeepsFacts.{keeps_refl, right_before}
-use Rattle.packet_run.proofs.StampFacts.{at_place, course-is, course-next, extends_less, members-next, numbered_push, take_one, text-front, text-next, use_at}
+use Rattle.packet_run.proofs.StampFacts.{at_place, course-is, course-next, extends_less, in-next, members-next, none-in-next, numbered_push, take_one, text-front, text-next, use_at}
 use Rattle.packet_run.specs.Stamped.{text_of}
 use Rattle.packet_run.specs.Told.{members_from}
 use Rattle.packet_run.specs.declared.job.Job.{Job}
@@ -117,13 +117,13 @@ module _ {P : Type 0} {plans : Ghosts P} {tables : P → Database} where
     -- a first part of a record, behind the text of the packets before
     prints_part : (all : List StampedPacket) (n : ℕ) (s : StampedPacket) (rest : List StampedPacket) {u : InUse P plans} {w : W} {x y : Known}
         → drop n all ≡ s ∷ rest
-        → AppendsPrefix x y (record_text (record_for (course_of tables u) s)) → Going tables stands from all n u w x → Prints stands from all n w y
+        → AppendsPart x y (record_text (record_for (course_of tables u) s)) → Going tables stands from all n u w x → Prints stands from all n w y
     prints_part all n s rest {u} {w} {x} {y} at part g =
         let front = take n all in
         let text = text_of from.first front in
         let next : take (n + 1) all ≡ front ++ s ∷ [] = take_one all n s rest at in
         let whole = record_text (record_for (course_after_all (start from.first) front) s) in
-        let p = subst (λ (k : Course). AppendsPrefix x y (record_text (record_for k s))) g.course part in
+        let p = subst (λ (k : Course). AppendsPart x y (record_text (record_for k s))) g.course part in
         let behind = text-front from.first (n + 1) all in
         record {
           over = take p.0 whole;
@@ -131,7 +131,8 @@ module _ {P : Type 0} {plans : Ghosts P} {tables : P → Database} where
           parts = behind.1 ∙ ap (λ t. t ++ behind.0) (ap (text_of from.first) next ∙ text-next from.first front s
               ∙ ap (λ t. text ++ t) (sym (take-append-drop p.0 whole)) ∙ sym (append_assoc text (take p.0 whole) (drop p.0 whole)))
               ∙ append_assoc (text ++ take p.0 whole) (drop p.0 whole) behind.0;
-          printed = Appends-trans from.written x y text (take p.0 whole) g.printed p.1;
+          printed = Appends-trans from.written x y text (take p.0 whole) g.printed p.2;
+          in_next = in-next from.first all n p.0 s rest at p.1;
           watched = g.watched;
         }
 
@@ -163,7 +164,7 @@ module _ {P : Type 0} {plans : Ghosts P} {tables : P → Database} where
     pub stopped_commit : {stamped : List StampedPacket} {p q : Pipeline P plans} {u : InUse P plans} {w w' : W} {x y : Known} (t : Task P plans)
         → Some t ≡ waiting p.window (next_of p.window) → next_of p.window ≡ p.done + 1 → p.done < p.read
         → Keeps tables p q → put_by q ≡ put_by p → q.done ≡ p.done → q.read ≡ p.read → w' ≡ w
-        → ((s : StampedPacket) → IsOfInUse tables u s → IsResultOf tables s t → AppendsPrefix x y (record_text (record_for (course_of tables u) s)))
+        → ((s : StampedPacket) → IsOfInUse tables u s → IsResultOf tables s t → AppendsPart x y (record_text (record_for (course_of tables u) s)))
         → Piping tables stands from stamped p u w x → Stopped tables stands from stamped q w' y
     stopped_commit {p = p} t taken next lt k put done read untold part pp = work_on k put read pp.work (λ all extends right g.
         let n = next_in t taken next lt pp all extends right in rw (done, untold) (prints_part all p.done n.s n.rest n.at (part n.s n.of_use n.is) g))
@@ -189,6 +190,7 @@ module _ {P : Type 0} {plans : Ghosts P} {tables : P → Database} where
           more = behind.0;
           parts = rw append-nil behind.1;
           printed = rw (same, append-nil) g.printed;
+          in_next = none-in-next from.first all p.done;
           watched = g.watched;
         })
 
@@ -226,7 +228,7 @@ module _ {P : Type 0} {plans : Ghosts P} {tables : P → Database} where
     -- the output failed in its record
     pub stopped_alone : {stamped : List StampedPacket} {p q : Pipeline P plans} {u : InUse P plans} {w w' : W} {x y : Known} (s : StampedPacket)
         → Keeps tables p q → put_by q ≡ put_by p → p.done ≡ p.read → q.done ≡ p.done → q.read ≡ p.read + 1 → s.number ≡ length stamped + 1
-        → w' ≡ w → AppendsPrefix x y (record_text (record_for (course_of tables u) s)) → Piping tables stands from stamped p u w x
+        → w' ≡ w → AppendsPart x y (record_text (record_for (course_of tables u) s)) → Piping tables stands from stamped p u w x
         → Stopped tables stands from (stamped ++ s ∷ []) q w' y
     stopped_alone {stamped} {p} s k put all_done done read number untold part pp =
         let r = pp.work.read in let at : p.done ≡ length stamped = omega (arith, all_done, r) in

@@ -1,10 +1,13 @@
 -- Stamped packets, one by one.
-use Rattle.packet_run.proofs.Common.{[], ℕ, ◌++◌, ◌+◌, ◌<◌, ◌∙◌, ◌∷◌, ◌≡◌, All, All-head, ap, append-nil, append_assoc, arith, Contains, Course, Database, drop, drop_more, Extends, get_or, IsNumberedFrom, length, List, member, record_for, record_text, records_text, refl, StampedPacket, start, subst, suc, sym, take, take-add, take-append-drop, zero}
+use Rattle.packet_run.proofs.Common.{[], ◌++◌, ◌+◌, ◌<◌, ◌∙◌, ◌∷◌, ◌≡◌, All, All-head, ap, append-nil, append_assoc, arith, Contains, Course, Database, drop, drop_more, edition_text_of, ended_text, Extends, flat_map, get_or, head_text, IsNumberedFrom, length, length-append, List, member, record_body, record_for, record_text, records_text, refl, StampedPacket, start, subst, suc, sym, take, take-add, take-append-drop, told_text, zero, ℕ}
 use Rattle.decode_session.specs.Finishing.{standing}
 use Rattle.mib_laws.proofs.RunFacts.{interpret-append}
 use Rattle.mib_model.specs.Interpreter.{course_after, course_after_all, interpret}
+use Rattle.mib_model.specs.Headers.{header_of}
+use Rattle.mib_model.specs.Tails.{Record}
 use Rattle.std.proofs.lemmas.Grind.{flat_map-append}
-use Rattle.packet_run.specs.Stamped.{text_of}
+use Rattle.std.proofs.lemmas.List.{length-take-le}
+use Rattle.packet_run.specs.Stamped.{EndsInNext, text_of}
 use Rattle.packet_run.specs.Told.{members_from}
 
 -- ---- lists
@@ -12,6 +15,12 @@ use Rattle.packet_run.specs.Told.{members_from}
 -- the item behind the first ones is taken too
 pub take_one : {X : Type 0} (xs : List X) (n : ℕ) (s : X) (rest : List X) → drop n xs ≡ s ∷ rest → take (n + 1) xs ≡ take n xs ++ s ∷ []
 take_one xs n s rest is = take-add n 1 xs ∙ ap (λ l. take n xs ++ take 1 l) is
+
+-- there is an item behind fewer than all
+first-of : {X : Type 0} (xs : List X) (n : ℕ) → n < length xs → (x : X) × (rest : List X) × (drop n xs ≡ x ∷ rest)
+first-of [] n lt = absurd (omega (arith, lt))
+first-of (x ∷ xs) zero lt = (x, xs, refl)
+first-of (x ∷ xs) (suc n) lt = first-of xs n (omega (arith, lt))
 
 -- an item behind the first ones is among those of which something holds
 pub use_at : {X : Type 0} (Q : X → Type 0) (xs more : List X) (n : ℕ) (s : X) (rest : List X) → drop n (xs ++ more) ≡ s ∷ rest
@@ -83,6 +92,33 @@ module _ (first : Database) (stamped : List StampedPacket) (s : StampedPacket) w
       ≡ members_from (start first) stamped ++ member s.number s.edition (course_after (course_after_all (start first) stamped) s).memory ∷ []
   unfolding members_from
   members-next = members-append (start first) stamped (s ∷ [])
+
+-- the record of a packet has octets
+some-record : (r : Record) → 0 < length (record_text r)
+unfolding record_text record_body head_text
+some-record r =
+    let whole = length-append (edition_text_of r.edition) (record_body r) in
+    let body = length-append (head_text r.number (header_of r.packet) r.found r.title) (flat_map (told_text r.packet) r.values ++ ended_text r.ended) in
+    omega (arith, whole, body)
+
+-- a first part of the next record ends before it
+pub in-next : (first : Database) (all : List StampedPacket) (n k : ℕ) (s : StampedPacket) (rest : List StampedPacket) → drop n all ≡ s ∷ rest
+    → k < length (record_text (record_for (course_after_all (start first) (take n all)) s))
+    → EndsInNext first all n (take k (record_text (record_for (course_after_all (start first) (take n all)) s)))
+in-next first all n k s rest at part some =
+    let front = take n all in
+    let record' = record_text (record_for (course_after_all (start first) front) s) in
+    let next : text_of first (take (n + 1) all) ≡ text_of first front ++ record' = ap (text_of first) (take_one all n s rest at) ∙ text-next first front s in
+    let longer = ap (λ (t : List ℕ). length t) next ∙ length-append (text_of first front) record' in
+    let shorter = length-append (text_of first front) (take k record') in
+    let taken = length-take-le k record' (omega (arith, part)) in
+    omega (arith, longer, shorter, taken, part)
+
+-- and so does nothing of it
+pub none-in-next : (first : Database) (all : List StampedPacket) (n : ℕ) → EndsInNext first all n []
+none-in-next first all n some =
+    let d = first-of all n some in
+    in-next first all n 0 d.0 d.1 d.2 (some-record (record_for (course_after_all (start first) (take n all)) d.0)) some
 
 -- the text of the first packets is a first part of the text of all
 pub text-front : (first : Database) (n : ℕ) (all : List StampedPacket) → (more : List ℕ) × (text_of first all ≡ text_of first (take n all) ++ more)

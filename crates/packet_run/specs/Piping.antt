@@ -15,17 +15,18 @@ use Rattle.work_queue.specs.Passes.{account_of}
 use Rattle.packet_run.specs.declared.in_use.InUse.{InUse}
 use Rattle.packet_run.specs.declared.job.Task.{Task}
 use Rattle.packet_run.specs.declared.parts.Pipeline.{Pipeline}
-use Rattle.packet_run.specs.Stamped.{Extends, IsNumberedFrom, text_of}
+use Rattle.packet_run.specs.Stamped.{EndsInNext, Extends, IsNumberedFrom, text_of}
 use Rattle.packet_run.specs.Tasks.{AllRight, IsJob, IsWorked, number_in}
 use Rattle.packet_run.specs.Told.{From, Member, members_from}
 
 module _ {W : Type 0} (stands : W → List Member → Type 0) where
-  -- of these packets so many are committed, and maybe more of the text of all was written; the watch was told of those
+  -- of these packets so many are committed, and maybe a part of the next record was written; the watch was told of those
   pub record Prints (from : From W) (all : List StampedPacket) (done : ℕ) (watch : W) (written : Option (List ℕ)) : Type 0 where
     pub over : List ℕ
     pub more : List ℕ
     pub parts : text_of from.first all ≡ (text_of from.first (take done all) ++ over) ++ more
     pub printed : Appends from.written written (text_of from.first (take done all) ++ over)
+    pub in_next : EndsInNext from.first all done over
     pub watched : (told : List Member) → stands from.watch told → stands watch (told ++ members_from (start from.first) (take done all))
 
 module _ {P : Type 0} {plans : Structures.Ghosts P} where

@@ -19,7 +19,7 @@ use Rattle.tm_io.specs.Octets.{WritesUnless}
 use Rattle.packet_run.specs.declared.job.Task.{Task}
 use Rattle.packet_run.specs.declared.parts.Pipeline.{Pipeline}
 use Rattle.packet_run.specs.Piping.{Holds, put_by, results_of}
-use Rattle.packet_run.specs.Stamped.{stamped_by_moves, text_of}
+use Rattle.packet_run.specs.Stamped.{EndsInNext, stamped_by_moves, text_of}
 use Rattle.packet_run.specs.Tasks.{AllRight, IsJob, number_in}
 use Rattle.packet_run.specs.Told.{From, Member, members_from}
 
@@ -45,8 +45,8 @@ EndsRun (Err (fault.Print stop.Out)) packets rest start_left left = length packe
 EndsRun (Err (fault.Print stop.Memory)) packets rest start_left left = ⊥
 
 module _ {W : Type 0} (stands : W → List Member → Type 0) where
-  -- of these packets so many records were written whole, and the watch was told of those: of all, unless the output failed; then no more packets
-  -- were read behind them than may be in flight
+  -- of these packets the records of so many were written whole and no other, and the watch was told of those: of all, unless the output failed; then
+  -- no more packets were read behind them than may be in flight
   pub record Commits (result : Result RunEnd RunFault) (from : From W) (stamped : List StampedPacket) (watch : W) (written : Option (List ℕ)) : Type 0 where
     pub count : ℕ
     pub within : count ≤ length stamped
@@ -54,6 +54,7 @@ module _ {W : Type 0} (stands : W → List Member → Type 0) where
     pub few : length stamped ≤ count + most_in_flight
     pub more : List ℕ
     pub least : Appends from.written written (text_of from.first (take count stamped) ++ more)
+    pub in_next : EndsInNext from.first stamped count more
     pub told : (told : List Member) → stands from.watch told → stands watch (told ++ members_from (start from.first) (take count stamped))
 
   -- what was read is cut into packets and a rest, each packet was stamped by one of these moves, and the text of all was written, with these

@@ -1,5 +1,5 @@
 -- Packets with the stamps that an intake's moves show. [This profile.]
-use Rattle.std.specs.Prelude.{◌≡◌, ℕ, ◌+◌, List, [], ◌∷◌, ◌++◌}
+use Rattle.std.specs.Prelude.{◌≡◌, ◌<◌, ℕ, ◌+◌, List, [], ◌∷◌, ◌++◌, length, take}
 use Rattle.std.specs.List.{flat_map, zip}
 use Rattle.mib_model.specs.declared.database.Database.{Database}
 use Rattle.run_model.specs.declared.register.Answer.{Answer}
@@ -19,6 +19,10 @@ stamped_by_moves moves packets = flat_map (λ pair. stamped_with pair.0.reply pa
 -- the text of stamped packets, from a database on
 unfoldable pub text_of : Database → List StampedPacket → List ℕ
 text_of first stamped = records_text (interpret (start first) stamped)
+
+-- a text behind the records of so many packets ends before the record of the next does, where there is one
+abbrev pub EndsInNext : Database → List StampedPacket → ℕ → List ℕ → Type 0
+EndsInNext first all count more = count < length all → length (text_of first (take count all) ++ more) < length (text_of first (take (count + 1) all))
 
 -- the numbers of stamped packets follow one another, from one number on
 abbrev pub IsNumberedFrom : ℕ → List StampedPacket → Type 0

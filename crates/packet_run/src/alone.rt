@@ -14,7 +14,7 @@ ghost use Rattle.packet_run.specs.Printing.{HasPrinted};
 ghost use Rattle.packet_run.specs.Reading.{stamped_as};
 ghost use Rattle.packet_run.specs.Turning.{AreSame, ComesBehind, course_of};
 ghost use Rattle.tm_io.specs.Causes.{HasCause};
-ghost use Rattle.tm_io.specs.Octets.{AppendsPrefix};
+ghost use Rattle.tm_io.specs.Octets.{AppendsPart};
 
 use crate::finishing::{finish_alone, write_record};
 use crate::in_use::InUse;
@@ -49,7 +49,7 @@ fn print_alone<P: Plans + Rows + Drop, O: Sink, W: Watch, R: Wait>(
         → HasPrinted P.Structures.tables W.stands (course_of P.Structures.tables in_use.old) (stamped_cell edition shown cell.old) in_use.new
         (O.written out.old) (O.written out.new) watch.old watch.new) }
     ensures part { OnErr result ((shown : Database) → ComesBehind P.Structures.tables P.Rows.tables in_use.old edition shown start
-        → AppendsPrefix (O.written out.old) (O.written out.new)
+        → AppendsPart (O.written out.old) (O.written out.new)
         (record_text (record_for (course_of P.Structures.tables in_use.old) (stamped_cell edition shown cell.old)))) }
     ensures untold { OnErr result (watch.new ≡ watch.old) }
     ensures cause { HasCause (O.faults out.old) (O.faults out.new) result }

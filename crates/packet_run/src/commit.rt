@@ -8,7 +8,7 @@ ghost use Rattle.packet_run.specs.Piping.{GoesOn, IsOfInUse, Keeps, Piping, Stay
 ghost use Rattle.packet_run.specs.Printing.{HasPrinted, IsResultOf};
 ghost use Rattle.packet_run.specs.Turning.{course_of};
 ghost use Rattle.tm_io.specs.Causes.{HasCause};
-ghost use Rattle.tm_io.specs.Octets.{AppendsPrefix};
+ghost use Rattle.tm_io.specs.Octets.{AppendsPart};
 ghost use Rattle.work_queue.specs.Passes.{IsOf};
 
 use crate::finishing::{finish_job, write_record};
@@ -35,7 +35,7 @@ fn print_result<P: Plans + Drop, O: Sink, W: Watch, R: Wait>(
     ensures printed { OnOk result ((s : StampedPacket) → IsOfInUse P.tables in_use.old s → IsResultOf P.tables s task.now
         → HasPrinted P.tables W.stands (course_of P.tables in_use.old) s in_use.new (O.written out.old) (O.written out.new) watch.old watch.new) }
     ensures part { OnErr result ((s : StampedPacket) → IsOfInUse P.tables in_use.old s → IsResultOf P.tables s task.now
-        → AppendsPrefix (O.written out.old) (O.written out.new) (record_text (record_for (course_of P.tables in_use.old) s))) }
+        → AppendsPart (O.written out.old) (O.written out.new) (record_text (record_for (course_of P.tables in_use.old) s))) }
     ensures untold { OnErr result (watch.new ≡ watch.old) }
     ensures cause { HasCause (O.faults out.old) (O.faults out.new) result }
 {

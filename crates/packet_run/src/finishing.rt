@@ -17,7 +17,7 @@ ghost use Rattle.fold_state.specs.declared.finish.TheConstants.{TEXT_BEFORE};
 ghost use Rattle.mib_model.specs.Interpreter.{Course, StampedPacket, title_of};
 ghost use Rattle.packet_run.specs.Told.{Member, member};
 ghost use Rattle.tm_io.specs.Causes.{HasCause};
-ghost use Rattle.tm_io.specs.Octets.{AppendsPrefix};
+ghost use Rattle.tm_io.specs.Octets.{AppendsPart};
 
 use crate::in_use::InUse;
 use crate::job::Job;
@@ -144,7 +144,7 @@ pub(crate) fn write_record<P: Plans + Drop, O: Sink, W: Watch, R: Wait>(
     watch: &mut W,
 ) -> Result<(), Failed>
     ensures all { OnOk result (Appends (O.written out.old) (O.written out.new) lines.now) }
-    ensures part { OnErr result (AppendsPrefix (O.written out.old) (O.written out.new) lines.now) }
+    ensures part { OnErr result (AppendsPart (O.written out.old) (O.written out.new) lines.now) }
     ensures told { OnOk result ((told : List Member) → W.stands watch.old told
         → W.stands watch.new (told ++ member number in_use.now.edition (memory_of in_use.now.board) ∷ [])) }
     ensures untold { OnErr result (watch.new ≡ watch.old) }
