@@ -6,6 +6,5 @@ pub mod ReadingFacts
 pub mod StampFacts
 pub mod PrintFacts
 pub mod EndFacts
-pub mod FinishFacts
 pub mod FeedFacts
 pub mod SettleFacts

@@ -1,28 +1,12 @@
--- Boards and stamps, as an edition comes into use.
-use Rattle.packet_run.proofs.Common.{[], ℕ, ◌++◌, ◌-◌, ◌∙◌, ◌∷◌, ◌≡◌, AllByRecursion, ap, Database, drop-append_seam, HasItsTables, is_made_for, IsRegisterHistory, last_stamped, length, List, map, move, plan_names, planned_names, refl, register_after, RegisterHistory, slice_index_or, Slots, stamped_by, subst, sym, take-append_seam, true}
-use Rattle.edition_plans.specs.Params.{param_slices}
+-- Stamps, as an edition comes into use.
+use Rattle.packet_run.proofs.Common.{[], ℕ, ◌++◌, ◌-◌, ◌∙◌, ◌∷◌, ◌≡◌, AllByRecursion, ap, Database, drop-append_seam, HasItsTables, IsRegisterHistory, last_stamped, length, List, move, register_after, RegisterHistory, slice_index_or, stamped_by, subst, sym, take-append_seam}
 use Rattle.edition_register.proofs.RegisterFacts.{editions-of}
 use Rattle.mib_model.specs.Database.{no_rows}
 use Rattle.run_model.specs.Register.{opening}
 use Rattle.run_model.specs.declared.register.Answer.{Answer}
-use Rattle.mib_model.specs.declared.rows.PcfRow.{PcfRow}
-use Rattle.param_plan.specs.Slices.{slice_for}
-use Rattle.std.proofs.lemmas.Slice.Eq.{bytes_eq-Decides, slice_eq-Decides}
 use Rattle.std.proofs.ByRecursion
 use Rattle.run_model.specs.declared.register.Answer.TheVariants as answer
 use Rattle.run_model.specs.declared.register.Entry.TheVariants as entry
-
-names-of : (db : Database) (rows : List PcfRow) → map (λ slice. slice.pcf.name) (map (slice_for db) rows) ≡ map (λ row. row.name) rows
-names-of db [] = refl
-names-of db (row ∷ rows) = ap (λ names. row.name ∷ names) (names-of db rows)
-
-planned-names : (db : Database) → plan_names (param_slices db) ≡ planned_names db
-unfolding param_slices
-planned-names db = names-of db _
-
--- a board that was made for tables has the names of their plans
-pub made-names : (db : Database) (board : Slots) → is_made_for db board ≡ true → board.names ≡ plan_names (param_slices db)
-made-names db board made = (slice_eq-Decides bytes_eq-Decides board.names (planned_names db) (is_made_for db board) refl).0 made ∙ sym (planned-names db)
 
 -- the last of moves that have their tables has its tables too
 last-has : (editions : List Database) (p : ℕ × Database) (ms : RegisterHistory) → p.1 ≡ slice_index_or editions (p.0 - 1) no_rows

@@ -8,8 +8,8 @@ use Rattle.packet_run.proofs.KeepsFacts.{keeps_refl, right_before}
 use Rattle.packet_run.proofs.StampFacts.{at_place, course-is, course-next, extends_less, in-next, members-next, none-in-next, numbered_push, take_one, text-front, text-next, use_at}
 use Rattle.packet_run.specs.Stamped.{text_of}
 use Rattle.packet_run.specs.Told.{members_from}
-use Rattle.packet_run.specs.declared.job.Job.{Job}
-use Rattle.packet_run.specs.declared.job.Task.TheVariants as task
+use Rattle.packet_jobs.specs.declared.job.Job.{Job}
+use Rattle.packet_jobs.specs.declared.job.Task.TheVariants as task
 
 -- a packet that comes behind all that were read
 at_end : (stamped all : List StampedPacket) (s : StampedPacket) (n : ℕ) → n ≡ length stamped → (e : Extends (stamped ++ s ∷ []) all) → drop n all ≡ s ∷ e.more

@@ -5,7 +5,7 @@ use Rattle.mib_model.specs.Carry.{carry}
 use Rattle.mib_model.specs.Interpreter.{record_for}
 use Rattle.mib_model.specs.Kept.{Memory}
 use Rattle.mib_model.specs.Texts.{record_text}
-use Rattle.packet_run.specs.declared.job.Job.{Job}
+use Rattle.packet_jobs.specs.declared.job.Job.{Job}
 
 same : (n m : ℕ) → n ≡ m → (n == m) ≡ true
 same n m e = grind (arith, e)

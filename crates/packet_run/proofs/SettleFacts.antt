@@ -2,7 +2,7 @@
 use Rattle.packet_run.proofs.Common.{[], ℕ, ◌++◌, ◌∙◌, ◌≡◌, account_of, AllRight, AllServe, ap, Database, each_joined, Ghosts, Holds, IsJob, IsRight, IsStocked, IsWorked, joined_jobs, joined_of_such, joined_results, List, number_in, Pass, Pipeline, put_by, PutsJobs, results_of, SharesStay, StampedPacket, Task, TellsBalance}
 use Rattle.decode_pool.specs.Flow.{KeepsNumber}
 use Rattle.work_queue.specs.declared.queue.Queue.{Queue}
-use Rattle.packet_run.specs.declared.job.Task.TheVariants as task
+use Rattle.packet_jobs.specs.declared.job.Task.TheVariants as task
 
 module _ {P : Type 0} {plans : Ghosts P} (tables : P → Database) where
   keeps_number : KeepsNumber (IsWorked {plans = plans} tables) number_in

@@ -11,12 +11,12 @@ use Rattle.decode_session.specs.declared.ending.Stop.TheVariants as stop
 use Rattle.mib_model.specs.Texts.{cut_text}
 use Rattle.struct_plan.specs.declared.structure.Structures as Structures
 use Rattle.tm_io.specs.Octets.{AppendsPrefix}
-use Rattle.packet_run.specs.declared.job.Task.{Task}
+use Rattle.packet_jobs.specs.declared.job.Task.{Task}
 use Rattle.packet_run.specs.declared.parts.Pipeline.{Pipeline}
 use Rattle.packet_run.specs.declared.until.Until.{Until}
 use Rattle.packet_run.specs.declared.until.Until.TheVariants as until
 use Rattle.packet_run.specs.Piping.{SharesStay, got_by, put_by}
-use Rattle.packet_run.specs.Tasks.{number_in}
+use Rattle.packet_jobs.specs.Tasks.{number_in}
 
 -- the end of a run by the end of its feed, and what was written of it
 abbrev pub EndsAs : Until → Result RunEnd RunFault → Option (List ℕ) → Option (List ℕ) → Type 0

@@ -8,7 +8,7 @@ use Rattle.mib_model.specs.Interpreter.{StampedPacket}
 use Rattle.run_model.specs.RegisterHistories.{RegisterHistory}
 use Rattle.struct_plan.specs.declared.structure.Structures as Structures
 use Rattle.tm_io.specs.Causes.{HasRisen}
-use Rattle.packet_run.specs.declared.in_use.InUse.{InUse}
+use Rattle.packet_jobs.specs.declared.in_use.InUse.{InUse}
 use Rattle.packet_run.specs.declared.parts.Pipeline.{Pipeline}
 use Rattle.packet_run.specs.declared.run.TheConstants.{MOST_AHEAD}
 use Rattle.packet_run.specs.declared.until.Until.{Until}

@@ -1,4 +1,3 @@
-pub mod Drawn
 pub mod Ending
 pub mod Feeding
 pub mod Piping
@@ -7,6 +6,4 @@ pub mod Reading
 pub mod Runs
 pub mod Stamped
 pub mod Stocks
-pub mod Tasks
 pub mod Told
-pub mod Turning

@@ -12,11 +12,11 @@ use Rattle.mib_model.specs.declared.database.Database.{Database}
 use Rattle.mib_model.specs.Interpreter.{StampedPacket, start, course_after_all}
 use Rattle.struct_plan.specs.declared.structure.Structures as Structures
 use Rattle.work_queue.specs.Passes.{account_of}
-use Rattle.packet_run.specs.declared.in_use.InUse.{InUse}
-use Rattle.packet_run.specs.declared.job.Task.{Task}
+use Rattle.packet_jobs.specs.declared.in_use.InUse.{InUse}
+use Rattle.packet_jobs.specs.declared.job.Task.{Task}
 use Rattle.packet_run.specs.declared.parts.Pipeline.{Pipeline}
 use Rattle.packet_run.specs.Stamped.{EndsInNext, Extends, IsNumberedFrom, text_of}
-use Rattle.packet_run.specs.Tasks.{AllRight, IsJob, IsWorked, number_in}
+use Rattle.packet_jobs.specs.Tasks.{AllRight, IsJob, IsWorked, number_in}
 use Rattle.packet_run.specs.Told.{From, Member, members_from}
 
 module _ {W : Type 0} (stands : W → List Member → Type 0) where

@@ -7,10 +7,10 @@ use Rattle.mib_model.specs.declared.database.Database.{Database}
 use Rattle.mib_model.specs.Interpreter.{Course, StampedPacket, record_for, course_after}
 use Rattle.mib_model.specs.Texts.{record_text}
 use Rattle.struct_plan.specs.declared.structure.Structures as Structures
-use Rattle.packet_run.specs.declared.in_use.InUse.{InUse}
-use Rattle.packet_run.specs.declared.job.Task.{Task}
-use Rattle.packet_run.specs.declared.job.Task.TheVariants as task
-use Rattle.packet_run.specs.Tasks.{IsOfStamp}
+use Rattle.packet_jobs.specs.declared.in_use.InUse.{InUse}
+use Rattle.packet_jobs.specs.declared.job.Task.{Task}
+use Rattle.packet_jobs.specs.declared.job.Task.TheVariants as task
+use Rattle.packet_jobs.specs.Tasks.{IsOfStamp}
 use Rattle.packet_run.specs.Told.{Member, member}
 
 module _ {P : Type 0} {plans : Structures.Ghosts P} (tables : P → Database) where

@@ -16,11 +16,11 @@ use Rattle.mib_model.specs.Texts.{rest_unless}
 use Rattle.struct_plan.specs.declared.structure.Structures as Structures
 use Rattle.tm_io.specs.Causes.{RisesWhere}
 use Rattle.tm_io.specs.Octets.{WritesUnless}
-use Rattle.packet_run.specs.declared.job.Task.{Task}
+use Rattle.packet_jobs.specs.declared.job.Task.{Task}
 use Rattle.packet_run.specs.declared.parts.Pipeline.{Pipeline}
 use Rattle.packet_run.specs.Piping.{Holds, put_by, results_of}
 use Rattle.packet_run.specs.Stamped.{EndsInNext, stamped_by_moves, text_of}
-use Rattle.packet_run.specs.Tasks.{AllRight, IsJob, number_in}
+use Rattle.packet_jobs.specs.Tasks.{AllRight, IsJob, number_in}
 use Rattle.packet_run.specs.Told.{From, Member, members_from}
 
 -- whether the output failed

@@ -11,7 +11,7 @@ use Rattle.struct_plan.specs.declared.structure.Structures as Structures
 use Rattle.work_queue.specs.Accounts.{whole}
 use Rattle.work_queue.specs.Passes.{IsOf, account_of}
 use Rattle.packet_run.specs.declared.ends.TheConstants.{ROOMS}
-use Rattle.packet_run.specs.declared.in_use.InUse.{InUse}
+use Rattle.packet_jobs.specs.declared.in_use.InUse.{InUse}
 use Rattle.packet_run.specs.declared.parts.Crew.{Crew}
 use Rattle.packet_run.specs.declared.parts.Pipeline.{Pipeline}
 use Rattle.packet_run.specs.declared.stock.Stock.{Stock}

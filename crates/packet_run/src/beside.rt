@@ -2,13 +2,13 @@
 ghost use Rattle.std.specs.Prelude.{◌<◌, vec_len};
 ghost use Rattle.decode_pool.specs.Joins.{TellsBalance, joined_jobs, joined_results};
 ghost use Rattle.decode_pool.specs.Served.{AllServe, Ready};
-ghost use Rattle.packet_run.specs.Tasks.{IsWorked, number_in};
+ghost use Rattle.packet_jobs.specs.Tasks.{IsWorked, number_in};
 ghost use Rattle.work_queue.specs.Passes.{IsOf, account_of};
 
-use crate::job::Task;
 use crate::parts::Crew;
 use decode_pool::Pool;
 use edition_plans::Plans;
+use packet_jobs::Task;
 use std::sync::Wait;
 use std::thread;
 use std::thread::Threads;

@@ -11,14 +11,13 @@ ghost use Rattle.packet_run.specs.Runs.{Drove, is_out_failed};
 ghost use Rattle.work_queue.specs.Passes.{IsOf};
 
 use crate::commit::commit_to;
-use crate::in_use::InUse;
-use crate::job::Task;
 use crate::parts::{Crew, Pipeline};
 use crate::pipeline::{collect, free};
 use crate::until::Until;
 use crate::watch::Watch;
 use decode_session::{Filled, RunEnd, RunFault, Stop, write_cut};
 use edition_plans::Plans;
+use packet_jobs::{InUse, Task};
 use record_text::Lines;
 use std::sync::Wait;
 use std::thread;

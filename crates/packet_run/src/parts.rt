@@ -1,10 +1,9 @@
-use crate::job::Task;
-use crate::working::Decoding;
 use commit_order::Window;
 use decode_session::Room;
 use edition_register::Register;
 use fold_state::BoardRoom;
 use mib_model::Rows;
+use packet_jobs::{Decoding, Task};
 use record_text::Lines;
 use struct_plan::Structures;
 use work_queue::{Pass, Queue};

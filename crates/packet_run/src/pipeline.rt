@@ -4,12 +4,11 @@ ghost use Rattle.commit_order.specs.Windows.{Advances, next_of};
 ghost use Rattle.packet_run.specs.Piping.{Held, Keeps, Stays, put_by};
 ghost use Rattle.work_queue.specs.Passes.{IsOf};
 
-use crate::job::Task;
 use crate::parts::{Crew, Pipeline};
-use crate::working::decode_task;
 use commit_order::{Placed, Window};
 use decode_session::Room;
 use edition_plans::Plans;
+use packet_jobs::{Task, decode_task};
 use std::sync::Wait;
 use std::thread;
 use struct_plan::Structures;

@@ -2,12 +2,11 @@
 ghost use Rattle.std.specs.Prelude.{◌≡◌, ◌≤◌, IfOk, vec_len};
 
 use crate::ends::ROOMS;
-use crate::job::Task;
 use crate::parts::{Crew, Pipeline};
-use crate::working::Decoding;
 use commit_order::Window;
 use decode_session::Home;
 use edition_plans::Plans;
+use packet_jobs::{Decoding, Task};
 use param_plan::Params;
 use record_text::Lines;
 use std::alloc::{AllocError, Global};

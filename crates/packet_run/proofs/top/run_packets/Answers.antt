@@ -1,5 +1,5 @@
 use Rattle.packet_run.proofs.Common.{◌∙◌, ◌≡◌, arc_value, Database, is_made_for, subst, sym, true}
-use Rattle.packet_run.proofs.OpeningFacts.{made-names}
+use Rattle.packet_jobs.proofs.BoardFacts.{made-names}
 use Rattle.packet_run.proofs.SettleFacts.{all_right}
 use Rattle.packet_run.proofs.top.run_packets.Goals as goal
 

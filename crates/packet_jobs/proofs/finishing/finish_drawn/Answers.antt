@@ -1,6 +1,6 @@
-use Rattle.packet_run.proofs.Common.{memory_of}
-use Rattle.packet_run.proofs.FinishFacts.{taken-fit, has-stepped}
-use Rattle.packet_run.proofs.finishing.finish_drawn.Goals as goal
+use Rattle.packet_jobs.proofs.Common.{memory_of}
+use Rattle.packet_jobs.proofs.FinishFacts.{taken-fit, has-stepped}
+use Rattle.packet_jobs.proofs.finishing.finish_drawn.Goals as goal
 
 pub returns-clause-step : goal.returns-clause-step
 returns-clause-step g c half shown names =

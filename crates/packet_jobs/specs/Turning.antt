@@ -9,7 +9,7 @@ use Rattle.mib_model.specs.declared.database.Database.{Database}
 use Rattle.mib_model.specs.Interpreter.{Course, StampedPacket, memory_for}
 use Rattle.mib_model.specs.Texts.{edition_text_of}
 use Rattle.struct_plan.specs.declared.structure.Structures as Structures
-use Rattle.packet_run.specs.declared.in_use.InUse.{InUse}
+use Rattle.packet_jobs.specs.declared.in_use.InUse.{InUse}
 
 -- plans stand for the same tables by two meanings
 abbrev pub AreSame : {P : Type 0} → (P → Database) → (P → Database) → Type 0

@@ -5,7 +5,7 @@ ghost use Rattle.fold_state.specs.Boards.{is_made_for, memory_of};
 ghost use Rattle.mib_model.specs.Carry.{carry};
 ghost use Rattle.mib_model.specs.declared.database.Database.{Database};
 ghost use Rattle.mib_model.specs.Texts.{edition_text};
-ghost use Rattle.packet_run.specs.Turning.{AreSame, ComesBehind, IsTurned};
+ghost use Rattle.packet_jobs.specs.Turning.{AreSame, ComesBehind, IsTurned};
 ghost use Rattle.record_text.specs.declared.lines.TheConstants.{LINES_ROOM, LINE_MOST, NOTE_ROOM};
 
 use crate::in_use::InUse;
@@ -45,7 +45,7 @@ fn begin<P: Plans + Drop>(
 
 /// The edition of a packet comes into use, where it isn't the one in use: what was kept is carried over, and its line is
 /// appended. It takes no memory.
-pub(crate) fn turn<P: Plans + Rows + Drop>(
+pub fn turn<P: Plans + Rows + Drop>(
     edition: u32,
     start: Option<Start<P, BoardRoom>>,
     in_use: &mut InUse<P>,

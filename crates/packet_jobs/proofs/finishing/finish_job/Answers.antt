@@ -1,10 +1,10 @@
-use Rattle.packet_run.proofs.Common.{ℕ, ◌∙◌, ◌≡◌, All, ap, arc_value, List, packet_in, subst, sym, take, true}
+use Rattle.packet_jobs.proofs.Common.{ℕ, ◌∙◌, ◌≡◌, All, ap, arc_value, List, packet_in, subst, sym, take, true}
 use Rattle.decode_session.specs.declared.room.Buffers.{Buffers}
 use Rattle.mib_model.specs.declared.packet.Value.{Value}
 use Rattle.mib_model.specs.Bits.{is_inside}
 use Rattle.mib_model.specs.Soundness.{IsSound}
-use Rattle.packet_run.proofs.FinishFacts.{taken-inside}
-use Rattle.packet_run.proofs.finishing.finish_job.Goals as goal
+use Rattle.packet_jobs.proofs.FinishFacts.{taken-inside}
+use Rattle.packet_jobs.proofs.finishing.finish_job.Goals as goal
 
 pub finish_drawn-requires-clause-inside : goal.finish_drawn-requires-clause-inside
 finish_drawn-requires-clause-inside g c =

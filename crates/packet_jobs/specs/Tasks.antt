@@ -6,9 +6,9 @@ use Rattle.decode_session.specs.Cells.{packet_in}
 use Rattle.mib_model.specs.declared.database.Database.{Database}
 use Rattle.mib_model.specs.Interpreter.{StampedPacket}
 use Rattle.struct_plan.specs.declared.structure.Structures as Structures
-use Rattle.packet_run.specs.declared.job.Job.{Job}
-use Rattle.packet_run.specs.declared.job.Task.{Task}
-use Rattle.packet_run.specs.declared.job.Task.TheVariants as task
+use Rattle.packet_jobs.specs.declared.job.Job.{Job}
+use Rattle.packet_jobs.specs.declared.job.Task.{Task}
+use Rattle.packet_jobs.specs.declared.job.Task.TheVariants as task
 
 module _ {P : Type 0} {plans : Structures.Ghosts P} where
   -- the number of a task: that of its packet, and 0 for the end of a worker

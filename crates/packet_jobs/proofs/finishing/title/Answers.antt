@@ -1,6 +1,6 @@
-use Rattle.packet_run.proofs.Common.{◌∙◌, ap, sym}
+use Rattle.packet_jobs.proofs.Common.{◌∙◌, ap, sym}
 use Rattle.mib_model.specs.Interpreter.{title_of}
-use Rattle.packet_run.proofs.finishing.title.Goals as goal
+use Rattle.packet_jobs.proofs.finishing.title.Goals as goal
 
 pub returns-in-Spid : goal.returns-in-Spid
 unfolding title_of

@@ -18,7 +18,7 @@ pub struct InUse<P: Structures + Drop> {
 
 impl<P: Structures + Drop> InUse<P> {
     /// Edition 1 is in use, with this handle and board.
-    pub(crate) fn at_first(handle: Arc<P>, board: Board) -> InUse<P>
+    pub fn at_first(handle: Arc<P>, board: Board) -> InUse<P>
         requires made { board.names ≡ plan_names (param_slices (P.tables (arc_value handle))) }
         ensures edition { result.edition ≡ 1 }
         ensures handle { result.handle ≡ handle }

@@ -1,7 +1,7 @@
 ghost use Rattle.std.specs.Prelude.{◌≡◌, true};
 ghost use Rattle.std.specs.Arc.{arc_value};
 ghost use Rattle.decode_session.specs.Cells.{IsReady};
-ghost use Rattle.packet_run.specs.Drawn.{IsDrawn};
+ghost use Rattle.packet_jobs.specs.Drawn.{IsDrawn};
 
 use decode_session::Cell;
 use std::sync::Arc;

@@ -1,6 +1,6 @@
-use Rattle.packet_run.proofs.Common.{memory_of, sym, ap, ◌∙◌}
+use Rattle.packet_jobs.proofs.Common.{memory_of, sym, ap, ◌∙◌}
 use Rattle.decode_one.proofs.FinishFacts.{stepped-exactly}
-use Rattle.packet_run.proofs.finishing.finish_alone.Goals as goal
+use Rattle.packet_jobs.proofs.finishing.finish_alone.Goals as goal
 
 pub returns-clause-step : goal.returns-clause-step
 returns-clause-step g c = λ course s comes.

@@ -1,5 +1,5 @@
 -- What is asked of the values of a packet that was decoded, and a step of the interpreter.
-use Rattle.packet_run.proofs.Common.{ℕ, ◌++◌, ◌∙◌, ◌≡◌, All, All-weaker, ap, Course, course_after, Database, ended_text, flat_map, head_text, List, Option, plan_names, record_body, record_for, Slots, StampedPacket, subst, sym, take, title_of, told_text, true, values_of}
+use Rattle.packet_jobs.proofs.Common.{ℕ, ◌++◌, ◌∙◌, ◌≡◌, All, All-weaker, ap, Course, course_after, Database, ended_text, flat_map, head_text, List, Option, plan_names, record_body, record_for, Slots, StampedPacket, subst, sym, take, title_of, told_text, true, values_of}
 use Rattle.decode_one.proofs.ParamFacts.{params-of, slot-of}
 use Rattle.decode_one.specs.Halves.{IsHalf}
 use Rattle.decode_one.specs.Steps.{ComesTo, HasStepped}

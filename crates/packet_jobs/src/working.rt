@@ -2,8 +2,8 @@
 ghost use Rattle.std.specs.Prelude.{◌≡◌, true, vec_len, IfOk};
 ghost use Rattle.std.specs.Arc.{arc_value};
 ghost use Rattle.decode_session.specs.Cells.{IsReady, packet_in};
-ghost use Rattle.packet_run.specs.Drawn.{IsDrawn};
-ghost use Rattle.packet_run.specs.Tasks.{IsWorked, number_in};
+ghost use Rattle.packet_jobs.specs.Drawn.{IsDrawn};
+ghost use Rattle.packet_jobs.specs.Tasks.{IsWorked, number_in};
 
 use crate::job::{Job, Task};
 use decode_one::draw;
@@ -103,7 +103,7 @@ impl<P: Structures + Drop> Job<P> {
 }
 
 /// Decodes the packet of a task, without a tool.
-pub(crate) fn decode_task<P: Plans + Drop>(task: &mut Task<P>)
+pub fn decode_task<P: Plans + Drop>(task: &mut Task<P>)
     ensures { IsWorked P.tables task.old task.new }
 {
     if let Task::Packet(job) = task {
@@ -113,11 +113,7 @@ pub(crate) fn decode_task<P: Plans + Drop>(task: &mut Task<P>)
 
 impl<P> Decoding<P> {
     /// A tool for each of so many workers. An error is want of memory.
-    pub(crate) fn new(
-        alloc: Global,
-        params: &Params,
-        workers: u8,
-    ) -> Result<Decoding<P>, AllocError>
+    pub fn new(alloc: Global, params: &Params, workers: u8) -> Result<Decoding<P>, AllocError>
         ensures tools { IfOk result (λ decoding. vec_len decoding.tools ≡ workers) }
     {
         let mut tools = Vec::with_capacity(alloc, usize::from(workers))?;
@@ -134,7 +130,7 @@ impl<P> Decoding<P> {
     }
 
     /// Whether a worker has begun.
-    pub(crate) fn has_begun(&self) -> bool {
+    pub fn has_begun(&self) -> bool {
         self.has_begun.load(Ordering::SeqCst)
     }
 }

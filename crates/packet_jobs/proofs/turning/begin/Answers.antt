@@ -1,9 +1,9 @@
-use Rattle.packet_run.proofs.Common.{◌∙◌, ◌≡◌, ap, arc_value, Database, plan_names, subst, sym}
+use Rattle.packet_jobs.proofs.Common.{◌∙◌, ◌≡◌, ap, arc_value, Database, plan_names, subst, sym}
 use Rattle.decode_one.proofs.ParamFacts.{params-of}
 use Rattle.edition_plans.specs.Params.{param_slices}
 use Rattle.param_state.specs.ParamPlans.{IsParamsOf}
-use Rattle.packet_run.proofs.OpeningFacts.{made-names}
-use Rattle.packet_run.proofs.turning.begin.Goals as goal
+use Rattle.packet_jobs.proofs.BoardFacts.{made-names}
+use Rattle.packet_jobs.proofs.turning.begin.Goals as goal
 
 pub carry-requires : goal.carry-requires
 carry-requires g c =

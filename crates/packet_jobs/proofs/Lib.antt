@@ -1,0 +1,3 @@
+pub mod BoardFacts
+mod Common
+mod FinishFacts
