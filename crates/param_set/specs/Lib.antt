@@ -1,6 +1,4 @@
 pub mod Sharing
 pub mod Compiled
+pub mod Sources
 pub mod Laws
-pub mod Changed
-pub mod Beside
-pub mod Touches

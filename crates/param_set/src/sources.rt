@@ -11,7 +11,7 @@ ghost use Rattle.mib_model.specs.Curves.{curve_named};
 ghost use Rattle.mib_model.specs.Plans.{curve_names};
 ghost use Rattle.mib_model.specs.Soundness.{IsSound};
 ghost use Rattle.param_plan.specs.Slices.{slice_of, slice_for};
-ghost use Rattle.param_set.specs.Beside.{row_now};
+ghost use Rattle.param_set.specs.Sources.{row_now};
 
 use crate::compiled::CompiledCurves;
 use crate::order::{limits, selections};
@@ -112,22 +112,22 @@ impl<'a> ParamSources<'a> {
         found.copied().unwrap_or(*row)
     }
 
-    /// The selections of a parameter, by POS. An error is want of memory.
-    pub fn selections(&self, alloc: Global, name: &Name) -> Result<Vec<CurRow>, AllocError>
+    // The selections of a parameter, by POS.
+    fn selections(&self, alloc: Global, name: &Name) -> Result<Vec<CurRow>, AllocError>
         ensures { IfOk result (λ rows. rows.items ≡ Spec.selections self.now name.now) }
     {
         selections(self.selections.of(alloc, name)?)
     }
 
-    /// The limits of a parameter, by POS. An error is want of memory.
-    pub fn limits(&self, alloc: Global, name: &Name) -> Result<Vec<OcpRow>, AllocError>
+    // The limits of a parameter, by POS.
+    fn limits(&self, alloc: Global, name: &Name) -> Result<Vec<OcpRow>, AllocError>
         ensures { IfOk result (λ rows. rows.items ≡ checks_of self.now name.now) }
     {
         limits(self.limits.of(alloc, name)?)
     }
 
-    /// The check of a parameter.
-    pub fn check(&self, name: &Name) -> Option<OcfRow>
+    // The check of a parameter.
+    fn check(&self, name: &Name) -> Option<OcfRow>
         ensures { result ≡ check_of self.now name.now }
     {
         self.checks.find(name).copied()

@@ -7,8 +7,7 @@ use Rattle.mib_model.specs.Orders.{sorted_by}
 use Rattle.mib_model.specs.Plans.{has_plan, may_precede}
 use Rattle.param_plan.specs.Names.{Ascend}
 use Rattle.param_plan.specs.Slices.{slice_for}
-use Rattle.param_set.proofs.BesideFacts.{few-new}
-use Rattle.param_set.proofs.CountFacts.{planned-most}
+use Rattle.param_set.proofs.CountFacts.{few-new, planned-most}
 use Rattle.param_set.proofs.UniqueFacts.{slices-ascend}
 use Rattle.param_set.proofs.set.params_of.Goals as goal
 

@@ -4,7 +4,8 @@ use Rattle.std.specs.Arc.{arc_value}
 use Rattle.param_state.specs.ParamPlans.{plan_names}
 use Rattle.mib_model.specs.declared.rows.PcfRow.{PcfRow}
 use Rattle.param_plan.specs.Slices.{ParamSlice, slice_for}
-use Rattle.param_set.proofs.BesideFacts.{count-more, images-more, names-more}
+use Rattle.param_set.proofs.CountFacts.{count-more, names-more}
+use Rattle.param_set.proofs.ImageFacts.{images-more}
 use Rattle.param_set.specs.Sharing.{is_new, name_if}
 use Rattle.param_set.proofs.set.plans_of.Goals as goal
 

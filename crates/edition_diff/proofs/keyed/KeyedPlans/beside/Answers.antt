@@ -8,7 +8,7 @@ use Rattle.mib_model.specs.declared.database.Database.{Database}
 use Rattle.mib_model.specs.declared.plan.PlanName.{PlanName}
 use Rattle.mib_model.specs.declared.plan.PlanName.TheVariants as plan
 use Rattle.param_plan.specs.Slices.{ParamSlice}
-use Rattle.param_set.proofs.BesideFacts.{long-names}
+use Rattle.param_set.proofs.CountFacts.{long-names}
 use Rattle.param_set.specs.Sharing.{is_new, new_names}
 use Rattle.numbered_plans.specs.Structures.{new_structures}
 use Rattle.edition_diff.proofs.keyed.KeyedPlans.beside.Goals as goal

@@ -2,7 +2,7 @@ use Rattle.std.proofs.Common.{◌∙◌, Option, ap, find, unwrap_or}
 use Rattle.std.specs.Str.{bytes_eq}
 use Rattle.mib_model.specs.declared.database.Database.{Database}
 use Rattle.mib_model.specs.declared.rows.PcfRow.{PcfRow}
-use Rattle.param_set.specs.Beside.{row_now}
+use Rattle.param_set.specs.Sources.{row_now}
 use Rattle.param_set.proofs.sources.ParamSources.parameter.Goals as goal
 
 pub returns : goal.returns

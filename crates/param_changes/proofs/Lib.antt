@@ -1,0 +1,5 @@
+pub mod AlikeFacts
+pub mod NoteFacts
+pub mod BesideFacts
+mod SharedFacts
+pub mod TouchFacts

@@ -1,6 +1,0 @@
-use Rattle.std.proofs.Common.{length, take}
-use Rattle.param_set.specs.Beside.{AreAlike}
-use Rattle.param_set.proofs.beside.are_alike_beside.Given as goal
-
-abbrev pub invariant-loop-old : goal.invariant-loop-old
-invariant-loop-old l = AreAlike (take (length l.yielded) l.fn.old) (take (length l.yielded) l.fn.new)

@@ -1,6 +1,0 @@
-use Rattle.std.proofs.Common.{take}
-use Rattle.param_set.specs.Touches.{Touches}
-use Rattle.param_set.proofs.touch.blocks_with.Given as goal
-
-abbrev pub invariant-loop-name : goal.invariant-loop-name
-invariant-loop-name l = Touches l.touched.items l.base (take l.name-index l.names)
