@@ -30,6 +30,7 @@ fn least(a: Option<usize>, b: Option<usize>) -> Option<usize>
 }
 
 // The place before this one of the first packet of the kind of a packet; no other row has a kind.
+#[inline(always)]
 fn place_of_kind(lookups: &Lookups<'_>, row: &Row, place: usize) -> Option<usize>
     ensures { result ≡ cut place (position (has_its_kind row.now) (rows_of lookups.now (kind_in row.now))) }
 {

@@ -10,6 +10,7 @@ use mib_model::{MibFault, Row};
 
 /// The first flaw of the row of a number in its table, where its key stands in no row before it: by the rules of its table,
 /// which follow that one.
+#[inline(always)]
 pub fn row_flaw(lookups: &Lookups<'_>, number: u32, row: &Row) -> Option<MibFault>
     requires { IsFirst lookups.now (number - 1) row.now }
     ensures { result ≡ row_flaw lookups.now number row.now }
