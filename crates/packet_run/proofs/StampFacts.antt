@@ -1,10 +1,11 @@
 -- Stamped packets, one by one.
-use Rattle.packet_run.proofs.Common.{[], ◌++◌, ◌+◌, ◌<◌, ◌∙◌, ◌∷◌, ◌≡◌, All, All-head, ap, append-nil, append_assoc, arith, Contains, Course, Database, drop, drop_more, edition_text_of, ended_text, Extends, flat_map, get_or, head_text, IsNumberedFrom, length, length-append, List, member, record_body, record_for, record_text, records_text, refl, StampedPacket, start, subst, suc, sym, take, take-add, take-append-drop, told_text, zero, ℕ}
+use Rattle.packet_run.proofs.Common.{[], ◌++◌, ◌+◌, ◌<◌, ◌∙◌, ◌∷◌, ◌≡◌, All, All-head, ap, append-nil, append_assoc, arith, Contains, Course, Database, drop, drop_more, Extends, flat_map, get_or, IsNumberedFrom, length, length-append, List, member, record_for, records_text, refl, StampedPacket, start, subst, suc, sym, take, take-add, take-append-drop, zero, ℕ}
 use Rattle.decode_session.specs.Finishing.{standing}
 use Rattle.mib_laws.proofs.RunFacts.{interpret-append}
 use Rattle.mib_model.specs.Interpreter.{course_after, course_after_all, interpret}
 use Rattle.mib_model.specs.Headers.{header_of}
 use Rattle.mib_model.specs.Tails.{Record}
+use Rattle.mib_model.specs.Texts.{edition_text_of, ended_text, head_text, record_body, record_text, told_text}
 use Rattle.std.proofs.lemmas.Grind.{flat_map-append}
 use Rattle.std.proofs.lemmas.List.{length-take-le}
 use Rattle.packet_run.specs.Stamped.{EndsInNext, text_of}
