@@ -94,7 +94,7 @@ fn rows_now(
     })
 }
 
-// The rows that a parameter has now, where its plan is of others.
+// The rows that a parameter has now, where its plan is of others; they are gathered where something of it changed.
 fn other_rows(
     alloc: Global,
     rows: &ParamRows,
@@ -104,6 +104,9 @@ fn other_rows(
     requires { IsKeptBy changed.now (slice_of rows.now) sources.now }
     ensures { IfOk result (IsOtherNow sources.now (slice_of rows.now)) }
 {
+    if is_kept(rows, changed) {
+        return Ok(None);
+    }
     let now = rows_now(alloc, rows, changed, sources)?;
     if same_rows(rows, &now) {
         Ok(None)
@@ -112,34 +115,7 @@ fn other_rows(
     }
 }
 
-// The plan of a parameter that changed: that of the base where it is of the rows that the parameter has now, and else
-// compiled.
-fn changed_plan<L: Ledger>(
-    alloc: Global,
-    plan: &Arc<Param>,
-    changed: &Changed,
-    sources: &ParamSources<'_>,
-    steps: &mut Steps<L>,
-) -> Result<Plan, AllocError>
-    requires { IsKeptBy changed.now (arc_value plan.now) sources.now }
-    ensures plan { IfOk result (λ made. arc_value made.param ≡ now_of sources.now (arc_value plan.now)) }
-    ensures is_new { IfOk result (λ made. made.is_new ≡ is_other sources.now (arc_value plan.now)) }
-    ensures steps { OnOk result (steps.new ≡ steps.old + one_if (is_other sources.now (arc_value plan.now))) }
-{
-    let Some(rows) = other_rows(alloc, plan.rows(), changed, sources)? else {
-        return Ok(Plan {
-            param: plan.clone()?,
-            is_new: false,
-        });
-    };
-    let param = Param::compile(alloc, rows, steps)?;
-    Ok(Plan {
-        param: Arc::new(alloc, param)?,
-        is_new: true,
-    })
-}
-
-// The plan of a parameter: that of the base where nothing changed, and else by the rows that it has now.
+// The plan of a parameter: that of the base where it is of the rows that the parameter has now, and else compiled.
 fn plan_beside<L: Ledger>(
     alloc: Global,
     plan: &Arc<Param>,
@@ -152,13 +128,10 @@ fn plan_beside<L: Ledger>(
     ensures is_new { IfOk result (λ made. made.is_new ≡ is_other sources.now (arc_value plan.now)) }
     ensures steps { OnOk result (steps.new ≡ steps.old + one_if (is_other sources.now (arc_value plan.now))) }
 {
-    if is_kept(plan.rows(), changed) {
-        return Ok(Plan {
-            param: plan.clone()?,
-            is_new: false,
-        });
+    match other_rows(alloc, plan.rows(), changed, sources)? {
+        Some(rows) => Plan::compiled(alloc, rows, steps),
+        None => Plan::shared(plan),
     }
-    changed_plan(alloc, plan, changed, sources, steps)
 }
 
 // The plans of a block, of the rows that their parameters have now. The names of those that were compiled are noted.

@@ -2,7 +2,7 @@
 ghost use Rattle.std.specs.Prelude.{◌≡◌, ◌∷◌, [], List, ℕ, IfOk, OnOk, false, length, true};
 ghost use Rattle.std.specs.List.{list_any};
 ghost use Rattle.mib_keys.specs.Kept.{AreSameIn};
-ghost use Rattle.param_changes.specs.Changed.{AreChanged, AreCurvesKept, AreRowsKept, Notes, has_name, takes_any};
+ghost use Rattle.param_changes.specs.Changed.{AreChanged, Notes, has_name, takes_any};
 
 use mib_index::Named;
 use mib_model::{CurRow, Name};
@@ -80,39 +80,6 @@ fn note_if_changed<R: Named + Same>(
     note(names, old, new)
 }
 
-// Names of parameters: all whose rows differ.
-fn parameters(
-    alloc: Global,
-    old: &Book,
-    same: TableSet,
-    new: &Book,
-) -> Result<Vec<Name>, AllocError>
-    requires { AreSameIn same old.now new.now }
-    ensures { IfOk result (λ names. (name : List ℕ) → has_name names.items name ≡ false → AreRowsKept old.now new.now name) }
-{
-    let mut names = Vec::new(alloc);
-    note_if_changed(&mut names, same.pcf, old.pcf(), new.pcf())?;
-    note_if_changed(&mut names, same.cur, old.cur(), new.cur())?;
-    note_if_changed(&mut names, same.ocf, old.ocf(), new.ocf())?;
-    note_if_changed(&mut names, same.ocp, old.ocp(), new.ocp())?;
-    Ok(names)
-}
-
-// Names of curves: all whose rows differ.
-fn curves(alloc: Global, old: &Book, same: TableSet, new: &Book) -> Result<Vec<Name>, AllocError>
-    requires { AreSameIn same old.now new.now }
-    ensures { IfOk result (λ names. (name : List ℕ) → has_name names.items name ≡ false → AreCurvesKept old.now new.now name) }
-{
-    let mut names = Vec::new(alloc);
-    note_if_changed(&mut names, same.caf, old.caf(), new.caf())?;
-    note_if_changed(&mut names, same.cap, old.cap(), new.cap())?;
-    note_if_changed(&mut names, same.txf, old.txf(), new.txf())?;
-    note_if_changed(&mut names, same.txp, old.txp(), new.txp())?;
-    note_if_changed(&mut names, same.mcf, old.mcf(), new.mcf())?;
-    note_if_changed(&mut names, same.lgf, old.lgf(), new.lgf())?;
-    Ok(names)
-}
-
 // Whether a selected curve is one of these names.
 fn select_any(names: &[Name], curs: &[CurRow]) -> bool
     ensures { result ≡ list_any (λ cur. has_name names.now cur.curve) curs.now }
@@ -138,10 +105,19 @@ impl Changed {
         requires { AreSameIn same old.now new.now }
         ensures { IfOk result (λ changed. AreChanged changed old.now new.now) }
     {
-        Ok(Changed {
-            parameters: parameters(alloc, old, same, new)?,
-            curves: curves(alloc, old, same, new)?,
-        })
+        let mut parameters = Vec::new(alloc);
+        note_if_changed(&mut parameters, same.pcf, old.pcf(), new.pcf())?;
+        note_if_changed(&mut parameters, same.cur, old.cur(), new.cur())?;
+        note_if_changed(&mut parameters, same.ocf, old.ocf(), new.ocf())?;
+        note_if_changed(&mut parameters, same.ocp, old.ocp(), new.ocp())?;
+        let mut curves = Vec::new(alloc);
+        note_if_changed(&mut curves, same.caf, old.caf(), new.caf())?;
+        note_if_changed(&mut curves, same.cap, old.cap(), new.cap())?;
+        note_if_changed(&mut curves, same.txf, old.txf(), new.txf())?;
+        note_if_changed(&mut curves, same.txp, old.txp(), new.txp())?;
+        note_if_changed(&mut curves, same.mcf, old.mcf(), new.mcf())?;
+        note_if_changed(&mut curves, same.lgf, old.lgf(), new.lgf())?;
+        Ok(Changed { parameters, curves })
     }
 
     /// Whether they are so few that rows are looked up one by one.

@@ -1,11 +1,13 @@
 // Curves found by their names.
-ghost use Rattle.std.specs.Prelude.{◌≡◌, IfOk, option_map};
+ghost use Rattle.std.specs.Prelude.{◌≡◌, IfOk, IfSome, filter, option_map};
+ghost use Rattle.std.specs.List.{find};
 ghost use Rattle.std.specs.Option.{option_or};
+ghost use Rattle.std.specs.Str.{bytes_eq};
 ghost use Rattle.curve_plan.specs.Rows.{rows_of};
 ghost use Rattle.mib_model.specs.Curves as Spec;
 
 use curve_plan::CurveRows;
-use mib_index::{ByName, Firsts, Groups};
+use mib_index::{ByName, Firsts, Groups, Named};
 use mib_model::{CafRow, CapRow, LgfRow, McfRow, Name, TxfRow, TxpRow};
 use mib_tables::Book;
 use std::alloc::{AllocError, Global};
@@ -51,6 +53,22 @@ impl<'a> Model for Curves<'a> {
         × (curves.polynomials ≡ curves.book.value.mcf) × (curves.logarithms ≡ curves.book.value.lgf) };
 }
 
+// The first row of a name in one table, with the rows of the name in another.
+fn with_parts<R: Named, P: Named>(
+    alloc: Global,
+    rows: &Firsts<'_, ByName<R>>,
+    parts: &Groups<'_, ByName<P>>,
+    name: &Name,
+) -> Result<Option<(R, Vec<P>)>, AllocError>
+    ensures row { IfOk result (λ found. option_map (λ whole. whole.0) found ≡ find (λ row. bytes_eq (R.name_of row) name.now) rows.now) }
+    ensures parts { IfOk result (λ found. IfSome found (λ whole. whole.1.items ≡ filter (λ part. bytes_eq (P.name_of part) name.now) parts.now)) }
+{
+    match rows.find(name) {
+        Some(row) => Ok(Some((*row, parts.of(alloc, name)?))),
+        None => Ok(None),
+    }
+}
+
 impl<'a> Curves<'a> {
     /// The curves of a book, of which many are looked up. An error is want of memory.
     pub fn mapped(alloc: Global, book: &'a Book) -> Result<Curves<'a>, AllocError>
@@ -82,28 +100,12 @@ impl<'a> Curves<'a> {
         }
     }
 
-    // The curve by points of a name.
-    fn points_named(&self, alloc: Global, name: &Name) -> Result<Option<CurveRows>, AllocError>
-        ensures { IfOk result (λ rows. option_map rows_of rows ≡ Spec.points_named self.now name.now) }
-    {
-        match self.by_points.find(name) {
-            Some(caf) => {
-                let caps = self.points.of(alloc, name)?;
-                Ok(Some(CurveRows::Points { caf: *caf, caps }))
-            }
-            None => Ok(None),
-        }
-    }
-
     // The curve by texts of a name.
     fn texts_named(&self, alloc: Global, name: &Name) -> Result<Option<CurveRows>, AllocError>
         ensures { IfOk result (λ rows. option_map rows_of rows ≡ Spec.texts_named self.now name.now) }
     {
-        match self.by_texts.find(name) {
-            Some(txf) => {
-                let txps = self.texts.of(alloc, name)?;
-                Ok(Some(CurveRows::Texts { txf: *txf, txps }))
-            }
+        match with_parts(alloc, &self.by_texts, &self.texts, name)? {
+            Some((txf, txps)) => Ok(Some(CurveRows::Texts { txf, txps })),
             None => Ok(None),
         }
     }
@@ -133,8 +135,8 @@ impl<'a> Curves<'a> {
         ensures { IfOk result (λ rows. option_map rows_of rows
             ≡ option_or (Spec.points_named self.now name.now) (option_or (Spec.poly_named self.now name.now) (Spec.log_named self.now name.now))) }
     {
-        if let Some(rows) = self.points_named(alloc, name)? {
-            return Ok(Some(rows));
+        if let Some((caf, caps)) = with_parts(alloc, &self.by_points, &self.points, name)? {
+            return Ok(Some(CurveRows::Points { caf, caps }));
         }
         if let Some(rows) = self.poly_named(name) {
             return Ok(Some(rows));

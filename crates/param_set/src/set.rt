@@ -1,5 +1,5 @@
 // The plans of all parameters of a database.
-ghost use Rattle.std.specs.Prelude.{◌≡◌, ◌+◌, ◌≤◌, ◌∷◌, ◌++◌, [], map, filter, length, is_none, IfSome, IfOk, OnOk};
+ghost use Rattle.std.specs.Prelude.{◌≡◌, ◌+◌, ◌≤◌, ◌∷◌, ◌++◌, [], map, false, filter, length, is_none, true, IfSome, IfOk, OnOk};
 ghost use Rattle.std.specs.Arc.{arc_value};
 ghost use Rattle.edition_plans.specs.Params.{param_slices};
 ghost use Rattle.mib_model.specs.Soundness.{IsSound};
@@ -39,6 +39,36 @@ pub struct Plan {
     pub is_new: bool,
 }
 
+impl Plan {
+    /// A plan of a base, by handle. An error is want of memory.
+    pub fn shared(plan: &Arc<Param>) -> Result<Plan, AllocError>
+        ensures param { IfOk result (λ made. arc_value made.param ≡ arc_value plan.now) }
+        ensures is_new { IfOk result (λ made. made.is_new ≡ false) }
+    {
+        Ok(Plan {
+            param: plan.clone()?,
+            is_new: false,
+        })
+    }
+
+    /// The plan of these rows, compiled, in one step. An error is want of memory.
+    pub fn compiled<L: Ledger>(
+        alloc: Global,
+        rows: ParamRows,
+        steps: &mut Steps<L>,
+    ) -> Result<Plan, AllocError>
+        ensures param { IfOk result (λ made. arc_value made.param ≡ slice_of rows) }
+        ensures is_new { IfOk result (λ made. made.is_new ≡ true) }
+        ensures step { OnOk result (steps.new ≡ steps.old + 1) }
+    {
+        let param = Param::compile(alloc, rows, steps)?;
+        Ok(Plan {
+            param: Arc::new(alloc, param)?,
+            is_new: true,
+        })
+    }
+}
+
 /// Plans, and the names of those that were compiled, not shared.
 #[derive(Drop)]
 pub struct Plans {
@@ -74,17 +104,10 @@ fn plan_of<L: Ledger>(
     ensures is_new { IfOk result (λ plan. plan.is_new ≡ is_new base.now (slice_of rows)) }
     ensures steps { OnOk result (steps.new ≡ steps.old + length (filter (is_new base.now) (slice_of rows ∷ []))) }
 {
-    if let Some(plan) = same_plan(base, &rows) {
-        return Ok(Plan {
-            param: plan.clone()?,
-            is_new: false,
-        });
+    match same_plan(base, &rows) {
+        Some(plan) => Plan::shared(plan),
+        None => Plan::compiled(alloc, rows, steps),
     }
-    let param = Param::compile(alloc, rows, steps)?;
-    Ok(Plan {
-        param: Arc::new(alloc, param)?,
-        is_new: true,
-    })
 }
 
 // The plans of these parameters of a sound database.

@@ -14,7 +14,7 @@ ghost use Rattle.param_plan.specs.Slices.{slice_of, slice_for};
 ghost use Rattle.param_set.specs.Sources.{row_now};
 
 use crate::compiled::CompiledCurves;
-use crate::order::{limits, selections};
+use crate::order::by_number;
 use curve_plan::Curve;
 use mib_index::{ByName, Firsts, Groups};
 use mib_model::{CurRow, Name, OcfRow, OcpRow, PcfRow};
@@ -116,14 +116,14 @@ impl<'a> ParamSources<'a> {
     fn selections(&self, alloc: Global, name: &Name) -> Result<Vec<CurRow>, AllocError>
         ensures { IfOk result (λ rows. rows.items ≡ Spec.selections self.now name.now) }
     {
-        selections(self.selections.of(alloc, name)?)
+        by_number(self.selections.of(alloc, name)?, |row| row.pos)
     }
 
     // The limits of a parameter, by POS.
     fn limits(&self, alloc: Global, name: &Name) -> Result<Vec<OcpRow>, AllocError>
         ensures { IfOk result (λ rows. rows.items ≡ checks_of self.now name.now) }
     {
-        limits(self.limits.of(alloc, name)?)
+        by_number(self.limits.of(alloc, name)?, |row| row.pos)
     }
 
     // The check of a parameter.
