@@ -62,11 +62,11 @@ impl Structures for Compiled {
     ghost tables = { λ compiled. compiled };
 
     fn structure(&self, tpsd: i128) -> Option<&Structure> {
-        self.sets.structure(tpsd)
+        self.sets.keyed().structure(tpsd)
     }
 
     fn deduced(&self, pid: i128) -> Option<TypeItem> {
-        self.sets.deduced(pid)
+        self.sets.keyed().deduced(pid)
     }
 }
 
@@ -76,11 +76,11 @@ impl Plans for Compiled {
     }
 
     fn layout(&self, spid: u32) -> Option<&Layout> {
-        self.sets.layout(spid)
+        self.sets.keyed().layout(spid)
     }
 
     fn params(&self) -> &Params {
-        self.sets.params()
+        self.sets.keyed().params()
     }
 
     fn title(&self, spid: u32) -> Option<&Text> {

@@ -11,10 +11,8 @@ ghost use Rattle.mib_model.specs.Touched.{touched};
 use crate::compiled::Compiled;
 use crate::fault::SaveFault;
 use crate::titles::{titles_beside, titles_of};
-use crate::ways::ByTitled;
 use edition_diff::{Made, PlanName, PlanSets};
 use edition_plans::Plans;
-use first_rows::FirstRows;
 use ident_plan::Ident;
 use layout_plan::Layout;
 use mib_keys::{same_beside, same_tables, sound, sound_with};
@@ -24,15 +22,13 @@ use param_plan::Params;
 use std::alloc::{AllocError, Global};
 use std::marker::Model;
 use std::snapshot::Snapshot;
-use std::sync::Arc;
 use std::sync::ledger::Ledger;
 use struct_plan::{Structure, Structures};
 
 /// Sound tables with their plans. Contracts see the database of the tables.
 pub struct Edition {
     book: Book,
-    sets: PlanSets,
-    titles: Arc<FirstRows<ByTitled>>,
+    plans: Compiled,
 }
 
 /// By hand, so that whoever lets one go proves one call.
@@ -40,15 +36,13 @@ impl Drop for Edition {
     fn drop(self) {
         let Edition {
             book: _book,
-            sets: _sets,
-            titles: _titles,
+            plans: _plans,
         } = self;
     }
 }
 
 impl Model for Edition {
     ghost use Rattle.std.specs.Prelude.{◌≡◌};
-    ghost use Rattle.std.specs.Arc.{arc_value};
     ghost use Rattle.mib_model.specs.declared.database.Database.{Database};
     ghost use Rattle.mib_model.specs.Soundness.{IsSound};
 
@@ -56,7 +50,7 @@ impl Model for Edition {
 
     ghost view = { λ edition. edition.book };
 
-    ghost invariant = { λ edition. IsSound edition.book × (edition.sets ≡ edition.book) × (arc_value edition.titles ≡ edition.book.tpcf) };
+    ghost invariant = { λ edition. IsSound edition.book × (edition.plans ≡ edition.book) };
 }
 
 /// An edition, how many of its plans were compiled, not shared with the base, and their names, in the order of all plans.
@@ -78,9 +72,12 @@ impl Edition {
         ensures made { IfOk result (λ edition. edition ≡ book) }
         ensures steps { OnOk result (steps.new ≡ steps.old + length (plans book)) }
     {
-        let sets = PlanSets::alone(alloc, &book, steps)?;
-        let titles = titles_of(alloc, book.tpcf())?;
-        Ok(Edition { book, sets, titles })
+        let plans = Compiled {
+            sets: PlanSets::alone(alloc, &book, steps)?,
+            titles: titles_of(alloc, book.tpcf())?,
+            book: Snapshot::of(&book),
+        };
+        Ok(Edition { book, plans })
     }
 
     // Compiles the plans of a sound book, of which those of the same rows are shared with a base.
@@ -98,19 +95,21 @@ impl Edition {
         ensures touched { IfOk result (λ amended. amended.touched.items ≡ touched base.now book.now) }
         ensures steps { OnOk result (steps.new ≡ steps.old + length (touched base.now book.now)) }
     {
+        let held = &base.plans;
         let Made { sets, touched } = PlanSets::beside(
-            alloc, &base.sets, &base.book, same, book, steps,
+            alloc, &held.sets, &base.book, same, book, steps,
         )?;
-        let plans = touched.len() as u32;
-        let titles = titles_beside(alloc, &base.titles, same.tpcf, book.tpcf())?;
-        let edition = Edition {
-            book: book.copy()?,
+        let plans = Compiled {
             sets,
-            titles,
+            titles: titles_beside(alloc, &held.titles, same.tpcf, book.tpcf())?,
+            book: Snapshot::of(book),
         };
         Ok(Amended {
-            edition,
-            plans,
+            edition: Edition {
+                book: book.copy()?,
+                plans,
+            },
+            plans: touched.len() as u32,
             touched,
         })
     }
@@ -182,12 +181,11 @@ impl Edition {
     pub fn into_plans(self) -> Compiled
         ensures { result ≡ self }
     {
-        let Edition { book, sets, titles } = self;
-        Compiled {
-            sets,
-            titles,
-            book: Snapshot::of(&book),
-        }
+        let Edition {
+            book: _book,
+            plans,
+        } = self;
+        plans
     }
 }
 
@@ -203,31 +201,28 @@ impl Structures for Edition {
     ghost tables = { λ edition. edition };
 
     fn structure(&self, tpsd: i128) -> Option<&Structure> {
-        self.sets.structure(tpsd)
+        self.plans.structure(tpsd)
     }
 
     fn deduced(&self, pid: i128) -> Option<TypeItem> {
-        self.sets.deduced(pid)
+        self.plans.deduced(pid)
     }
 }
 
 impl Plans for Edition {
     fn ident(&self) -> &Ident {
-        self.sets.ident()
+        self.plans.ident()
     }
 
     fn layout(&self, spid: u32) -> Option<&Layout> {
-        self.sets.layout(spid)
+        self.plans.layout(spid)
     }
 
     fn params(&self) -> &Params {
-        self.sets.params()
+        self.plans.params()
     }
 
     fn title(&self, spid: u32) -> Option<&Text> {
-        match self.titles.find(&spid) {
-            Some(row) => row.name.as_ref(),
-            None => None,
-        }
+        self.plans.title(spid)
     }
 }

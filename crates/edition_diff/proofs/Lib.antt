@@ -2,4 +2,3 @@ pub mod RowFacts
 pub mod OrderFacts
 pub mod NamedPlans
 pub mod TouchedFacts
-mod AlikeFacts

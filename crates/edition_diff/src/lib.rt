@@ -5,8 +5,8 @@
 //! another, shares each plan of the same rows, and names each plan that it compiled, once, in the order in which the
 //! definition `touched` has them: it promises that these names are `touched`, and a step for each. `PlanSets::alone` compiles
 //! all. It rests on param_changes and numbered_plans for the plans of each kind, on param_set too for what was compiled of them, on
-//! ident_plan for that of identification, on mib_keys for the tables that two books have in common, on row_sameness for
-//! rows that are the same, and on type_items for the law that type items that are the same are equal.
+//! ident_plan for that of identification, on mib_keys for the tables that two books have in common, and on row_sameness
+//! for rows that are the same.
 #![tactic(auto)]
 
 mod ident;
@@ -14,5 +14,6 @@ mod keyed;
 mod names;
 mod plan_sets;
 
+pub use keyed::KeyedPlans;
 pub use mib_model::PlanName;
 pub use plan_sets::{Made, PlanSets};

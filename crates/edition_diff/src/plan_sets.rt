@@ -1,15 +1,11 @@
 // All plans of a database, beside those of a base.
 ghost use Rattle.std.specs.Prelude.{◌≡◌, ◌+◌, ◌*◌, ◌≤◌, IfOk, OnOk, length};
-ghost use Rattle.std.specs.Option.{option_copied};
 ghost use Rattle.edition_diff.specs.Diffs.{ident_rows};
-ghost use Rattle.edition_plans.specs.Layouts.{layout_of};
-ghost use Rattle.edition_plans.specs.Params.{param_slices};
 ghost use Rattle.mib_keys.specs.Kept.{AreSameIn};
 ghost use Rattle.mib_model.specs.Plans.{plans};
 ghost use Rattle.mib_model.specs.Soundness.{IsSound};
 ghost use Rattle.mib_model.specs.Touched.{touched};
 ghost use Rattle.mib_model.specs.declared.limits.TheConstants.{HELD_MOST};
-ghost use Rattle.struct_plan.specs.Slices.{deduced_item, structure_found};
 
 use crate::ident::{ident_beside, ident_of};
 use crate::keyed::KeyedPlans;
@@ -17,8 +13,6 @@ use crate::names::add_ident;
 use ident_plan::Ident;
 use mib_model::{PlanName, Steps};
 use mib_tables::{Book, TableSet};
-use numbered_plans::{Layout, Structure, TypeItem};
-use param_plan::Params;
 use std::alloc::{AllocError, Global};
 use std::marker::Model;
 use std::sync::Arc;
@@ -112,31 +106,10 @@ impl PlanSets {
         &self.ident
     }
 
-    /// The plans of all parameters that have plans, by name.
-    pub fn params(&self) -> &Params
-        ensures { result.now ≡ param_slices self.now }
+    /// The plans that are found by a key.
+    pub fn keyed(&self) -> &KeyedPlans
+        ensures { result.now ≡ self.now }
     {
-        self.keyed.params()
-    }
-
-    /// The layout of a SPID, in one probe: none exactly where no packet of that SPID has a fixed layout.
-    pub fn layout(&self, spid: u32) -> Option<&Layout>
-        ensures { option_copied result ≡ layout_of self.now spid }
-    {
-        self.keyed.layout(spid)
-    }
-
-    /// The structure of a TPSD, in one probe: none exactly where there is no such structure.
-    pub fn structure(&self, tpsd: i128) -> Option<&Structure>
-        ensures { option_copied result ≡ structure_found self.now tpsd }
-    {
-        self.keyed.structure(tpsd)
-    }
-
-    /// The type item of the first measured parameter, not deduced itself, that has this number, in one probe.
-    pub fn deduced(&self, pid: i128) -> Option<TypeItem>
-        ensures { result ≡ deduced_item self.now pid }
-    {
-        self.keyed.deduced(pid)
+        &self.keyed
     }
 }

@@ -4,7 +4,7 @@ ghost use Rattle.std.specs.Prelude.{◌≡◌, IfOk};
 use crate::books::{book_of, name, parameter, structure_row};
 use mib_model::Steps;
 use mib_tables::Book;
-use numbered_plans::StructureSet;
+use numbered_plans::{Deduced, StructureSet};
 use std::alloc::{AllocError, Global};
 use std::marker::Brand;
 use std::process::Abort;
@@ -61,15 +61,21 @@ fn first_set<L: Ledger, R: Abort>(
 }
 
 fn finds<R: Abort>(rt: &R, set: &StructureSet) -> Result<(), Fail> {
-    assert!(rt; set.structure(9).is_none());
-    assert!(rt; set.structure(-7).is_none());
+    assert!(rt; set.plan(9).is_none());
+    assert!(rt; set.plan(-7).is_none());
     assert!(rt; set.handle(8).is_some());
-    assert!(rt; set.deduced(5).is_some());
-    assert!(rt; set.deduced(6).is_none());
-    match set.structure(7) {
+    match set.plan(7) {
         Some(structure) => assert_eq!(rt; structure.len(), 2),
         None => assert!(rt; false, "a structure"),
     }
+    Ok(())
+}
+
+// A deduced parameter is found by its number.
+fn deduces<R: Abort>(rt: &R, book: &Book, alloc: Global) -> Result<(), Fail> {
+    let deduced = Deduced::new(alloc, book.pcf())?;
+    assert!(rt; deduced.find(5).is_some());
+    assert!(rt; deduced.find(6).is_none());
     Ok(())
 }
 
@@ -110,6 +116,7 @@ fn shares<L: Ledger, R: Abort>(
 ) -> Result<(), Fail> {
     let base = first_set(rt, book, steps, alloc)?;
     finds(rt, &base)?;
+    deduces(rt, book, alloc)?;
     again(rt, &base, book, steps, alloc)?;
     differs(rt, &base, book, steps, alloc)
 }

@@ -20,6 +20,12 @@ params_with-requires g c = record {
   same = c.requires.same;
 }
 
+pub beside-requires-3 : goal.beside-requires-3
+beside-requires-3 g c = record {
+  base = c.base.invariant.2 ∙ ap (λ (db : Database). db.pcf) (c.base.view_is ∙ c.requires.base) ∙ sym c.pcf.ensures.rows;
+  known = λ known. c.pcf.ensures.rows ∙ c.requires.same.pcf known ∙ sym c.pcf-2.ensures.rows;
+}
+
 pub returns : goal.returns
 returns g c =
     let old : Database = c.args.base.now in
@@ -31,7 +37,7 @@ returns g c =
     let layouts : c.in_ok-layouts.layouts.compiled.items ≡ new_layouts old new = c.in_ok-layouts.ensures.compiled ∙ ap (λ (db : Database). new_layouts db new) base in
     let structures : c.in_ok-structures.structures.compiled.items ≡ new_structures old new =
     c.in_ok-structures.ensures.compiled ∙ ap (λ (db : Database). new_structures db new) (c.base.invariant.1 ∙ base) in
-    let kinds = keyed-touched old new in
+    let kinds = keyed-touched old new c.requires.sound in
     let params_now : c.deref.result.now ≡ new_names (param_slices old) (param_slices new) = c.deref.ensures.value ∙ params in
     let layouts_now : c.deref-2.result.now ≡ new_layouts old new = c.deref-2.ensures.value ∙ layouts in
     let structures_now : c.deref-3.result.now ≡ new_structures old new = c.deref-3.ensures.value ∙ structures in
