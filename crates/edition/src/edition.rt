@@ -181,10 +181,7 @@ impl Edition {
     pub fn into_plans(self) -> Compiled
         ensures { result ≡ self }
     {
-        let Edition {
-            book: _book,
-            plans,
-        } = self;
+        let Edition { book: _book, plans } = self;
         plans
     }
 }
