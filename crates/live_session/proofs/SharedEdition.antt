@@ -9,7 +9,9 @@ use Rattle.edition.specs.contracts.edition.Edition as Edition
 use Rattle.edition_diff.specs.contracts.keyed.KeyedPlans as KeyedPlans
 use Rattle.edition_diff.specs.contracts.plan_sets.PlanSets as PlanSets
 use Rattle.layout_plan.specs.contracts.layout.Layout as Layout
-use Rattle.numbered_plans.specs.contracts.layout_set.LayoutSet as LayoutSet
+use Rattle.numbered_plans.specs.contracts.deduced.Deduced as Deduced
+use Rattle.numbered_plans.specs.contracts.plan_set.PlanSet as PlanSet
+use Rattle.numbered_plans.specs.declared.numbered.Numbered as Numbered
 use Rattle.mib_model.specs.contracts.rows.CafRow as CafRow
 use Rattle.mib_model.specs.contracts.rows.CapRow as CapRow
 use Rattle.mib_model.specs.contracts.rows.CurRow as CurRow
@@ -29,7 +31,6 @@ use Rattle.mib_model.specs.declared.table_row.TableRow as TableRow
 use Rattle.mib_tables.specs.contracts.book.Book as Book
 use Rattle.mib_tables.specs.contracts.table.Table as Table
 use Rattle.struct_plan.specs.contracts.structure.Structure as Structure
-use Rattle.numbered_plans.specs.contracts.structure_set.StructureSet as StructureSet
 
 -- values of a type may be read by several threads, and may go to another
 record Crosses (T : RattleType) : Type 0 where
@@ -100,35 +101,36 @@ book-sync = search (table-sync, pcf-crosses, pid-crosses, pic-crosses, tpcf-cros
 pub book-send : IsSend Book.the_row
 book-send = search (table-send, pcf-crosses, pid-crosses, pic-crosses, tpcf-crosses, plf-crosses, vpd-crosses, ocf-crosses, ocp-crosses, cur-crosses, caf-crosses, cap-crosses, txf-crosses, txp-crosses, mcf-crosses, lgf-crosses, crosses, sendable) depth 60 fits 20000
 
-layout-sync : IsSync Layout.the_row
-layout-sync = search (crosses, sendable) depth 60 fits 20000
+layout-crosses : Crosses Layout.the_row
+layout-crosses = record { read = search (crosses, sendable) depth 60 fits 20000; moved = search (crosses, sendable) depth 60 fits 20000 }
 
-layout-send : IsSend Layout.the_row
-layout-send = search (crosses, sendable) depth 60 fits 20000
+structure-crosses : Crosses Structure.the_row
+structure-crosses = record { read = search (crosses, sendable) depth 60 fits 20000; moved = search (crosses, sendable) depth 60 fits 20000 }
 
-structure-sync : IsSync Structure.the_row
-structure-sync = search (crosses, sendable) depth 60 fits 20000
+shared-plans-sync : (T : RattleType) (g : Numbered.Ghosts T.Denot) → IsSync T → IsSend T → IsSync (PlanSet.the_row T g)
+shared-plans-sync T g y d = search (map_crosses, crosses, sendable) depth 60 fits 20000
 
-structure-send : IsSend Structure.the_row
-structure-send = search (crosses, sendable) depth 60 fits 20000
+shared-plans-send : (T : RattleType) (g : Numbered.Ghosts T.Denot) → IsSync T → IsSend T → IsSend (PlanSet.the_row T g)
+shared-plans-send T g y d = search (map_crosses, crosses, sendable) depth 60 fits 20000
 
-layouts-sync : IsSync LayoutSet.the_row
-layouts-sync = search (layout-sync, layout-send, map_crosses, crosses, sendable) depth 60 fits 20000
+-- sets share their plans, so those must cross in both ways
+set-sync : (T : RattleType) (g : Numbered.Ghosts T.Denot) → Crosses T → IsSync (PlanSet.the_row T g)
+set-sync T g c = shared-plans-sync T g c.read c.moved
 
-structures-sync : IsSync StructureSet.the_row
-structures-sync = search (structure-sync, structure-send, map_crosses, crosses, sendable) depth 60 fits 20000
+set-send : (T : RattleType) (g : Numbered.Ghosts T.Denot) → Crosses T → IsSend (PlanSet.the_row T g)
+set-send T g c = shared-plans-send T g c.read c.moved
 
-layouts-send : IsSend LayoutSet.the_row
-layouts-send = search (layout-sync, layout-send, map_crosses, crosses, sendable) depth 60 fits 20000
+deduced-sync : IsSync Deduced.the_row
+deduced-sync = search (map_crosses, crosses, sendable) depth 60 fits 20000
 
-structures-send : IsSend StructureSet.the_row
-structures-send = search (structure-sync, structure-send, map_crosses, crosses, sendable) depth 60 fits 20000
+deduced-send : IsSend Deduced.the_row
+deduced-send = search (map_crosses, crosses, sendable) depth 60 fits 20000
 
 keyed-sync : IsSync KeyedPlans.the_row
-keyed-sync = search (params-sync, layouts-sync, structures-sync, crosses, sendable) depth 60 fits 20000
+keyed-sync = search (params-sync, set-sync, layout-crosses, structure-crosses, deduced-sync, deduced-send, crosses, sendable) depth 60 fits 20000
 
 keyed-send : IsSend KeyedPlans.the_row
-keyed-send = search (params-send, layouts-send, structures-send, crosses, sendable) depth 60 fits 20000
+keyed-send = search (params-send, set-send, layout-crosses, structure-crosses, deduced-sync, deduced-send, crosses, sendable) depth 60 fits 20000
 
 sets-sync : IsSync PlanSets.the_row
 sets-sync = search (ident-sync, ident-send, keyed-sync, crosses, sendable) depth 60 fits 20000
@@ -136,11 +138,14 @@ sets-sync = search (ident-sync, ident-send, keyed-sync, crosses, sendable) depth
 sets-send : IsSend PlanSets.the_row
 sets-send = search (ident-sync, ident-send, keyed-send, crosses, sendable) depth 60 fits 20000
 
-pub edition-sync : IsSync Edition.the_row
-edition-sync = search (sets-sync, book-sync, map_crosses, crosses, sendable) depth 60 fits 20000
-
-pub edition-send : IsSend Edition.the_row
-edition-send = search (sets-send, book-send, map_crosses, crosses, sendable) depth 60 fits 20000
-
 pub compiled-sync : IsSync Compiled.the_row
 compiled-sync = search (sets-sync, map_crosses, crosses, sendable) depth 60 fits 20000
+
+compiled-send : IsSend Compiled.the_row
+compiled-send = search (sets-send, map_crosses, crosses, sendable) depth 60 fits 20000
+
+pub edition-sync : IsSync Edition.the_row
+edition-sync = search (compiled-sync, book-sync, crosses, sendable) depth 60 fits 20000
+
+pub edition-send : IsSend Edition.the_row
+edition-send = search (compiled-send, book-send, crosses, sendable) depth 60 fits 20000
