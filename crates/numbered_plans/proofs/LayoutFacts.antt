@@ -1,5 +1,5 @@
 -- The fixed layouts of a database, beside those of another.
-use Rattle.std.proofs.Common.{◌≡◌, ℕ, ◌≤◌, ◌<◌, zero, suc, ℤ, pos, nat_eq, nat_le, Bool, true, false, cond, ◌&&◌, ◌||◌, not, List, [], ◌∷◌, take, length, get_or, filter, map, Option, Some, None, option_map, refl, sym, ap, ◌∙◌, arith}
+use Rattle.std.proofs.Common.{◌≡◌, ℕ, ◌≤◌, ◌<◌, zero, suc, ℤ, pos, nat_eq, Bool, true, false, cond, ◌&&◌, ◌||◌, not, List, [], ◌∷◌, take, length, get_or, filter, map, Some, None, option_map, refl, sym, ap, ◌∙◌, arith}
 use Rattle.std.proofs.lemmas.Bool.{eq-eqb, eqb-false, ne_eqb}
 use Rattle.std.proofs.lemmas.List.{length-map}
 use Rattle.std.proofs.lemmas.List.Sums.{count_by-le-length, length-filter}
@@ -7,34 +7,20 @@ use Rattle.std.specs.List.{find, list_any}
 use Rattle.std.specs.Option.{option_eq}
 use Rattle.std.specs.Ordering.{int_eq}
 use Rattle.edition_plans.specs.Layouts.{is_layout_row, layout_of, layout_slice}
-use Rattle.layout_plan.specs.Slices.{LayoutRows}
 use Rattle.mib_model.specs.declared.database.Database.{Database}
 use Rattle.mib_model.specs.declared.rows.PidRow.{PidRow}
 use Rattle.mib_model.specs.declared.rows.PlfRow.{PlfRow}
 use Rattle.mib_model.specs.Fixed.{has_layout}
-use Rattle.mib_model.specs.LayoutTables.{plf, plf_cells}
-use Rattle.mib_model.specs.PacketTables.{pid, pid_cells}
-use Rattle.mib_model.specs.Plans.{distinct, layout_rows, type_items}
-use Rattle.mib_model.specs.SameRows.{same_plf}
+use Rattle.mib_model.specs.Plans.{distinct, layout_rows, type_item, type_items}
 use Rattle.mib_model.specs.Soundness.{IsSound}
-use Rattle.mib_model.specs.Touched.{same_slice, same_type_item}
-use Rattle.row_laws.proofs.SameFacts.{same_values-Decides}
 use Rattle.type_items.proofs.AlikeFacts.{items-alike}
-use Rattle.type_items.proofs.SameFacts.{same-item, same-lists}
-use Rattle.numbered_plans.proofs.BuildingFacts.{none-among, whole}
-use Rattle.numbered_plans.proofs.NumberFacts.{in_order, long-sorted}
+use Rattle.numbered_plans.proofs.BuildingFacts.{whole}
+use Rattle.numbered_plans.proofs.NumberFacts.{in_order}
 use Rattle.numbered_plans.proofs.SoundFacts.{packets-apart}
 use Rattle.numbered_plans.specs.Apart.{AreApart}
-use Rattle.numbered_plans.specs.Layouts.{AreLaidAlike, is_new, laid_out, laid_spids, layout_numbered, new_layouts, same_layout}
+use Rattle.numbered_plans.specs.Layouts.{laid_out, laid_spids, layout_numbered, new_layouts, same_layout}
 use Rattle.numbered_plans.specs.Numbered as Numbered
-use Rattle.numbered_plans.specs.Numbered.{found_among, has_same, is_new_at, new_among}
-
--- what is compiled of the same is the same
-same-layout : (s : LayoutRows) → same_layout s s ≡ true
-unfolding same_slice
-same-layout s =
-    rw ((same_values-Decides pid (pid_cells s.pid) (pid_cells s.pid)).1 refl, same-lists same_plf (λ r. (same_values-Decides plf (plf_cells r) (plf_cells r)).1 refl) s.plfs)
-    (same-lists same_type_item same-item s.types)
+use Rattle.numbered_plans.specs.Numbered.{has_same, is_new_at}
 
 -- a packet of fixed layout is found by its SPID, where no packet before it has that
 own-found : (rows : List PidRow) (i : ℕ) (row : PidRow) → i < length rows → row ≡ get_or rows i row → list_any (λ r. nat_eq row.spid r.spid) (take i rows) ≡ false
@@ -67,31 +53,6 @@ packet-found spid rows = λ i. find (λ row. keyed spid row.spid (has_layout row
 pub numbered-spid : (db : Database) (spid : ℕ) → layout_numbered db (pos spid) ≡ layout_of db spid
 unfolding layout_of
 numbered-spid db spid = ap (option_map (layout_slice db)) (packet-found spid db.pid)
-
-none-laid : (rows : List PidRow) (q : ℤ) → list_any (λ n. int_eq (pos n) q) (laid_spids rows) ≡ false → find (λ row. option_eq int_eq (laid_out row) (Some q)) rows ≡ None
-none-laid [] q h = refl
-none-laid (r ∷ rs) q h = go (has_layout r) h (none-laid rs q) where
-  among : List PidRow → Bool
-  among rows = list_any (λ n. int_eq (pos n) q) (map (λ row. row.spid) rows)
-
-  found : Option PidRow
-  found = find (λ row. option_eq int_eq (laid_out row) (Some q)) rs
-
-  laid : (c : Bool) → (c || among (filter has_layout rs)) ≡ false → (among (filter has_layout rs) ≡ false → found ≡ None) → cond c (Some r) found ≡ None
-  laid true h others = absurd (cc h)
-  laid false h others = others h
-
-  go : (b : Bool) → among (cond b (r ∷ filter has_layout rs) (filter has_layout rs)) ≡ false → (among (filter has_layout rs) ≡ false → found ≡ None)
-      → cond (option_eq int_eq (cond b (Some (pos r.spid)) None) (Some q)) (Some r) found ≡ None
-  go true h others = laid (int_eq (pos r.spid) q) h others
-  go false h others = others h
-
--- all layouts are those of packets
-pub covered : (db : Database) (q : ℤ) → found_among (layout_numbered db) (laid_spids db.pid) q ≡ layout_numbered db q
-covered db q = go (list_any (λ n. int_eq (pos n) q) (laid_spids db.pid)) refl where
-  go : (b : Bool) → list_any (λ n. int_eq (pos n) q) (laid_spids db.pid) ≡ b → cond b (layout_numbered db q) None ≡ layout_numbered db q
-  go true e = refl
-  go false e = sym (ap (option_map (layout_slice db)) (none-laid db.pid q e))
 
 -- ---- layouts that are compiled
 
@@ -145,6 +106,10 @@ chosen p q (r ∷ rs) agree =
       go true same others = laid (p r.spid) (q r) same others
       go false same others = others ∙ ap (λ c. spids (cond c (r ∷ filter q rs) (filter q rs))) same
 
+-- a packet of fixed layout whose layout the base lacks, or has of other rows or type items
+abbrev pub is_new : Database → Database → PidRow → Bool
+is_new base db row = has_layout row && not (has_same same_layout (layout_of base row.spid) (layout_slice db row))
+
 module _ (base db : Database) (sound : IsSound db) where
   new-at : (i : ℕ) (row : PidRow) → i < length db.pid → row ≡ get_or db.pid i row
       → (has_layout row && is_new_at same_layout (layout_numbered base) (layout_numbered db) row.spid) ≡ is_new base db row
@@ -158,31 +123,24 @@ module _ (base db : Database) (sound : IsSound db) where
         ap (λ o. Numbered.is_new same_layout o (layout_numbered db (pos row.spid))) (numbered-spid base row.spid)
         ∙ ap (Numbered.is_new same_layout (layout_of base row.spid)) found
 
-  -- the layouts that are compiled are those that the base lacks, or has of others
-  pub new-is : new_among same_layout (layout_numbered base) (layout_numbered db) (laid_spids db.pid) ≡ new_layouts base db
+  -- the new layouts of a sound database are those of packets that are new
+  pub new-is : new_layouts base db ≡ in_order (map (λ row. row.spid) (filter (is_new base db) db.pid))
   new-is =
       let made : ℕ → Bool = is_new_at same_layout (layout_numbered base) (layout_numbered db) in
       ap in_order (ap (filter made) (distinct-laid db.pid (packets-apart db sound)) ∙ chosen made (is_new base db) db.pid new-at)
 
--- no more layouts are compiled than there are packets
-pub few-layouts : (base db : Database) → length (new_layouts base db) ≤ length db.pid
-few-layouts base db =
-    let rows : List PidRow = filter (is_new base db) db.pid in
-    let long = long-sorted (λ (x y : ℕ). nat_le x y) (map (λ (r : PidRow). r.spid) rows) in
-    omega (arith, long, length-map rows (λ (r : PidRow). r.spid), length-filter (is_new base db) db.pid, count_by-le-length (is_new base db) db.pid)
+-- no more packets have a fixed layout than there are
+pub few-laid : (rows : List PidRow) → length (laid_spids rows) ≤ length rows
+few-laid rows = omega (arith, length-map (filter has_layout rows) (λ (r : PidRow). r.spid), length-filter has_layout rows, count_by-le-length has_layout rows)
 
-module _ (old new : Database) (alike : AreLaidAlike old new) where
+-- databases with the same packets, places and type items have the same layouts
+module _ (old new : Database) (pid : old.pid ≡ new.pid) (plf : old.plf ≡ new.plf) (types : map type_item old.pcf ≡ map type_item new.pcf) where
   slice-alike : (row : PidRow) → layout_slice old row ≡ layout_slice new row
   slice-alike row =
-      let rows : layout_rows old row.spid ≡ layout_rows new row.spid = ap (filter (λ (r : PlfRow). nat_eq r.spid row.spid)) alike.1 in
-      let types : type_items old (map (λ r. r.name) (layout_rows old row.spid)) ≡ type_items new (map (λ r. r.name) (layout_rows new row.spid)) =
-      items-alike old.pcf new.pcf alike.2 (map (λ r. r.name) (layout_rows old row.spid)) ∙ ap (λ (rs : List PlfRow). type_items new (map (λ r. r.name) rs)) rows in
-      λ i. record { pid = row; plfs = rows i; types = types i }
+      let rows : layout_rows old row.spid ≡ layout_rows new row.spid = ap (filter (λ (r : PlfRow). nat_eq r.spid row.spid)) plf in
+      let items : type_items old (map (λ r. r.name) (layout_rows old row.spid)) ≡ type_items new (map (λ r. r.name) (layout_rows new row.spid)) =
+      items-alike old.pcf new.pcf types (map (λ r. r.name) (layout_rows old row.spid)) ∙ ap (λ (rs : List PlfRow). type_items new (map (λ r. r.name) rs)) rows in
+      λ i. record { pid = row; plfs = rows i; types = items i }
 
-  -- the layout of a number
   pub layouts-alike : (q : ℤ) → layout_numbered old q ≡ layout_numbered new q
-  layouts-alike q = λ i. option_map (λ row. slice-alike row i) (find (λ row. option_eq int_eq (laid_out row) (Some q)) (alike.0 i))
-
-  -- no layout is new where the packets are those of a sound database
-  pub none-new : IsSound new → new_layouts old new ≡ []
-  none-new sound = sym (new-is old new sound) ∙ none-among same_layout (layout_numbered old) (layout_numbered new) same-layout layouts-alike (laid_spids new.pid)
+  layouts-alike q = λ i. option_map (λ row. slice-alike row i) (find (λ row. option_eq int_eq (laid_out row) (Some q)) (pid i))

@@ -1,13 +1,12 @@
--- Layouts that are looked for first. [This profile.]
+-- Plans that are looked for first. [This profile.]
 use Rattle.std.specs.Prelude.{◌≡◌, ℤ, pos, List, Option, Some}
 use Rattle.std.specs.Arc.{arc_value}
 use Rattle.std.specs.declared.sync.Arc.{Arc}
 use Rattle.std.specs.HashMap.{HashMap}
 use Rattle.first_rows.specs.Near.{IsAtHand}
-use Rattle.layout_plan.specs.Slices.{LayoutRows}
 use Rattle.numbered_plans.specs.Numbered.{plan_at}
-use Rattle.numbered_plans.specs.declared.layouts.Kept.{Kept}
+use Rattle.numbered_plans.specs.declared.plans.Kept.{Kept}
 
--- whether each layout at these places is that of its SPID in a map
-abbrev pub AreLayoutsOf : {Z S : Type 0} → HashMap ℤ (Arc LayoutRows Z) S → List (Option Kept) → Type 0
-AreLayoutsOf map near = (kept : Kept) → IsAtHand near kept → plan_at map (pos kept.spid) ≡ Some (arc_value kept.layout)
+-- whether each plan at these places is that of its number in a map
+abbrev pub ArePlansOf : {R Z S : Type 0} → HashMap ℤ (Arc R Z) S → List (Option (Kept R)) → Type 0
+ArePlansOf {R} map near = (kept : Kept R) → IsAtHand near kept → plan_at map (pos kept.number) ≡ Some (arc_value kept.plan)

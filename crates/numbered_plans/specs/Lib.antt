@@ -3,3 +3,4 @@ pub mod Layouts
 pub mod Kept
 pub mod Structures
 pub mod Apart
+pub mod Laws

@@ -42,3 +42,7 @@ module _ {R : Type 0} (same : R → R → Bool) (old new : ℤ → Option R) whe
 -- the rows of a number that is among some
 abbrev pub found_among : {R : Type 0} → (ℤ → Option R) → List ℕ → ℤ → Option R
 found_among new ns q = if list_any (λ n. int_eq (pos n) q) ns then new q else None
+
+-- the numbers of a database's plans that a base lacks, or has of other rows, each once, in order
+abbrev pub new_numbers : {D R : Type 0} → (R → R → Bool) → (D → ℤ → Option R) → (D → List ℕ) → D → D → List ℕ
+new_numbers same rows_at numbers base db = new_among same (rows_at base) (rows_at db) (numbers db)

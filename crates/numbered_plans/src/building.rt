@@ -1,13 +1,15 @@
 // Plans that are made one after the other.
-ghost use Rattle.std.specs.Prelude.{◌≡◌, ◌+◌, ◌++◌, ℤ, pos, None, IfOk, OnOk, length, not, if◌then◌else◌};
+ghost use Rattle.std.specs.Prelude.{◌≡◌, ◌+◌, ◌++◌, ◌≤◌, ℤ, pos, None, IfOk, OnOk, length, not, if◌then◌else◌};
 ghost use Rattle.std.specs.Arc.{arc_value};
 ghost use Rattle.std.specs.Option.{option_or};
 ghost use Rattle.std.specs.Ordering.{int_eq};
 ghost use Rattle.mib_model.specs.Orders.{sorted_by_number};
-ghost use Rattle.numbered_plans.specs.Numbered.{added, found_among, has_same, new_among, one_if, plan_at};
+ghost use Rattle.mib_model.specs.declared.limits.TheConstants.{HELD_MOST};
+ghost use Rattle.numbered_plans.specs.Numbered.{added, found_among, has_same, new_among, new_numbers, one_if, plan_at};
 
 use crate::before::Before;
 use crate::order::in_order;
+use crate::plans::Plans;
 use crate::sources::Sources;
 use mib_model::Steps;
 use std::alloc::{AllocError, Global};
@@ -22,10 +24,17 @@ struct Plan<P: Drop> {
     is_new: bool,
 }
 
-/// Plans by number, and the numbers of those that were compiled, not shared.
+// Plans by number, and the numbers of those that were compiled, not shared, in no order.
 #[derive(Drop)]
-pub struct Building<P: Drop> {
-    pub plans: HashMap<i128, Arc<P>>,
+struct Building<P: Drop> {
+    plans: HashMap<i128, Arc<P>>,
+    compiled: Vec<u32>,
+}
+
+/// Plans by number, and the numbers of those that were compiled, not shared, in order.
+#[derive(Drop)]
+pub struct Built<P: Drop> {
+    pub plans: Plans<P>,
     pub compiled: Vec<u32>,
 }
 
@@ -108,21 +117,23 @@ fn noted<S: Sources, L: Ledger>(
     Ok(building)
 }
 
-/// The plans of numbers: those of the base where they are of the same rows; and in order the numbers of those that were
+/// All plans of a book: those of the base where they are of the same rows; and in order the numbers of those that were
 /// compiled, each in one step. An error is want of memory.
 pub fn build<S: Sources, L: Ledger>(
     alloc: Global,
     before: &Before<'_, S>,
     new: &S,
-    numbers: &[u32],
     steps: &mut Steps<L>,
-) -> Result<Building<S::Plan>, AllocError>
-    ensures plans { IfOk result (λ building. (q : ℤ) → plan_at building.plans q ≡ found_among (S.rows_at new.now) numbers.now q) }
-    ensures compiled { IfOk result (λ building. building.compiled.items
-        ≡ new_among S.same (S.rows_at before.now) (S.rows_at new.now) numbers.now) }
-    ensures steps { OnOk result (steps.new ≡ steps.old + length (new_among S.same (S.rows_at before.now) (S.rows_at new.now) numbers.now)) }
+) -> Result<Built<S::Plan>, AllocError>
+    ensures plans { IfOk result (λ built. (q : ℤ) → plan_at built.plans.map q ≡ S.rows_at new.now q) }
+    ensures compiled { IfOk result (λ built. built.compiled.items ≡ new_numbers S.same S.rows_at S.numbers before.now new.now) }
+    ensures few { IfOk result (λ built. length built.compiled.items ≤ HELD_MOST) }
+    ensures steps { OnOk result (steps.new ≡ steps.old + length (new_numbers S.same S.rows_at S.numbers before.now new.now)) }
 {
-    let Building { plans, compiled } = noted(alloc, before, new, numbers, steps)?;
-    let compiled = in_order(compiled)?;
-    Ok(Building { plans, compiled })
+    let numbers = new.numbers(alloc)?;
+    let Building { plans, compiled } = noted(alloc, before, new, &numbers, steps)?;
+    Ok(Built {
+        plans: Plans::of(alloc, plans, &numbers)?,
+        compiled: in_order(compiled)?,
+    })
 }

@@ -1,16 +1,19 @@
 // The parameters of deduced values by their numbers.
-ghost use Rattle.std.specs.Prelude.{◌≡◌, ℤ, Some, None, IfOk, OnOk, if◌then◌else◌};
+ghost use Rattle.std.specs.Prelude.{◌≡◌, ℤ, Some, None, IfOk, OnOk, true, if◌then◌else◌};
+ghost use Rattle.std.specs.Arc.{arc_value};
 ghost use Rattle.std.specs.HashMap.{get};
 ghost use Rattle.std.specs.Option.{option_eq, option_or};
 ghost use Rattle.std.specs.Ordering.{int_eq};
 ghost use Rattle.mib_model.specs.Plans.{type_item};
 ghost use Rattle.numbered_plans.specs.Structures.{item_numbered, number_of};
 
+use crate::known::are_same;
 use first_rows::Seen;
 use mib_model::{PcfRow, TypeItem};
 use std::alloc::{AllocError, Global};
 use std::collections::HashMap;
 use std::marker::Model;
+use std::sync::Arc;
 use type_items::item_of;
 
 /// The type items of the parameters that deduced values find by PCF_PID. Contracts see the rows of all parameters.
@@ -80,10 +83,29 @@ impl Deduced {
         })
     }
 
-    /// That of the first parameter of a number, in one probe.
-    pub fn find(&self, pid: &i128) -> Option<TypeItem>
-        ensures { result ≡ item_numbered self.now pid.now }
+    /// Those of some parameters beside those of others, with which all are shared where they are the same, which may be
+    /// known. An error is want of memory.
+    pub fn beside(
+        alloc: Global,
+        base: &Arc<Deduced>,
+        known: bool,
+        old: &[PcfRow],
+        parameters: &[PcfRow],
+    ) -> Result<Arc<Deduced>, AllocError>
+        requires base { arc_value base.now ≡ old.now }
+        requires known { known ≡ true → old.now ≡ parameters.now }
+        ensures { IfOk result (λ all. arc_value all ≡ parameters.now) }
     {
-        self.items.get(pid).copied()
+        if are_same(known, old, parameters) {
+            return Arc::try_clone(base);
+        }
+        Ok(Arc::new(alloc, Deduced::new(alloc, parameters)?)?)
+    }
+
+    /// That of the first parameter of a number, in one probe.
+    pub fn find(&self, pid: i128) -> Option<TypeItem>
+        ensures { result ≡ item_numbered self.now pid }
+    {
+        self.items.get(&pid).copied()
     }
 }

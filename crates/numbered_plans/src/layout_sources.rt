@@ -1,5 +1,5 @@
 // The rows and type items that layouts are compiled of, found by SPID.
-ghost use Rattle.std.specs.Prelude.{◌≡◌, ◌+◌, IfOk, IsTrue, OnOk, map, option_map};
+ghost use Rattle.std.specs.Prelude.{◌≡◌, ◌+◌, ◌≤◌, IfOk, IsTrue, OnOk, length, map, option_map};
 ghost use Rattle.std.specs.Option.{option_copied, option_eq};
 ghost use Rattle.edition_plans.specs.Layouts.{layout_slice};
 ghost use Rattle.mib_model.specs.Touched.{same_slice};
@@ -15,7 +15,6 @@ use mib_tables::Book;
 use row_sameness::{all_same, same_row};
 use std::alloc::{AllocError, Global};
 use std::marker::Model;
-use std::snapshot::Snapshot;
 use std::sync::ledger::Ledger;
 use type_items::{TypeItems, same_items};
 
@@ -40,7 +39,7 @@ pub struct LayoutSources<'a> {
     packets: FirstRows<ByLaidOut>,
     places: Groups<'a, ByPlaced>,
     items: TypeItems<'a>,
-    book: Snapshot<Book>,
+    book: &'a Book,
 }
 
 /// By hand, so that whoever lets one go proves one call.
@@ -50,7 +49,7 @@ impl Drop for LayoutSources<'_> {
             packets: _packets,
             places: _places,
             items: _items,
-            book: _book,
+            book: _,
         } = self;
     }
 }
@@ -61,15 +60,16 @@ impl<'a> Model for LayoutSources<'a> {
 
     ghost Value = { Database };
 
-    ghost view = { λ sources. sources.book.value };
+    ghost view = { λ sources. sources.book.now };
 
-    ghost invariant = { λ sources. (sources.packets ≡ sources.book.value.pid) × (sources.places ≡ sources.book.value.plf)
-        × (sources.items ≡ sources.book.value.pcf) };
+    ghost invariant = { λ sources. (sources.packets ≡ sources.book.now.pid) × (sources.places ≡ sources.book.now.plf)
+        × (sources.items ≡ sources.book.now.pcf) };
 }
 
-/// The SPIDs of packets of fixed layout. An error is want of memory.
-pub fn laid_out(alloc: Global, rows: &[PidRow]) -> Result<Vec<u32>, AllocError>
-    ensures { IfOk result (λ spids. spids.items ≡ laid_spids rows.now) }
+// The SPIDs of packets of fixed layout. An error is want of memory.
+fn laid_out(alloc: Global, rows: &[PidRow]) -> Result<Vec<u32>, AllocError>
+    ensures all { IfOk result (λ spids. spids.items ≡ laid_spids rows.now) }
+    ensures few { IfOk result (λ spids. length spids.items ≤ length rows.now) }
 {
     rows.iter()
         .filter(|row| row.has_layout())
@@ -86,7 +86,7 @@ impl<'a> LayoutSources<'a> {
             packets: FirstRows::new(alloc, book.pid())?,
             places: Groups::mapped(alloc, book.plf())?,
             items: TypeItems::new(alloc, book.pcf())?,
-            book: Snapshot::of(book),
+            book,
         })
     }
 
@@ -105,7 +105,8 @@ impl<'a> LayoutSources<'a> {
 }
 
 impl<'a> Sources for LayoutSources<'a> {
-    ghost use Rattle.numbered_plans.specs.Layouts.{layout_numbered, same_layout};
+    ghost use Rattle.numbered_plans.specs.Laws.{layouts-covered};
+    ghost use Rattle.numbered_plans.specs.Layouts.{laid_spids, layout_numbered, same_layout};
 
     type Rows = LayoutParts;
 
@@ -115,7 +116,15 @@ impl<'a> Sources for LayoutSources<'a> {
 
     ghost rows_at = { layout_numbered };
 
+    ghost numbers = { λ sources. laid_spids sources.pid };
+
     ghost same = { same_layout };
+
+    ghost covers = { layouts-covered };
+
+    fn numbers(&self, alloc: Global) -> Result<Vec<u32>, AllocError> {
+        laid_out(alloc, self.book.pid())
+    }
 
     fn rows(&self, alloc: Global, number: i128) -> Result<Option<LayoutParts>, AllocError> {
         match self.packets.find(&number) {

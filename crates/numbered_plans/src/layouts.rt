@@ -1,101 +1,67 @@
-// Layouts by SPID, of which most are found without a probe.
-ghost use Rattle.std.specs.Prelude.{◌≡◌, ℤ, pos, IfOk, None, option_map};
-ghost use Rattle.std.specs.Arc.{arc_value};
+// Fixed layouts, which are found by SPID.
+ghost use Rattle.std.specs.Prelude.{◌≡◌, IsTrue};
 ghost use Rattle.std.specs.Option.{option_copied};
-ghost use Rattle.numbered_plans.specs.Numbered.{plan_at};
-ghost use Rattle.numbered_plans.specs.Kept.{AreLayoutsOf};
+ghost use Rattle.edition_plans.specs.Layouts.{layout_of};
+ghost use Rattle.mib_keys.specs.Kept.{AreSameIn};
 
-use first_rows::Near;
+use crate::before::Before;
+use crate::building::{Built, build};
+use crate::known::{are_same, are_types_same};
+use crate::layout_sources::LayoutSources;
+use crate::numbered::Numbered;
+use crate::plan_set::PlanSet;
+use crate::plans::Plans;
 use layout_plan::Layout;
-use mib_model::PidRow;
+use mib_model::Steps;
+use mib_tables::{Book, TableSet};
 use std::alloc::{AllocError, Global};
-use std::collections::HashMap;
-use std::sync::Arc;
+use std::sync::ledger::Ledger;
 
-/// A layout, and the SPID of its packets.
-#[derive(Drop)]
-pub struct Kept {
-    pub spid: u32,
-    pub layout: Arc<Layout>,
-}
-
-/// Layouts by SPID, most of them at the places of their SPIDs too.
-#[derive(Drop)]
-pub struct Layouts {
-    pub map: HashMap<i128, Arc<Layout>>,
-    pub near: Near<Kept>,
-}
-
-// Puts the layout of a SPID at its place, if there is one. An error is want of memory.
-fn put(near: &mut Near<Kept>, map: &HashMap<i128, Arc<Layout>>, spid: u32) -> Result<(), AllocError>
-    ensures { AreLayoutsOf map.now near.old → AreLayoutsOf map.now near.new }
+// Whether two books have the same packets and places, of which it may be known.
+fn are_placed_alike(known: TableSet, old: &Book, book: &Book) -> bool
+    requires { AreSameIn known old.now book.now }
+    ensures { IsTrue result → (old.now.pid ≡ book.now.pid) × (old.now.plf ≡ book.now.plf) }
 {
-    if let Some(layout) = probe(map, spid) {
-        let layout = layout.clone()?;
-        near.put(u64::from(spid), Kept { spid, layout });
-    }
-    Ok(())
+    are_same(known.pid, old.pid(), book.pid()) && are_same(known.plf, old.plf(), book.plf())
 }
 
-// The layouts of packets, at the places of their SPIDs, four for each. An error is want of memory.
-fn near_of(
-    alloc: Global,
-    map: &HashMap<i128, Arc<Layout>>,
-    rows: &[PidRow],
-) -> Result<Near<Kept>, AllocError>
-    ensures { IfOk result (λ near. AreLayoutsOf map.now near) }
-{
-    let mut near = Near::with_room(alloc, map.len().saturating_mul(2))?;
-    for row in rows {
-        put(&mut near, map, row.spid)?;
-    }
-    Ok(near)
-}
+impl Numbered for Layout {
+    ghost use Rattle.std.proofs.Common.{refl};
+    ghost use Rattle.numbered_plans.specs.Laws.{same-layout};
+    ghost use Rattle.numbered_plans.specs.Layouts.{laid_spids, layout_numbered, same_layout};
 
-// The layout of a SPID, by the map: out of the way of those that are found without it.
-#[inline(never)]
-fn probe(map: &HashMap<i128, Arc<Layout>>, spid: u32) -> Option<&Arc<Layout>>
-    ensures { option_map arc_value (option_copied result) ≡ plan_at map.now (pos spid) }
-{
-    map.get(&i128::from(spid))
-}
+    ghost rows_at = { layout_numbered };
 
-impl Layouts {
-    /// No layouts. They take no memory.
-    pub fn none(alloc: Global) -> Layouts
-        ensures map { (q : ℤ) → plan_at result.map q ≡ None }
-        ensures near { AreLayoutsOf result.map result.near }
-    {
-        Layouts {
-            map: HashMap::new(alloc),
-            near: Near::none(alloc),
-        }
+    ghost same = { same_layout };
+
+    ghost numbers = { λ db. laid_spids db.pid };
+
+    ghost is_same = { same-layout };
+
+    ghost none_first = { λ number. refl };
+
+    fn are_alike(known: TableSet, old: &Book, book: &Book) -> bool {
+        are_placed_alike(known, old, book) && are_types_same(known.pcf, old.pcf(), book.pcf())
     }
 
-    /// These layouts, which are those of packets. An error is want of memory.
-    pub fn of(
+    fn build<L: Ledger>(
         alloc: Global,
-        map: HashMap<i128, Arc<Layout>>,
-        rows: &[PidRow],
-    ) -> Result<Layouts, AllocError>
-        ensures map { IfOk result (λ layouts. layouts.map ≡ map) }
-        ensures near { IfOk result (λ layouts. AreLayoutsOf layouts.map layouts.near) }
-    {
-        let near = near_of(alloc, &map, rows)?;
-        Ok(Layouts { map, near })
+        base: &Plans<Layout>,
+        old: &Book,
+        book: &Book,
+        steps: &mut Steps<L>,
+    ) -> Result<Built<Layout>, AllocError> {
+        let before = Before::new(&base.map, LayoutSources::new(alloc, old)?);
+        build(alloc, &before, &LayoutSources::new(alloc, book)?, steps)
     }
+}
 
-    /// The layout of a SPID, in one probe at most.
+impl PlanSet<Layout> {
+    /// The layout of a SPID, in one probe at most: none exactly where no packet of that SPID has a fixed layout.
     #[inline]
-    pub fn get(&self, spid: u32) -> Option<&Arc<Layout>>
-        requires { AreLayoutsOf self.now.map self.now.near }
-        ensures { option_map arc_value (option_copied result) ≡ plan_at self.now.map (pos spid) }
+    pub fn layout(&self, spid: u32) -> Option<&Layout>
+        ensures { option_copied result ≡ layout_of self.now spid }
     {
-        if let Some(kept) = self.near.at(u64::from(spid)) {
-            if kept.spid == spid {
-                return Some(&kept.layout);
-            }
-        }
-        probe(&self.map, spid)
+        self.plan(i128::from(spid))
     }
 }

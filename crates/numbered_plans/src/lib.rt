@@ -1,8 +1,8 @@
 //! The plans of a book that are found by a number: fixed layouts by SPID, structures by TPSD; and its deduced parameters.
 //!
-//! A `LayoutSet` and a `StructureSet` are seen by contracts as the database whose plans they have. Each is made beside a
+//! A `PlanSet` is seen by contracts as the database whose plans it has: a `LayoutSet` or a `StructureSet`. It is made beside a
 //! base: a plan that the base has of the same rows and type items is shared with it, and each other one is compiled, in one
-//! step. Both are made by one loop over the numbers of a kind, of which `Sources` says what its plans are compiled of.
+//! step. `Numbered` says of each of both kinds of plans what its numbers are and what it is compiled of.
 //! It rests on layout_plan and struct_plan for the plans, on type_items, mib_index, first_rows and row_groups for rows by their keys,
 //! on row_sameness for rows that are the same, on edition_plans for what the layout of a SPID is, and on mib_keys and
 //! mib_laws for laws of rows.
@@ -11,18 +11,20 @@
 mod before;
 mod building;
 mod deduced;
-mod layout_set;
+mod known;
 mod layout_sources;
 mod layouts;
-mod made;
+mod numbered;
 mod order;
+mod plan_set;
+mod plans;
 mod sources;
-mod structure_set;
 mod structure_sources;
+mod structures;
 mod ways;
 
+pub use deduced::Deduced;
 pub use layout_plan::Layout;
-pub use layout_set::LayoutSet;
-pub use made::Made;
+pub use numbered::Numbered;
+pub use plan_set::{LayoutSet, Made, PlanSet, StructureSet};
 pub use struct_plan::{Structure, TypeItem};
-pub use structure_set::StructureSet;

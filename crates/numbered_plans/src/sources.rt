@@ -1,4 +1,6 @@
-ghost use Rattle.std.specs.Prelude.{◌≡◌, ◌+◌, ℤ, Bool, Option, IfOk, IsTrue, OnOk, option_map};
+ghost use Rattle.std.specs.Prelude.{◌≡◌, ◌+◌, ◌≤◌, ℕ, ℤ, Bool, List, Option, IfOk, IsTrue, OnOk, length, option_map};
+ghost use Rattle.mib_model.specs.declared.limits.TheConstants.{HELD_MOST};
+ghost use Rattle.numbered_plans.specs.Numbered.{found_among};
 
 use mib_model::Steps;
 use std::alloc::{AllocError, Global};
@@ -16,7 +18,14 @@ pub trait Sources: Drop {
 
     ghost rows_at: { Self → ℤ → Option Self.Plan };
 
+    ghost numbers: { Self → List ℕ };
+
     ghost same: { Self.Plan → Self.Plan → Bool };
+
+    /// The numbers of all plans, which may stand several times. An error is want of memory.
+    fn numbers(&self, alloc: Global) -> Result<Vec<u32>, AllocError>
+        ensures all { IfOk result (λ told. told.items ≡ numbers self.now) }
+        ensures few { IfOk result (λ told. length told.items ≤ HELD_MOST) };
 
     /// The rows of a number, if it has a plan. An error is want of memory.
     fn rows(&self, alloc: Global, number: i128) -> Result<Option<Self::Rows>, AllocError>
@@ -35,4 +44,7 @@ pub trait Sources: Drop {
     ) -> Result<Self::Plan, AllocError>
         ensures plan { IfOk result (λ plan. plan ≡ rows_of rows.now) }
         ensures step { OnOk result (steps.new ≡ steps.old + 1) };
+
+    // Each plan is that of one of the numbers.
+    ghost covers: { (sources : Self) → (number : ℤ) → found_among (rows_at sources) (numbers sources) number ≡ rows_at sources number };
 }

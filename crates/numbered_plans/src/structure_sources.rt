@@ -15,7 +15,6 @@ use row_groups::RowGroups;
 use row_sameness::all_same;
 use std::alloc::{AllocError, Global};
 use std::marker::Model;
-use std::snapshot::Snapshot;
 use std::sync::ledger::Ledger;
 use struct_plan::Structure;
 use type_items::{TypeItems, same_items};
@@ -39,7 +38,7 @@ impl Model for StructureParts {
 pub struct StructureSources<'a> {
     rows: RowGroups<ByStructure>,
     items: TypeItems<'a>,
-    book: Snapshot<Book>,
+    book: &'a Book,
 }
 
 /// By hand, so that whoever lets one go proves one call.
@@ -48,7 +47,7 @@ impl Drop for StructureSources<'_> {
         let StructureSources {
             rows: _rows,
             items: _items,
-            book: _book,
+            book: _,
         } = self;
     }
 }
@@ -62,11 +61,11 @@ impl<'a> Model for StructureSources<'a> {
 
     ghost Value = { Database };
 
-    ghost view = { λ sources. sources.book.value };
+    ghost view = { λ sources. sources.book.now };
 
     ghost invariant = { λ sources. ((tpsd : ℤ) → filter (λ row. option_eq int_eq (Some (pos row.tpsd)) (Some tpsd)) sources.rows
-        ≡ structure sources.book.value tpsd)
-        × (sources.items ≡ sources.book.value.pcf) };
+        ≡ structure sources.book.now tpsd)
+        × (sources.items ≡ sources.book.now.pcf) };
 }
 
 // Rows by POS, those of one POS in the order of the file: of the rows that pass any test, too.
@@ -78,13 +77,6 @@ fn by_pos(alloc: Global, rows: &[VpdRow]) -> Result<Vec<VpdRow>, AllocError>
     Ok(sorted)
 }
 
-/// The TPSDs of rows, in their order. An error is want of memory.
-pub fn numbers_of(alloc: Global, rows: &[VpdRow]) -> Result<Vec<u32>, AllocError>
-    ensures { IfOk result (λ tpsds. tpsds.items ≡ map (λ row. row.tpsd) rows.now) }
-{
-    rows.iter().map(|row| row.tpsd).collect(alloc)
-}
-
 impl<'a> StructureSources<'a> {
     /// Those of a book. An error is want of memory.
     pub fn new(alloc: Global, book: &'a Book) -> Result<StructureSources<'a>, AllocError>
@@ -94,7 +86,7 @@ impl<'a> StructureSources<'a> {
         Ok(StructureSources {
             rows: RowGroups::new(alloc, &sorted)?,
             items: TypeItems::new(alloc, book.pcf())?,
-            book: Snapshot::of(book),
+            book,
         })
     }
 
@@ -108,7 +100,8 @@ impl<'a> StructureSources<'a> {
 
 impl<'a> Sources for StructureSources<'a> {
     ghost use Rattle.struct_plan.specs.Slices.{structure_found};
-    ghost use Rattle.numbered_plans.specs.Structures.{same_structure};
+    ghost use Rattle.numbered_plans.specs.Laws.{structures-covered};
+    ghost use Rattle.numbered_plans.specs.Structures.{same_structure, tpsds};
 
     type Rows = StructureParts;
 
@@ -118,7 +111,15 @@ impl<'a> Sources for StructureSources<'a> {
 
     ghost rows_at = { structure_found };
 
+    ghost numbers = { λ sources. tpsds sources.vpd };
+
     ghost same = { same_structure };
+
+    ghost covers = { structures-covered };
+
+    fn numbers(&self, alloc: Global) -> Result<Vec<u32>, AllocError> {
+        self.book.vpd().iter().map(|row| row.tpsd).collect(alloc)
+    }
 
     fn rows(&self, alloc: Global, number: i128) -> Result<Option<StructureParts>, AllocError> {
         let rows = self.of(number);

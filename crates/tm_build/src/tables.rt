@@ -9,7 +9,7 @@ use crate::keys::{ByName, ByPacket, BySpid};
 use first_rows::FirstRows;
 use mib_model::{PicRow, PidRow, PlfRow, Steps};
 use mib_tables::Book;
-use numbered_plans::StructureSet;
+use numbered_plans::{Deduced, StructureSet};
 use row_groups::RowGroups;
 use std::alloc::{AllocError, Global};
 use std::marker::{Brand, Model};
@@ -23,6 +23,7 @@ pub struct PacketTables<'a> {
     plfs: RowGroups<ByPacket>,
     parameters: FirstRows<ByName>,
     structures: StructureSet,
+    deduced: Deduced,
 }
 
 /// By hand, so that whoever lets one go proves one call.
@@ -34,6 +35,7 @@ impl Drop for PacketTables<'_> {
             plfs: _plfs,
             parameters: _parameters,
             structures: _structures,
+            deduced: _deduced,
         } = self;
     }
 }
@@ -48,7 +50,8 @@ impl<'a> Model for PacketTables<'a> {
     ghost view = { λ tables. tables.structures };
 
     ghost invariant = { λ tables. IsSound tables.structures × (tables.pids ≡ tables.structures.pid) × (tables.pics.now ≡ tables.structures.pic)
-        × (tables.plfs ≡ tables.structures.plf) × (tables.parameters ≡ tables.structures.pcf) };
+        × (tables.plfs ≡ tables.structures.plf) × (tables.parameters ≡ tables.structures.pcf)
+        × (tables.deduced ≡ tables.structures.pcf) };
 }
 
 // The structures of a book, on a ledger of their own.
@@ -95,6 +98,7 @@ impl<'a> PacketTables<'a> {
             plfs: RowGroups::new(alloc, book.plf())?,
             parameters: FirstRows::with_near(alloc, book.pcf())?,
             structures: structures_of(alloc, book)?,
+            deduced: Deduced::new(alloc, book.pcf())?,
         })
     }
 
@@ -136,10 +140,10 @@ impl Structures for PacketTables<'_> {
     ghost tables = { λ tables. tables };
 
     fn structure(&self, tpsd: i128) -> Option<&Structure> {
-        self.structures.structure(tpsd)
+        self.structures.plan(tpsd)
     }
 
     fn deduced(&self, pid: i128) -> Option<TypeItem> {
-        self.structures.deduced(pid)
+        self.deduced.find(pid)
     }
 }

@@ -1,8 +1,8 @@
-use Rattle.std.proofs.Common.{◌≡◌, ◌∙◌, ◌++◌, pos, Option, ap, arith, get_or, length, take}
+use Rattle.std.proofs.Common.{◌≡◌, ◌∙◌, pos, ap, arith, get_or}
 use Rattle.std.proofs.lemmas.List.{get_or_default}
 use Rattle.numbered_plans.proofs.NumberFacts.{in_order}
 use Rattle.numbered_plans.proofs.BuildingFacts.{count-more, found-more, new-more}
-use Rattle.numbered_plans.specs.Numbered.{found_among, plan_at}
+use Rattle.numbered_plans.specs.Numbered.{plan_at}
 use Rattle.numbered_plans.proofs.building.noted.Goals as goal
 
 pub loop-number-preserved : goal.loop-number-preserved

@@ -1,6 +1,5 @@
-use Rattle.std.proofs.Common.{◌∙◌, List, pos, ap, filter, sym}
+use Rattle.std.proofs.Common.{◌∙◌, List, pos, ap, filter}
 use Rattle.std.specs.Ordering.{int_eq}
-use Rattle.mib_model.specs.declared.database.Database.{Database}
 use Rattle.mib_model.specs.declared.rows.VpdRow.{VpdRow}
 use Rattle.mib_model.specs.Orders.{sorted_by_number}
 use Rattle.mib_model.specs.Structures.{structure}
@@ -12,7 +11,6 @@ invariant_of-result c = (
   λ tpsd.
       ap (filter (λ (row : VpdRow). int_eq (pos row.tpsd) tpsd)) (c.in_ok-new.ensures ∙ c.deref.ensures.value)
       ∙ c.in_ok-sorted.ensures (λ (row : VpdRow). int_eq (pos row.tpsd) tpsd)
-      ∙ ap (λ (rows : List VpdRow). sorted_by_number (λ row. row.pos) (filter (λ row. int_eq (pos row.tpsd) tpsd) rows)) c.vpd.ensures.rows
-      ∙ ap (λ (db : Database). structure db tpsd) (sym c.of.ensures),
-  c.in_ok-new-2.ensures ∙ c.pcf.ensures.rows ∙ ap (λ (db : Database). db.pcf) (sym c.of.ensures),
+      ∙ ap (λ (rows : List VpdRow). sorted_by_number (λ row. row.pos) (filter (λ row. int_eq (pos row.tpsd) tpsd) rows)) c.vpd.ensures.rows,
+  c.in_ok-new-2.ensures ∙ c.pcf.ensures.rows,
 )
