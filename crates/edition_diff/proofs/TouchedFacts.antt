@@ -22,7 +22,8 @@ use Rattle.mib_model.specs.Touched.{has_same_slice, is_touched, same_slice, touc
 use Rattle.param_set.proofs.PlanFacts.{new-plans-touched}
 use Rattle.param_set.specs.Sharing.{new_names}
 use Rattle.numbered_plans.proofs.StructureFacts as StructureFacts
-use Rattle.numbered_plans.proofs.StructureFacts.{found-all, held-same}
+use Rattle.numbered_plans.proofs.StructureFacts.{held-same}
+use Rattle.numbered_plans.specs.Laws.{found-all}
 use Rattle.numbered_plans.specs.Structures as Structures
 use Rattle.edition_diff.proofs.OrderFacts.{filter-agree, filter-all, filter-filter, filter-map, filter-sorted, map-map, numbers-sorted}
 use Rattle.edition_diff.specs.Diffs.{has_ident, ident_if, keyed_plans, touched_among}
@@ -56,7 +57,7 @@ module _ (old new : Database) where
       ∙ ap (map plan.Layout) (numbers-sorted (λ (row : PidRow). row.spid) (filter (LayoutFacts.is_new old new) new.pid) ∙ sym (LayoutFacts.new-is old new sound))
 
   structure-same : (tpsd : ℕ) (b : Bool) → has_same_slice (structure_plan new tpsd) (option_map (structure_plan old) (cond b (Some tpsd) None))
-      ≡ Same.has_same Structures.same_structure (cond b (Some (StructureFacts.structure_slice old (pos tpsd))) None) (StructureFacts.structure_slice new (pos tpsd))
+      ≡ Same.has_same Structures.same_structure (cond b (Some (Structures.structure_slice old (pos tpsd))) None) (Structures.structure_slice new (pos tpsd))
   structure-same tpsd true = refl
   structure-same tpsd false = refl
 
@@ -65,8 +66,8 @@ module _ (old new : Database) where
       let tpsds : List ℕ = map (λ row. row.tpsd) old.vpd in
       ap not
       (ap (has_same_slice (structure_plan new tpsd)) (named-structure old tpsd) ∙ structure-same tpsd (list_any (λ n. nat_eq n tpsd) tpsds)
-      ∙ ap (λ b. Same.has_same Structures.same_structure (cond b (Some (StructureFacts.structure_slice old (pos tpsd))) None) (StructureFacts.structure_slice new (pos tpsd))) (sym (held-same old.vpd tpsd))
-      ∙ ap (λ found. Same.has_same Structures.same_structure found (StructureFacts.structure_slice new (pos tpsd))) (found-all old (pos tpsd)))
+      ∙ ap (λ b. Same.has_same Structures.same_structure (cond b (Some (Structures.structure_slice old (pos tpsd))) None) (Structures.structure_slice new (pos tpsd))) (sym (held-same old.vpd tpsd))
+      ∙ ap (λ found. Same.has_same Structures.same_structure found (Structures.structure_slice new (pos tpsd))) (found-all old (pos tpsd)))
 
   -- the structures that are touched are those that are new, in the same order
   pub structures-touched : touched_among old (structure_plans new) ≡ map plan.Structure (Structures.new_structures old new)
