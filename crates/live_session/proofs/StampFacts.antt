@@ -155,7 +155,7 @@ module _ (first : Database) (history own : RegisterHistory) (legal : IsRegisterH
   none-left n packets many all = drop_all n packets (let s = stamped-count packets many in omega (arith, s, all))
 
   -- the text of the first stamps is the output of the first packets
-  text-taken : (n : ℕ) (packets : List (List ℕ)) → text_of first (take n (by_moves own packets)) ≡ output first (take n packets) history []
+  pub text-taken : (n : ℕ) (packets : List (List ℕ)) → text_of first (take n (by_moves own packets)) ≡ output first (take n packets) history []
   text-taken n packets =
       ap (λ ss. text_of first ss) (first-stamped n packets) ∙ sym (append-nil (text_of first (by_moves own (take n packets)))) ∙ text-same (take n packets) []
 
