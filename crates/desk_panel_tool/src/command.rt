@@ -21,18 +21,18 @@ use tool_words::{WordsFault, panel_request_in};
 
 /// How a call of a panel ended. One whose run opened hands out its register, closed; contracts see its history.
 #[derive(Drop)]
-pub struct PanelStatus {
+pub struct Status {
     pub code: Code,
     pub closed: Option<Closed<Edition, BoardRoom>>,
 }
 
-impl PanelStatus {
+impl Status {
     /// The status of a call that opened no run.
-    pub(crate) fn unopened(code: Code) -> PanelStatus
+    pub(crate) fn unopened(code: Code) -> Status
         ensures code { result.code ≡ code }
         ensures closed { result.closed ≡ None }
     {
-        PanelStatus { code, closed: None }
+        Status { code, closed: None }
     }
 }
 
@@ -57,7 +57,7 @@ pub fn panel_tool<
     desks: &mut [Station<D, R>],
     out: &mut O,
     gate: &G,
-) -> PanelStatus
+) -> Status
     requires four { length desks.old ≡ 4 }
 
     // Wrong words are answered before any object is called, unless memory runs out first.
@@ -82,7 +82,7 @@ pub fn panel_tool<
             let (used, _others) = desks.split_at_mut(request.desks.len());
             panel(rt, alloc, &request, tables, feed, used, out, gate)
         }
-        Err(WordsFault::Misuse(misuse)) => PanelStatus::unopened(Code::Usage(misuse)),
-        Err(WordsFault::Memory) => PanelStatus::unopened(Code::Want),
+        Err(WordsFault::Misuse(misuse)) => Status::unopened(Code::Usage(misuse)),
+        Err(WordsFault::Memory) => Status::unopened(Code::Want),
     }
 }

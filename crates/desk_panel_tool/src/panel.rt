@@ -8,7 +8,7 @@ ghost use Rattle.mib_model.specs.declared.database.Database.{Database};
 ghost use Rattle.tool_objects.specs.Objects.{shelf, sink};
 ghost use Rattle.tool_words.specs.Panels.{words_by};
 
-use crate::command::PanelStatus;
+use crate::command::Status;
 use crate::inputs::open_inputs;
 use packet_run::MOST_WORKERS;
 use panel_session::{Station, panel_run};
@@ -37,7 +37,7 @@ pub(crate) fn panel<
     desks: &mut [Station<D, R>],
     out: &mut O,
     gate: &G,
-) -> PanelStatus
+) -> Status
     requires desks { length desks.old ≡ length request.now.desks.items }
     ensures panels { Paneled result.code (option_map history_of result.closed) (words_by request.now)
         (shelf tables.old tables.new T.holds T.left T.faults T.missed)
@@ -50,13 +50,13 @@ pub(crate) fn panel<
         Ok(first) => {
             let workers = request.workers.clamp(1, MOST_WORKERS);
             match panel_run(rt, alloc, first, feed, desks, out, gate, workers) {
-                Ok(lived) => PanelStatus {
+                Ok(lived) => Status {
                     code: lived.code,
                     closed: Some(lived.closed),
                 },
-                Err(_) => PanelStatus::unopened(Code::Want),
+                Err(_) => Status::unopened(Code::Want),
             }
         }
-        Err(code) => PanelStatus::unopened(code),
+        Err(code) => Status::unopened(code),
     }
 }
