@@ -117,9 +117,7 @@ fn write_each<P: Plans, O: Sink>(
             board,
             lines,
         );
-        let Ok(()) = write_all(out, lines.bytes()) else {
-            return Err(Failed);
-        };
+        write_all(out, lines.bytes())?;
     }
     Ok(())
 }

@@ -72,9 +72,8 @@ pub fn tool<
 ) -> Status
     // Wrong words are answered before any object is called, unless memory runs out first.
     ensures misuse { IfErr (command_of (map string_bytes words.now)) (λ misuse. (result.code ≡ Code.Usage misuse) ⊎ (result.code ≡ Code.Want)) }
-    ensures misuse_tables { IfErr (command_of (map string_bytes words.now)) (λ misuse. tables.new ≡ tables.old) }
-    ensures misuse_feed { IfErr (command_of (map string_bytes words.now)) (λ misuse. feed.new ≡ feed.old) }
-    ensures misuse_out { IfErr (command_of (map string_bytes words.now)) (λ misuse. out.new ≡ out.old) }
+    ensures uncalled { IfErr (command_of (map string_bytes words.now)) (λ misuse.
+        (tables.new ≡ tables.old) × (feed.new ≡ feed.old) × (out.new ≡ out.old)) }
 
     // The statement of each command, status by status. A check doesn't call the feed, a drill neither tables nor feed.
     ensures checks { IfCheck (command_of (map string_bytes words.now)) (λ folder. Checked result.code folder
@@ -87,8 +86,7 @@ pub fn tool<
         (sink out.old out.new O.written O.handed O.faults)) }
     ensures drills { IfDrill (command_of (map string_bytes words.now)) (λ seed. Drilled result.code seed
         (sink out.old out.new O.written O.handed O.faults)) }
-    ensures drill_tables { IfDrill (command_of (map string_bytes words.now)) (λ seed. tables.new ≡ tables.old) }
-    ensures drill_feed { IfDrill (command_of (map string_bytes words.now)) (λ seed. feed.new ≡ feed.old) }
+    ensures drill_shelves { IfDrill (command_of (map string_bytes words.now)) (λ seed. (tables.new ≡ tables.old) × (feed.new ≡ feed.old)) }
 
     ensures lives { IfLive (command_of (map string_bytes words.now)) (λ folder name script. LivedBy result.code (option_map history_of result.closed)
         (names folder name script)
@@ -101,9 +99,8 @@ pub fn tool<
     ensures numbers { TellsItsEnd result.closed }
 
     // No other command calls the desk or the replies, or has a register to hand out.
-    ensures desk { UnlessLive (command_of (map string_bytes words.now)) (desk.new ≡ desk.old) }
-    ensures replies { UnlessLive (command_of (map string_bytes words.now)) (replies.new ≡ replies.old) }
-    ensures closed { UnlessLive (command_of (map string_bytes words.now)) (result.closed ≡ None) }
+    ensures unless_live { UnlessLive (command_of (map string_bytes words.now))
+        ((desk.new ≡ desk.old) × (replies.new ≡ replies.old) × (result.closed ≡ None)) }
 {
     let code = match request_in(alloc, words) {
         Ok(ToolRequest::Check { folder }) => check(alloc, folder, tables, out),

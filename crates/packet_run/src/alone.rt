@@ -104,9 +104,7 @@ pub(crate) fn do_alone<P: Plans + Rows + Drop, O: Sink, W: Watch, R: Wait>(
         watch,
     );
     keep_room(&mut pipeline.rooms, cell.into_room());
-    let Ok(()) = printed else {
-        return Err(Failed);
-    };
+    printed?;
     pass_by(pipeline);
     pipeline.done += 1;
     Ok(())

@@ -77,9 +77,7 @@ fn commit_next<P: Plans + Drop, O: Sink, W: Watch, R: Wait>(
     };
     let printed = print_result(rt, &task, in_use, &mut pipeline.lines, out, watch);
     free(&mut pipeline.rooms, task);
-    let Ok(()) = printed else {
-        return Err(Failed);
-    };
+    printed?;
     pipeline.done += 1;
     Ok(true)
 }

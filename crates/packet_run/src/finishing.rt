@@ -29,9 +29,7 @@ pub(crate) fn write_record<P: Plans + Drop, O: Sink, W: Watch, R: Wait>(
     ensures untold { OnErr result (watch.new ≡ watch.old) }
     ensures cause { HasCause (O.faults out.old) (O.faults out.new) result }
 {
-    let Ok(()) = write_all(out, lines.bytes()) else {
-        return Err(Failed);
-    };
+    write_all(out, lines.bytes())?;
     watch.committed(
         rt,
         number,

@@ -94,9 +94,7 @@ fn make_way<P: Plans + Drop, S: Source, O: Sink, W: Watch, R: Wait>(
         let least = read.saturating_sub(MOST_AHEAD - 1);
         return commit_to(rt, crew, pipeline, in_use, least, out, watch);
     }
-    let Ok(()) = commit_to(rt, crew, pipeline, in_use, read, out, watch) else {
-        return Err(Failed);
-    };
+    commit_to(rt, crew, pipeline, in_use, read, out, watch)?;
     come_to_rest(rt, out, watch)
 }
 

@@ -77,9 +77,7 @@ fn pack(
     if octets > OCTETS_MOST {
         return Err(BuildFault::Long);
     }
-    let Ok(()) = add_length(writes, octets) else {
-        return Err(BuildFault::Memory);
-    };
+    add_length(writes, octets)?;
     let size = octets as usize;
     match write_all(writes, &mut into[..size], &mut room[..size]) {
         Some(bit) => Err(BuildFault::Clash { bit }),
