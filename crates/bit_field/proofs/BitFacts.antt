@@ -97,7 +97,7 @@ window high field low skip width rest inside behind =
 -- a field in eight octets, the bits before it moved out to the left and those behind it to the right
 pub bits-moved : (octets : List ℕ) (skip width : ℕ) → skip + width ≤ 64 → ((k : ℕ) → get_or octets k 0 < 256)
     → big_number 8 octets * 2 ^ skip % 2 ^ 64 / 2 ^ (64 - width) ≡ bits octets skip width
-bits-moved octets skip width near each =
+bits-moved octets skip width end each =
     let rest : ℕ = 64 - (skip + width) in
     let whole : skip + width + (64 - (skip + width)) ≡ 64 = omega arith in
     let moved : 64 - width ≡ 64 - (skip + width) + skip = omega arith in

@@ -36,28 +36,16 @@ fn field_of(whole: u128, rest: u8, width: u8) -> u64
     ((whole >> rest) % (1 << width)) as u64
 }
 
-// The number of 1 to 64 bits behind some bits, in the eight octets that are read as one.
+/// The number of 1 to 64 bits behind some bits, in the first eight octets, which are read as one.
 #[inline(always)]
-fn number_in_eight(octets: &[u8], skip: u8, width: u8) -> u64
+pub(crate) fn number_in_front(octets: &[u8], skip: u8, width: u8) -> u64
     requires some { 0 < width }
-    requires near { skip + width ≤ 64 }
+    requires end { skip + width ≤ 64 }
     requires eight { 8 ≤ length octets.now }
     ensures value { result ≡ bits octets.now skip width }
     ensures within { result < 2 ^ width }
 {
     BigEndian::read_u64(octets) << skip >> (64 - width)
-}
-
-/// The number of 1 to 64 bits in the eight octets from one on, behind so many bits of them.
-#[inline(always)]
-pub fn number_near(octets: &[u8], first: usize, skip: u8, width: u8) -> u64
-    requires some { 0 < width }
-    requires near { skip + width ≤ 64 }
-    requires eight { first + 8 ≤ length octets.now }
-    ensures value { result ≡ bits octets.now (8 * first + skip) width }
-    ensures within { result < 2 ^ width }
-{
-    number_in_eight(&octets[first..], skip, width)
 }
 
 // The number of 1 to 64 bits behind the first bits of an octet, 7 at most, in as few octets as hold it.
@@ -91,7 +79,7 @@ pub fn number_from(octets: &[u8], at: u64, width: u8) -> u64
         let first = octet.min(octets.len() - 8);
         let skip = at - 8 * first as u64;
         if skip + u64::from(width) <= 64 {
-            return number_in_eight(&octets[first..], skip as u8, width);
+            return number_in_front(&octets[first..], skip as u8, width);
         }
     }
     number_in_few(&octets[octet..], (at % 8) as u8, width)

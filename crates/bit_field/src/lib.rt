@@ -8,14 +8,16 @@
 #![tactic(auto)]
 
 mod encoding;
+mod fast;
 mod field;
 mod laws;
 mod value;
 mod values;
 
 pub use encoding::shape_of;
+pub use fast::take_in_eight;
 pub use field::{number_at, signed, unsigned};
 pub use laws::bits_are_a_sum;
 pub use mib_model::{Ended, Endian, MOST_VALUES, Order, Shape, Sort, Value};
-pub use value::{number, take, take_near};
+pub use value::{number, take};
 pub use values::Values;

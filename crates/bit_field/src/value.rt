@@ -1,12 +1,11 @@
 // The value at a place of a packet.
-ghost use Rattle.std.specs.Prelude.{pos, ◌≡◌, ◌≢◌, ◌<◌, ◌≤◌, ◌+◌, ◌*◌, ◌/◌, ◌^◌, length, Some, None, IfSome, IfNone, OnSome, true, if◌then◌else◌};
-ghost use Rattle.mib_model.specs.declared.shape.Sort.TheVariants as sorts;
+ghost use Rattle.std.specs.Prelude.{◌≡◌, ◌<◌, ◌≤◌, ◌+◌, ◌*◌, ◌/◌, ◌^◌, length, Some, None, true, if◌then◌else◌};
 ghost use Rattle.mib_model.specs.Bits as Spec;
-ghost use Rattle.mib_model.specs.Bits.{bits, little_bits, signed_number};
+ghost use Rattle.mib_model.specs.Bits.{bits, little_bits};
 ghost use Rattle.mib_model.specs.Fixed.{value_at};
 ghost use Rattle.bit_field.specs.Numbers.{has_number};
 
-use crate::field::{complement, is_inside, number_from, number_near};
+use crate::field::{complement, is_inside, number_from};
 use mib_model::{Name, Order, Shape, Sort, Value};
 
 // The number in so many octets behind the first bits of an octet, the least significant first.
@@ -73,8 +72,8 @@ fn short_width(shape: Shape) -> u8
     shape.width() as u8
 }
 
-// The width of a shape whose values have a number.
-fn number_width(shape: Shape) -> u8
+/// The width of a shape whose values have a number.
+pub(crate) fn number_width(shape: Shape) -> u8
     requires { has_number shape.sort ≡ true }
     ensures value { result ≡ shape.width }
     ensures some { 0 < result }
@@ -133,84 +132,6 @@ pub fn take(octets: &[u8], at: u64, name: Name, shape: Shape) -> Option<Value>
         name,
         at,
         raw: raw_number(octets, at, shape),
-        shape,
-    })
-}
-
-// The two's complement of so many bits of the eight octets from one on, behind so many bits of them, and 0 where none is
-// asked for.
-#[inline(never)]
-fn signed_near(octets: &[u8], first: usize, skip: u8, width: u8, is_signed: bool) -> i64
-    requires some { is_signed ≡ true → 0 < width }
-    requires near { skip + width ≤ 64 }
-    requires eight { first + 8 ≤ length octets.now }
-    ensures { result ≡ (if is_signed then signed_number width (bits octets.now (8 * first + skip) width) else pos 0) }
-{
-    if is_signed {
-        complement(number_near(octets, first, skip, width), width)
-    } else {
-        0
-    }
-}
-
-// The width of a shape of at most 64 bits, which is 0 only where values have no number.
-fn near_width(shape: Shape) -> u8
-    requires { shape.width ≤ 64 }
-    ensures value { result ≡ shape.width }
-    ensures some { has_number shape.sort ≡ true → 0 < result }
-{
-    shape.width() as u8
-}
-
-// The number of a value of 64 bits at most that isn't unsigned, as `near_number` asks for it.
-#[inline(always)]
-#[tactic(auto, unfolding(mib_model::specs::Bits::raw_number))]
-fn other_near(octets: &[u8], first: usize, skip: u8, shape: Shape) -> i128
-    requires sort { shape.sort ≢ sorts.Unsigned }
-    requires order { has_number shape.sort ≡ true → shape.order ≡ Order.Big }
-    requires near { skip + shape.width ≤ 64 }
-    requires eight { first + 8 ≤ length octets.now }
-    ensures { result ≡ Spec.raw_number shape octets.now (8 * first + skip) }
-{
-    let width = near_width(shape);
-    let is_signed = matches!(shape.sort(), Sort::Signed);
-    i128::from(signed_near(octets, first, skip, width, is_signed))
-}
-
-// The number of a value in the eight octets from one on, behind so many bits of them, and 0 for a sort without one.
-#[inline(always)]
-#[tactic(auto, unfolding(mib_model::specs::Bits::raw_number))]
-fn near_number(octets: &[u8], first: usize, skip: u8, shape: Shape) -> i128
-    requires order { has_number shape.sort ≡ true → shape.order ≡ Order.Big }
-    requires near { skip + shape.width ≤ 64 }
-    requires eight { first + 8 ≤ length octets.now }
-    ensures { result ≡ Spec.raw_number shape octets.now (8 * first + skip) }
-{
-    match shape.sort() {
-        Sort::Unsigned => i128::from(number_near(octets, first, skip, number_width(shape))),
-        _ => other_near(octets, first, skip, shape),
-    }
-}
-
-/// The value of a parameter in the eight octets from one on, behind so many bits of them: it has no number, or one of the
-/// order `Big`. There is none where these octets aren't all there, and `take` tells.
-#[inline(always)]
-pub fn take_near(octets: &[u8], octet: u32, skip: u8, name: Name, shape: Shape) -> Option<Value>
-    requires order { has_number shape.sort ≡ true → shape.order ≡ Order.Big }
-    requires near { skip + shape.width ≤ 64 }
-    ensures value { IfSome result (λ value. value ≡ value_at octets.now (record { name = name; at = 8 * octet + skip; shape = shape })) }
-    ensures inside { IfSome result (λ value. Spec.is_inside octets.now (8 * octet + skip) shape.width ≡ true) }
-    ensures eight { OnSome result (octet + 8 ≤ length octets.now) }
-    ensures none { IfNone result (length octets.now < octet + 8) }
-{
-    let first = octet as usize;
-    if first + 8 > octets.len() {
-        return None;
-    }
-    Some(Value {
-        name,
-        at: 8 * u64::from(octet) + u64::from(skip),
-        raw: near_number(octets, first, skip, shape),
         shape,
     })
 }

@@ -1,5 +1,5 @@
 pub mod PartFacts
-pub mod NearFacts
+pub mod EightFacts
 pub mod SetFacts
 pub mod FindFacts
 pub mod OctetFacts

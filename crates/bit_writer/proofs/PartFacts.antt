@@ -68,15 +68,15 @@ pair-bit number before last by i small low =
 pub turned-bit : (number at octet before last i : ℕ) → at < 8 * octet + 8 → i < 8 → at ≤ 8 * octet + i → last ≡ number / 2 ^ (8 * (octet - at / 8)) % 256
     → (0 < octet - at / 8 → before ≡ number / 2 ^ (8 * (octet - at / 8 - 1)) % 256)
     → bit_and ((256 * before + last) / 2 ^ (at % 8)) 255 / 2 ^ (7 - i) % 2 ≡ number / 2 ^ (8 * ((8 * octet + i - at) / 8) + (7 - (8 * octet + i - at) % 8)) % 2
-turned-bit number at octet before last i near low from is-last is-before = pair-bit number before last (at % 8) i small low ∙ go (nat_le (at % 8) i) refl where
+turned-bit number at octet before last i begun low from is-last is-before = pair-bit number before last (at % 8) i small low ∙ go (nat_le (at % 8) i) refl where
   small : last < 256
   small = omega (arith, is-last)
 
   go : (b : Bool) → nat_le (at % 8) i ≡ b → (before * 2 ^ 8 + last) / 2 ^ (at % 8 + (7 - i)) % 2 ≡ number / 2 ^ (8 * ((8 * octet + i - at) / 8) + (7 - (8 * octet + i - at) % 8)) % 2
   go true h =
       let here = leb-true (at % 8) i h in
-      let others : (8 * octet + i - at) / 8 ≡ octet - at / 8 = omega (arith, here, low, near, from) in
-      let place : 7 - (8 * octet + i - at) % 8 ≡ at % 8 + (7 - i) = omega (arith, here, low, near, from) in
+      let others : (8 * octet + i - at) / 8 ≡ octet - at / 8 = omega (arith, here, low, begun, from) in
+      let place : 7 - (8 * octet + i - at) % 8 ≡ at % 8 + (7 - i) = omega (arith, here, low, begun, from) in
       bit_at_cat_low before 8 last (at % 8 + (7 - i)) (omega (arith, here, low))
       ∙ (ap (λ (x : ℕ). x / 2 ^ (at % 8 + (7 - i)) % 2) is-last
       ∙ (low-bit (number / 2 ^ (8 * (octet - at / 8))) 8 (at % 8 + (7 - i)) (omega (arith, here, low))
@@ -84,9 +84,9 @@ turned-bit number at octet before last i near low from is-last is-before = pair-
       ∙ (ap (λ (x : ℕ). number / 2 ^ (8 * (octet - at / 8) + x) % 2) (sym place) ∙ ap (λ (x : ℕ). number / 2 ^ (8 * x + (7 - (8 * octet + i - at) % 8)) % 2) (sym others)))))
   go false h =
       let ahead = leb-false (at % 8) i h in
-      let some : 0 < octet - at / 8 = omega (arith, ahead, low, near, from) in
-      let others : (8 * octet + i - at) / 8 ≡ octet - at / 8 - 1 = omega (arith, ahead, low, near, from) in
-      let place : 7 - (8 * octet + i - at) % 8 ≡ at % 8 + (7 - i) - 8 = omega (arith, ahead, low, near, from) in
+      let some : 0 < octet - at / 8 = omega (arith, ahead, low, begun, from) in
+      let others : (8 * octet + i - at) / 8 ≡ octet - at / 8 - 1 = omega (arith, ahead, low, begun, from) in
+      let place : 7 - (8 * octet + i - at) % 8 ≡ at % 8 + (7 - i) - 8 = omega (arith, ahead, low, begun, from) in
       bit_at_cat_high before 8 last (at % 8 + (7 - i)) small (omega (arith, ahead, low))
       ∙ (ap (λ (x : ℕ). x / 2 ^ (at % 8 + (7 - i) - 8) % 2) (is-before some)
       ∙ (low-bit (number / 2 ^ (8 * (octet - at / 8 - 1))) 8 (at % 8 + (7 - i) - 8) (omega (arith, ahead, low))

@@ -6,8 +6,8 @@
 #![tactic(auto)]
 
 mod clash;
+mod fast;
 mod laws;
-mod near;
 mod part;
 mod set;
 mod write;

@@ -70,10 +70,10 @@ fn mark(write: &Write, ones: &mut [u8], zeros: &mut [u8])
     ensures ones { (j : ℕ) → bit ones.new j ≡ (if sets 1 j write.now then 1 else bit ones.old j) }
     ensures zeros { (j : ℕ) → bit zeros.new j ≡ (if sets 0 j write.now then 1 else bit zeros.old j) }
 {
-    match write.near(ones.len()) {
-        Some(near) => {
-            add_word(ones, near.first, near.ones);
-            add_word(zeros, near.first, near.zeros);
+    match write.eight(ones.len()) {
+        Some(eight) => {
+            add_word(ones, eight.first, eight.ones);
+            add_word(zeros, eight.first, eight.zeros);
         }
         None => mark_each(write, ones, zeros),
     }

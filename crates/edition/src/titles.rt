@@ -12,7 +12,7 @@ use std::sync::Arc;
 pub fn titles_of(alloc: Global, rows: &[TpcfRow]) -> Result<Arc<FirstRows<ByTitled>>, AllocError>
     ensures { IfOk result (λ titles. arc_value titles ≡ rows.now) }
 {
-    Ok(Arc::new(alloc, FirstRows::with_near(alloc, rows)?)?)
+    Ok(Arc::new(alloc, FirstRows::with_numbers(alloc, rows)?)?)
 }
 
 /// Rows of tpcf by SPID: those of a base where they are known to be the same. An error is want of memory.

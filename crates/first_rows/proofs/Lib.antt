@@ -1,2 +1,2 @@
 pub mod FindFacts
-pub mod NearFacts
+pub mod ByNumberFacts

@@ -2,9 +2,9 @@ ghost use Rattle.std.specs.Prelude.{◌≡◌, List, Option, Some, None, OnOk, I
 ghost use Rattle.std.specs.List.{find};
 ghost use Rattle.std.specs.Option.{option_eq, option_or, option_copied};
 ghost use Rattle.std.specs.HashMap.{get};
-ghost use Rattle.first_rows.specs.Near.{IsAtHand, IsFirst};
+ghost use Rattle.first_rows.specs.ByNumbers.{IsAtHand, IsFirst};
 
-use crate::near::Near;
+use crate::fast::ByNumber;
 use crate::seen::Seen;
 use std::alloc::{AllocError, Global};
 use std::collections::HashMap;
@@ -33,7 +33,7 @@ pub trait By {
 #[derive(Drop)]
 pub struct FirstRows<B: By> {
     firsts: HashMap<B::Key, B::Row>,
-    near: Near<B::Row>,
+    numbered: ByNumber<B::Row>,
     count: usize,
     rows: Seen<B::Row>,
 }
@@ -43,7 +43,7 @@ impl<B: By> Model for FirstRows<B> {
     ghost use Rattle.std.specs.List.{find};
     ghost use Rattle.std.specs.Option.{option_eq};
     ghost use Rattle.std.specs.HashMap.{get};
-    ghost use Rattle.first_rows.specs.Near.{IsAtHand, IsFirst};
+    ghost use Rattle.first_rows.specs.ByNumbers.{IsAtHand, IsFirst};
 
     ghost Value = { List B.Row };
 
@@ -51,7 +51,7 @@ impl<B: By> Model for FirstRows<B> {
 
     ghost invariant = { λ all. (all.count ≡ length all.rows)
         × ((key : B.Key) → get B.Key.eq all.firsts key ≡ find (λ row. option_eq B.Key.eq (B.key_of row) (Some key)) all.rows)
-        × ((row : B.Row) → IsAtHand all.near row → IsFirst (λ key row. option_eq B.Key.eq (B.key_of row) (Some key)) all.rows row) };
+        × ((row : B.Row) → IsAtHand all.numbered row → IsFirst (λ key row. option_eq B.Key.eq (B.key_of row) (Some key)) all.rows row) };
 }
 
 // Notes a row whose key has none yet.
@@ -80,34 +80,34 @@ fn firsts<B: By>(alloc: Global, rows: &[B::Row]) -> Result<HashMap<B::Key, B::Ro
 }
 
 // Puts the first row of a row's key at the place of its number.
-fn put<B: By>(near: &mut Near<B::Row>, firsts: &HashMap<B::Key, B::Row>, row: &B::Row)
+fn put_first<B: By>(numbered: &mut ByNumber<B::Row>, firsts: &HashMap<B::Key, B::Row>, row: &B::Row)
     ensures { (rows : List B.Row) → ((key : B.Key) → get B.Key.eq firsts.now key ≡ find (λ row. option_eq B.Key.eq (B.key_of row) (Some key)) rows)
-        → ((held : B.Row) → IsAtHand near.old held → IsFirst (λ key row. option_eq B.Key.eq (B.key_of row) (Some key)) rows held)
-        → (held : B.Row) → IsAtHand near.new held → IsFirst (λ key row. option_eq B.Key.eq (B.key_of row) (Some key)) rows held }
+        → ((held : B.Row) → IsAtHand numbered.old held → IsFirst (λ key row. option_eq B.Key.eq (B.key_of row) (Some key)) rows held)
+        → (held : B.Row) → IsAtHand numbered.new held → IsFirst (λ key row. option_eq B.Key.eq (B.key_of row) (Some key)) rows held }
 {
     let Some(key) = B::key(row) else {
         return;
     };
     if let Some(first) = firsts.get(&key) {
-        near.put(B::number(&key), *first);
+        numbered.put(B::number(&key), *first);
     }
 }
 
 // First rows at the places of their numbers.
-fn nears<B: By>(
+fn numbered_firsts<B: By>(
     alloc: Global,
     firsts: &HashMap<B::Key, B::Row>,
     rows: &[B::Row],
-) -> Result<Near<B::Row>, AllocError>
+) -> Result<ByNumber<B::Row>, AllocError>
     requires { (key : B.Key) → get B.Key.eq firsts.now key ≡ find (λ row. option_eq B.Key.eq (B.key_of row) (Some key)) rows.now }
-    ensures { IfOk result (λ near. (held : B.Row) → IsAtHand near held
+    ensures { IfOk result (λ numbered. (held : B.Row) → IsAtHand numbered held
         → IsFirst (λ key row. option_eq B.Key.eq (B.key_of row) (Some key)) rows.now held) }
 {
-    let mut near = Near::with_room(alloc, rows.len())?;
+    let mut numbered = ByNumber::with_room(alloc, rows.len())?;
     for row in rows {
-        put::<B>(&mut near, firsts, row);
+        put_first::<B>(&mut numbered, firsts, row);
     }
-    Ok(near)
+    Ok(numbered)
 }
 
 // Whether a row has a key.
@@ -133,21 +133,21 @@ impl<B: By> FirstRows<B> {
     {
         Ok(FirstRows {
             firsts: firsts::<B>(alloc, rows)?,
-            near: Near::none(alloc),
+            numbered: ByNumber::none(alloc),
             count: rows.len(),
             rows: Seen::of(alloc, rows)?,
         })
     }
 
     /// As `new`, with most rows also at the places of their numbers, where they are found without a probe.
-    pub fn with_near(alloc: Global, rows: &[B::Row]) -> Result<FirstRows<B>, AllocError>
+    pub fn with_numbers(alloc: Global, rows: &[B::Row]) -> Result<FirstRows<B>, AllocError>
         ensures { IfOk result (λ all. all ≡ rows.now) }
     {
         let firsts = firsts::<B>(alloc, rows)?;
-        let near = nears::<B>(alloc, &firsts, rows)?;
+        let numbered = numbered_firsts::<B>(alloc, &firsts, rows)?;
         Ok(FirstRows {
             firsts,
-            near,
+            numbered,
             count: rows.len(),
             rows: Seen::of(alloc, rows)?,
         })
@@ -161,7 +161,7 @@ impl<B: By> FirstRows<B> {
         if self.count == 0 {
             return None;
         }
-        if let Some(row) = self.near.at(B::number(key)) {
+        if let Some(row) = self.numbered.at(B::number(key)) {
             if has_key::<B>(row, key) {
                 return Some(row);
             }

@@ -2,14 +2,14 @@
 //!
 //! `FirstRows` keeps rows in their order beside a hash map from each key to the place of the first row that has it. So
 //! `find` takes one probe, for one row or for 100,000, and no memory; its answer is that of a search through the rows.
-//! Made by `with_near`, it has most rows also at places that their keys give them, where they are found without a probe.
+//! Made by `with_numbers`, it has most rows also at places that their keys give them, where they are found without a probe.
 //! It rests on std alone.
 #![tactic(auto)]
 
+mod fast;
 mod first_rows;
-mod near;
 mod seen;
 
+pub use fast::ByNumber;
 pub use first_rows::{By, FirstRows};
-pub use near::Near;
 pub use seen::Seen;

@@ -7,8 +7,8 @@ use Rattle.std.proofs.lemmas.Grind.{get_or-set_at}
 use Rattle.std.proofs.Math.Seq.{take-append_seam}
 use Rattle.std.specs.List.{filter, find}
 use Rattle.mib_model.specs.declared.rows.PidRow.{PidRow}
-use Rattle.ident_plan.specs.declared.kin.Kin.{Kin}
-use Rattle.ident_plan.specs.declared.kin.Kin.TheVariants.{Empty, More}
+use Rattle.ident_plan.specs.declared.fast.kin.Kin.{Kin}
+use Rattle.ident_plan.specs.declared.fast.kin.Kin.TheVariants.{Empty, More}
 use Rattle.ident_plan.specs.Kins.{is_of, IsKin, AreKins}
 
 step : (rest : PidRow → Bool) (row : PidRow) (kept : List PidRow) (more : Option PidRow) (here : Bool) → more ≡ find rest kept → (if here && rest row then Some row else more) ≡ find rest (if here then row ∷ kept else kept)

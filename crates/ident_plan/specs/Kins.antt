@@ -3,8 +3,8 @@
 use Rattle.std.specs.Prelude.{◌≡◌, ℕ, Bool, ◌==◌, ⊤, List, [], ◌∷◌, get_or}
 use Rattle.std.specs.List.{filter}
 use Rattle.mib_model.specs.declared.rows.PidRow.{PidRow}
-use Rattle.ident_plan.specs.declared.kin.Kin.{Kin}
-use Rattle.ident_plan.specs.declared.kin.Kin.TheVariants.{Empty, One, More}
+use Rattle.ident_plan.specs.declared.fast.kin.Kin.{Kin}
+use Rattle.ident_plan.specs.declared.fast.kin.Kin.TheVariants.{Empty, One, More}
 
 -- whether a row is of an APID
 abbrev pub is_of : ℕ → PidRow → Bool

@@ -1,12 +1,12 @@
-ghost use Rattle.std.specs.Prelude.{◌≡◌, ◌+◌, ◌*◌, ◌≤◌, ◌<ℤ◌, ◌==◌, ◌&&◌, [], negsuc, pos, ℕ, length, Option, IfOk, IfSome, OnOk, OnErr, IsTrue, Some, None, true, false, if◌then◌else◌};
+ghost use Rattle.std.specs.Prelude.{◌≡◌, ◌+◌, ◌≤◌, ◌==◌, ◌&&◌, [], length, IfOk, OnOk, OnErr, IsTrue, Some, None, false};
 ghost use Rattle.std.specs.List.{find, list_any};
-ghost use Rattle.std.specs.Option.{option_copied, option_or};
+ghost use Rattle.std.specs.Option.{option_copied};
 ghost use Rattle.mib_model.specs.Headers.{header_of};
 ghost use Rattle.mib_model.specs.Match as Spec;
 ghost use Rattle.ident_plan.specs.Rows.{has_apid};
-ghost use Rattle.mib_model.specs.Match.{service_of, subtype_of, lacks_service, is_criterion, found_with, match_by};
+ghost use Rattle.mib_model.specs.Match.{lacks_service, is_criterion, found_with, match_by};
 
-use crate::kin::{Kin, kin_at, kins_of};
+use crate::fast::kin::{Kin, kins_of};
 use first_rows::FirstRows;
 use mib_model::{BadWhy, Found, Header, IDLE_APID, PicRow, PidRow, Steps};
 use packet_keys::{ByCriterion, ByPacket, CriterionKey, PacketKey, discriminants, found_by, types};
@@ -22,9 +22,9 @@ pub struct Ident {
     // Whether a row of pic is of an APID of its own.
     has_own: bool,
     // Whether there is no row of pic.
-    is_bare: bool,
+    pub(crate) is_bare: bool,
     // The rows of pid of each APID, where they are none or one.
-    kins: Vec<Kin>,
+    pub(crate) kins: Vec<Kin>,
 }
 
 impl Model for Ident {
@@ -39,24 +39,6 @@ impl Model for Ident {
 
     ghost invariant = { λ ident. (ident.has_own ≡ list_any has_apid ident.pics) × AreKins ident.pids ident.kins.items
         × (IsTrue ident.is_bare → ident.pics ≡ []) };
-}
-
-// Whether a row of the key's APID has the rest of the key.
-fn agrees(row: &PidRow, key: &PacketKey) -> bool
-    ensures { result ≡ ((row.now.service == key.now.service) && (row.now.subtype == key.now.subtype)
-        && (row.now.pi1_val == key.now.pi1_val) && (row.now.pi2_val == key.now.pi2_val)) }
-{
-    row.service == key.service
-        && row.subtype == key.subtype
-        && row.pi1_val == key.pi1_val
-        && row.pi2_val == key.pi2_val
-}
-
-// A row where a condition holds.
-fn row_if(row: &PidRow, holds: bool) -> Option<&PidRow>
-    ensures { option_copied result ≡ (if holds then Some row.now else None) }
-{
-    if holds { Some(row) } else { None }
 }
 
 // Whether a row of pic is of an APID of its own.
@@ -89,8 +71,8 @@ impl Ident {
         let has_own = have_apids(pics);
         let is_bare = are_none(pics);
         let kins = kins_of(alloc, pids)?;
-        let pids = FirstRows::with_near(alloc, pids)?;
-        let pics = FirstRows::with_near(alloc, pics)?;
+        let pids = FirstRows::with_numbers(alloc, pids)?;
+        let pics = FirstRows::with_numbers(alloc, pics)?;
         steps.tick();
         Ok(Ident {
             pids,
@@ -164,25 +146,13 @@ impl Ident {
         self.values_by_rows(header, packet)
     }
 
-    // The first row of pid with this key, by a probe.
+    /// The first row of pid with this key, by a probe.
     #[inline(never)]
-    fn probed(&self, key: PacketKey) -> Option<&PidRow>
+    pub(crate) fn probed(&self, key: PacketKey) -> Option<&PidRow>
         ensures { option_copied result ≡ find (λ row. (row.apid == key.apid) && (row.service == key.service)
             && (row.subtype == key.subtype) && (row.pi1_val == key.pi1_val) && (row.pi2_val == key.pi2_val)) self.now.pids }
     {
         self.pids.find(&key)
-    }
-
-    // The first row of pid with this key.
-    fn row_of_pid(&self, key: PacketKey) -> Option<&PidRow>
-        ensures { option_copied result ≡ find (λ row. (row.apid == key.apid) && (row.service == key.service)
-            && (row.subtype == key.subtype) && (row.pi1_val == key.pi1_val) && (row.pi2_val == key.pi2_val)) self.now.pids }
-    {
-        match kin_at(&self.kins, key.apid) {
-            Some(Kin::Empty) => None,
-            Some(Kin::One(row)) => row_if(row, agrees(row, &key)),
-            _ => self.probed(key),
-        }
     }
 
     // What a packet is with these discriminants.
@@ -200,51 +170,6 @@ impl Ident {
             pi2_val: values.1,
         });
         found_by(row, service, subtype)
-    }
-
-    // The first row of pid with this key, if it is the only one of its APID.
-    #[inline(always)]
-    fn lone_row(&self, key: PacketKey) -> Option<&PidRow>
-        ensures { IfSome result (λ row. Some row.now ≡ find (λ row. (row.apid == key.apid) && (row.service == key.service)
-            && (row.subtype == key.subtype) && (row.pi1_val == key.pi1_val) && (row.pi2_val == key.pi2_val)) self.now.pids) }
-    {
-        match kin_at(&self.kins, key.apid) {
-            Some(Kin::One(row)) if agrees(row, &key) => Some(row),
-            _ => None,
-        }
-    }
-
-    // What a packet whose discriminants are 0 is by the only row of its APID, if it agrees with that.
-    #[inline(always)]
-    fn by_lone_row(&self, header: &Header, packet: &[u8]) -> Option<Found>
-        requires header { header.now ≡ header_of packet.now }
-        requires long { lacks_service packet.now ≡ false }
-        ensures { IfSome result (λ found. found ≡ found_with self.now.pids packet.now (Some (0, 0))) }
-    {
-        let (service, subtype) = types(packet, header.secondary);
-        let row = self.lone_row(PacketKey {
-            apid: header.apid,
-            service,
-            subtype,
-            pi1_val: 0,
-            pi2_val: 0,
-        })?;
-        Some(found_by(Some(row), service, subtype))
-    }
-
-    // What a packet is by the only row of its APID, if it agrees with that and pic has no rows.
-    #[tactic(auto, unfolding(mib_model::specs::Match::criterion))]
-    #[inline(always)]
-    fn at_once(&self, header: &Header, packet: &[u8]) -> Option<Found>
-        requires header { header.now ≡ header_of packet.now }
-        requires long { lacks_service packet.now ≡ false }
-        ensures { IfSome result (λ found. found ≡ found_with self.now.pids packet.now
-            (Spec.discriminants packet.now (Spec.criterion self.now.pics packet.now))) }
-    {
-        if !self.is_bare {
-            return None;
-        }
-        self.by_lone_row(header, packet)
     }
 
     // What a packet is whose header and types refuse nothing, by its discriminants.

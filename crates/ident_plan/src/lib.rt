@@ -6,8 +6,8 @@
 //! what a packet is identified by.
 #![tactic(auto)]
 
+mod fast;
 mod ident;
-mod kin;
 
 pub use ident::Ident;
 pub use mib_model::{BadWhy, Found};

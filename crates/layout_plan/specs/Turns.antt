@@ -27,6 +27,6 @@ abbrev pub is_big_or_none : Encoding → Bool
 is_big_or_none shape = if has_number shape.sort then is_big shape.order else true
 
 -- a value that lies in eight octets, behind so many bits of them, and has no number or one of the order Big
-pub record IsNear (bit : ℕ) (shape : Encoding) : Type 0 where
+pub record IsInEight (bit : ℕ) (shape : Encoding) : Type 0 where
   pub order : has_number shape.sort ≡ true → shape.order ≡ Big
-  pub near : bit + shape.width ≤ 64
+  pub end : bit + shape.width ≤ 64

@@ -7,12 +7,12 @@ ghost use Rattle.layout_plan.specs.Stops.{ended_at, ended_by};
 ghost use Rattle.layout_plan.specs.Spans.{place_in, span_places};
 ghost use Rattle.layout_plan.specs.Turns.{is_big_or_none};
 
-use bit_field::{MOST_VALUES, Values, take, take_near};
+use bit_field::{MOST_VALUES, Values, take, take_in_eight};
 use mib_model::{Ended, Name, Order, PlfRow, Shape, Sort};
 use std::marker::Model;
 
 /// The occurrences of a row: the octet from which the first is read and the bits before it there, the bits from one to the next,
-/// and how many there are. Where `count` is 0 there is one, which `take_near` reads. Fields lie so that little room is left
+/// and how many there are. Where `count` is 0 there is one, which `take_in_eight` reads. Fields lie so that little room is left
 /// between them. Contracts see the occurrences.
 #[derive(Drop)]
 pub struct Span {
@@ -26,13 +26,13 @@ pub struct Span {
 
 impl Model for Span {
     ghost use Rattle.std.specs.Prelude.{◌≡◌, ◌+◌, ◌*◌};
-    ghost use Rattle.layout_plan.specs.Turns.{Turns, turns, IsNear};
+    ghost use Rattle.layout_plan.specs.Turns.{Turns, turns, IsInEight};
 
     ghost Value = { Turns };
 
     ghost view = { λ s. record { name = s.name; first = 8 * s.octet + s.bit; step = s.step; count = turns s.count; shape = s.shape } };
 
-    ghost invariant = { λ s. s.count ≡ 0 → IsNear s.bit s.shape };
+    ghost invariant = { λ s. s.count ≡ 0 → IsInEight s.bit s.shape };
 }
 
 /// Why values end before the last place of a span.
@@ -82,7 +82,7 @@ fn read_value(
 // The first bit of a place: an octet and a bit in it.
 fn first_bit(octet: u32, bit: u8) -> u64
     ensures value { result ≡ 8 * octet + bit }
-    ensures near { result < 2 ^ 63 }
+    ensures within { result < 2 ^ 63 }
 {
     8 * u64::from(octet) + u64::from(bit)
 }
@@ -99,7 +99,7 @@ fn is_big(shape: Shape) -> bool
 
 // A place, told by the octet that is the eighth before the field's end, or the first of all where there are fewer, if the
 // field begins behind it; else by the octet in which it begins.
-fn near_place(octet: u32, bit: u8, width: u16) -> (u32, u8)
+fn place_in_eight(octet: u32, bit: u8, width: u16) -> (u32, u8)
     ensures { 8 * result.0 + result.1 ≡ 8 * octet + bit }
 {
     let at = first_bit(octet, bit);
@@ -118,13 +118,13 @@ impl Span {
         requires { 0 < row.now.nbocc }
         ensures { span_places result ≡ occurrences row.now (Some shape) }
     {
-        let (octet, bit) = near_place(row.offby, row.offbi, shape.width());
+        let (octet, bit) = place_in_eight(row.offby, row.offbi, shape.width());
         let end = u32::from(bit) + u32::from(shape.width());
-        let is_near = row.nbocc == 1 && end <= 64 && is_big(shape);
+        let is_in_eight = row.nbocc == 1 && end <= 64 && is_big(shape);
         Span {
             octet,
             step: row.lgocc,
-            count: if is_near { 0 } else { row.nbocc },
+            count: if is_in_eight { 0 } else { row.nbocc },
             shape,
             bit,
             name: row.name,
@@ -193,7 +193,9 @@ impl Span {
     {
         if self.count == 0
             && values.used < MOST_VALUES
-            && let Some(value) = take_near(packet, self.octet, self.bit, self.name, self.shape)
+            && let Some(value) = take_in_eight(
+                packet, self.octet, self.bit, self.name, self.shape,
+            )
         {
             values.push(value);
             return None;

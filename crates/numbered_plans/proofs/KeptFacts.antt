@@ -3,7 +3,7 @@ use Rattle.std.proofs.Common.{◌≡◌, ◌⊎◌, inl, inr, ℤ, pos, List, Op
 use Rattle.std.specs.Arc.{arc_value}
 use Rattle.std.specs.declared.sync.Arc.{Arc}
 use Rattle.std.specs.HashMap.{HashMap}
-use Rattle.first_rows.specs.Near.{IsAtHand}
+use Rattle.first_rows.specs.ByNumbers.{IsAtHand}
 use Rattle.numbered_plans.specs.Numbered.{plan_at}
 use Rattle.numbered_plans.specs.Kept.{ArePlansOf}
 use Rattle.numbered_plans.specs.declared.plans.Kept.{Kept}

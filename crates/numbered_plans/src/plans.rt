@@ -2,11 +2,11 @@
 ghost use Rattle.std.specs.Prelude.{◌≡◌, ℤ, pos, IfOk, IfSome, None, option_map};
 ghost use Rattle.std.specs.Arc.{arc_value};
 ghost use Rattle.std.specs.Option.{option_copied};
-ghost use Rattle.first_rows.specs.Near.{IsAtHand};
+ghost use Rattle.first_rows.specs.ByNumbers.{IsAtHand};
 ghost use Rattle.numbered_plans.specs.Kept.{ArePlansOf};
 ghost use Rattle.numbered_plans.specs.Numbered.{plan_at};
 
-use first_rows::Near;
+use first_rows::ByNumber;
 use std::alloc::{AllocError, Global};
 use std::collections::HashMap;
 use std::sync::Arc;
@@ -22,38 +22,38 @@ pub struct Kept<P: Drop> {
 #[derive(Drop)]
 pub struct Plans<P: Drop> {
     pub map: HashMap<i128, Arc<P>>,
-    near: Near<Kept<P>>,
-    ghost at_hand: { ArePlansOf map near },
+    by_number: ByNumber<Kept<P>>,
+    ghost at_hand: { ArePlansOf map by_number },
 }
 
 // Puts the plan of a number at its place, if there is one. An error is want of memory.
 fn put<P: Drop>(
-    near: &mut Near<Kept<P>>,
+    by_number: &mut ByNumber<Kept<P>>,
     map: &HashMap<i128, Arc<P>>,
     number: u32,
 ) -> Result<(), AllocError>
-    ensures { ArePlansOf map.now near.old → ArePlansOf map.now near.new }
+    ensures { ArePlansOf map.now by_number.old → ArePlansOf map.now by_number.new }
 {
     if let Some(plan) = probe(map, i128::from(number)) {
         let plan = plan.clone()?;
-        near.put(u64::from(number), Kept { number, plan });
+        by_number.put(u64::from(number), Kept { number, plan });
     }
     Ok(())
 }
 
 // The plans of numbers, at the places of these, four for each plan. An error is want of memory.
-fn near_of<P: Drop>(
+fn by_number_of<P: Drop>(
     alloc: Global,
     map: &HashMap<i128, Arc<P>>,
     numbers: &[u32],
-) -> Result<Near<Kept<P>>, AllocError>
-    ensures { IfOk result (λ near. ArePlansOf map.now near) }
+) -> Result<ByNumber<Kept<P>>, AllocError>
+    ensures { IfOk result (λ by_number. ArePlansOf map.now by_number) }
 {
-    let mut near = Near::with_room(alloc, map.len().saturating_mul(2))?;
+    let mut by_number = ByNumber::with_room(alloc, map.len().saturating_mul(2))?;
     for number in numbers {
-        put(&mut near, map, *number)?;
+        put(&mut by_number, map, *number)?;
     }
-    Ok(near)
+    Ok(by_number)
 }
 
 // The plan of a number, by the map: out of the way of those that are found without it.
@@ -66,10 +66,10 @@ fn probe<P: Drop>(map: &HashMap<i128, Arc<P>>, number: i128) -> Option<&Arc<P>>
 
 // The plan of a number, if it is at its place.
 #[inline(always)]
-fn at_place<P: Drop>(near: &Near<Kept<P>>, number: i128) -> Option<&Kept<P>>
-    ensures { IfSome result (λ kept. IsAtHand near.now kept.now × (pos kept.now.number ≡ number)) }
+fn at_place<P: Drop>(by_number: &ByNumber<Kept<P>>, number: i128) -> Option<&Kept<P>>
+    ensures { IfSome result (λ kept. IsAtHand by_number.now kept.now × (pos kept.now.number ≡ number)) }
 {
-    let kept = near.at(u64::try_from(number).ok()?)?;
+    let kept = by_number.at(u64::try_from(number).ok()?)?;
     if i128::from(kept.number) == number {
         Some(kept)
     } else {
@@ -84,7 +84,7 @@ impl<P: Drop> Plans<P> {
     {
         Plans {
             map: HashMap::new(alloc),
-            near: Near::none(alloc),
+            by_number: ByNumber::none(alloc),
         }
     }
 
@@ -96,8 +96,8 @@ impl<P: Drop> Plans<P> {
     ) -> Result<Plans<P>, AllocError>
         ensures { IfOk result (λ plans. plans.map ≡ map) }
     {
-        let near = near_of(alloc, &map, numbers)?;
-        Ok(Plans { map, near })
+        let by_number = by_number_of(alloc, &map, numbers)?;
+        Ok(Plans { map, by_number })
     }
 
     /// The plan of a number, in one probe at most.
@@ -105,7 +105,7 @@ impl<P: Drop> Plans<P> {
     pub fn get(&self, number: i128) -> Option<&Arc<P>>
         ensures { option_map arc_value (option_copied result) ≡ plan_at self.now.map number }
     {
-        match at_place(&self.near, number) {
+        match at_place(&self.by_number, number) {
             Some(kept) => Some(&kept.plan),
             None => probe(&self.map, number),
         }

@@ -51,7 +51,7 @@ fn read_value(
 // The place of a bit of an octet.
 fn first_bit(octet: u32, bit: u8) -> u64
     ensures value { result ≡ 8 * octet + bit }
-    ensures near { result < 2 ^ 63 }
+    ensures within { result < 2 ^ 63 }
 {
     8 * u64::from(octet) + u64::from(bit)
 }

@@ -136,8 +136,8 @@ there-is-of packet name (pos n) shape v is = go (lies_outside packet (pos n) sha
       let value : record { name = name; at = n; raw = raw_number shape packet n; shape = shape } ≡ v = cc (sym same) in
       subst (IsOf packet) value (record { inside = not-outside packet n shape.width e; number = refl })
 
-pub moved-near : (z w : ℤ) (m : ℕ) → m < 2 ^ 32 → w ≡ z +ℤ pos m → nat_abs w ≤ nat_abs z + 2 ^ 32
-moved-near z w m few is = omega (arith, ints, is)
+pub moved-reach : (z w : ℤ) (m : ℕ) → m < 2 ^ 32 → w ≡ z +ℤ pos m → nat_abs w ≤ nat_abs z + 2 ^ 32
+moved-reach z w m few is = omega (arith, ints, is)
 
 pub one-fits : (values more : List Value) (v : Value) → length values ≢ most_values → length values ≤ most_values → more ≡ values ++ v ∷ [] → length more ≤ most_values
 one-fits values more v room few is = let long = ap length is ∙ length-append values (v ∷ []) in omega (arith, room, few, long)

@@ -110,11 +110,11 @@ impl<'a> Walk<'a> {
     ) -> Result<Option<Ended>, AllocError>
         requires short { length packet.now ≤ 65542 }
         requires nested { AreNested (row.now ∷ rest.now) }
-        requires near { nat_abs self.old.cursor < 2 ^ 120 }
+        requires reach { nat_abs self.old.cursor < 2 ^ 120 }
         requires few { length self.old.values ≤ most_values }
         requires all { All (IsOf packet.now) self.old.values }
         ensures step { IfOk result (λ ended. Spec.try_value rows.now packet.now row.now (rest.now ++ self.old.todo) self.old (parameter.now, shape) ≡ led ended self.new) }
-        ensures near { IfOk result (λ _. nat_abs self.new.cursor ≤ nat_abs self.old.cursor + 2 ^ 32) }
+        ensures reach { IfOk result (λ _. nat_abs self.new.cursor ≤ nat_abs self.old.cursor + 2 ^ 32) }
         ensures few { IfOk result (λ _. length self.new.values ≤ most_values) }
         ensures all { IfOk result (λ _. All (IsOf packet.now) self.new.values) }
     {
@@ -140,11 +140,11 @@ impl<'a> Walk<'a> {
     ) -> Result<Option<Ended>, AllocError>
         requires short { length packet.now ≤ 65542 }
         requires nested { AreNested (row.now ∷ rest.now) }
-        requires near { nat_abs self.old.cursor < 2 ^ 120 }
+        requires reach { nat_abs self.old.cursor < 2 ^ 120 }
         requires few { length self.old.values ≤ most_values }
         requires all { All (IsOf packet.now) self.old.values }
         ensures step { IfOk result (λ ended. Spec.on_row rows.now packet.now row.now (rest.now ++ self.old.todo) self.old ≡ led ended self.new) }
-        ensures near { IfOk result (λ _. nat_abs self.new.cursor ≤ nat_abs self.old.cursor + 2 ^ 32) }
+        ensures reach { IfOk result (λ _. nat_abs self.new.cursor ≤ nat_abs self.old.cursor + 2 ^ 32) }
         ensures few { IfOk result (λ _. length self.new.values ≤ most_values) }
         ensures all { IfOk result (λ _. All (IsOf packet.now) self.new.values) }
     {
@@ -163,11 +163,11 @@ impl<'a> Walk<'a> {
     #[tactic(auto, unfolding(mib_model::specs::Walk::step))]
     fn step(&mut self, rows: &'a RowSearches, packet: &[u8]) -> Result<Option<Ended>, AllocError>
         requires short { length packet.now ≤ 65542 }
-        requires near { nat_abs self.old.cursor < 2 ^ 119 }
+        requires reach { nat_abs self.old.cursor < 2 ^ 119 }
         requires few { length self.old.values ≤ most_values }
         requires all { All (IsOf packet.now) self.old.values }
         ensures step { IfOk result (λ ended. Spec.step rows.now packet.now self.old ≡ led ended self.new) }
-        ensures near { IfOk result (λ _. nat_abs self.new.cursor ≤ nat_abs self.old.cursor + 2 ^ 33) }
+        ensures reach { IfOk result (λ _. nat_abs self.new.cursor ≤ nat_abs self.old.cursor + 2 ^ 33) }
         ensures few { IfOk result (λ _. length self.new.values ≤ most_values) }
         ensures all { IfOk result (λ _. All (IsOf packet.now) self.new.values) }
     {

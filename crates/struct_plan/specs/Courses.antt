@@ -60,7 +60,7 @@ pub record IsStructure (db : Database) (rows : StructureRows) : Type 0 where
   pub of_rows : (tpsd : ℤ) × (rows ≡ with_types db (structure db tpsd))
 
 -- a bit that is no farther off than so many rows behind a value can lead
-pub record IsNear (cursor : ℤ) (rows : ℕ) : Type 0 where
+pub record IsInReach (cursor : ℤ) (rows : ℕ) : Type 0 where
   pub low : pos 0 ≤ℤ (cursor +ℤ pos (2 ^ 68 + rows * 2 ^ 32))
   pub high : cursor ≤ℤ pos (2 ^ 68 + rows * 2 ^ 32)
 
@@ -71,4 +71,4 @@ IsFurther used at used' at' = ((used' ≡ used) × (at < at')) ⊎ (used' ≡ us
 -- a walk that gave a value before a choice
 pub record HasChosen (used used' : ℕ) (course : WalkCourse) : Type 0 where
   pub more : used < used'
-  pub near : IsNear course.cursor 0
+  pub reach : IsInReach course.cursor 0

@@ -7,7 +7,7 @@ ghost use Rattle.mib_model.specs.Soundness.{IsSound};
 ghost use Rattle.mib_model.specs.Structures.{structure, Typed};
 ghost use Rattle.mib_model.specs.Walk.{after_value, structure_values, walk_start};
 ghost use Rattle.bit_field.specs.Taken.{taken, HasSlots, KeepsSlots};
-ghost use Rattle.struct_plan.specs.Courses.{Comes, Given, Gives, GoesOn, HasChosen, IsFurther, IsNear, IsStructure, Leads, Moves, value_or_end, walking};
+ghost use Rattle.struct_plan.specs.Courses.{Comes, Given, Gives, GoesOn, HasChosen, IsFurther, IsInReach, IsStructure, Leads, Moves, value_or_end, walking};
 ghost use Rattle.struct_plan.specs.Sources.{Source, Walked, on_subject_by};
 ghost use Rattle.struct_plan.specs.Entries as Spec;
 ghost use Rattle.struct_plan.specs.Entries.{field_of, then_of};
@@ -84,7 +84,7 @@ fn give<S: Structures, N: Numbers>(
     ensures groups { OnOk result (kept values.new stack.new ≡ take (most_values - values.new.used) (kept values.old stack.old)) }
     ensures within { OnOk result (IsWithin values.new stack.new) }
     ensures more { OnOk result (values.new.used ≡ values.old.used + 1) }
-    ensures near { OnOk result (IsNear course.new.cursor 0) }
+    ensures reach { OnOk result (IsInReach course.new.cursor 0) }
     ensures stays { KeepsSlots values.old values.new }
 {
     let last = course.last;
@@ -155,14 +155,14 @@ fn walk_row<S: Structures, N: Numbers>(
     requires structure { IsStructure (S.tables all.now) structure.now }
     requires among { IsAmong structure.now.vpds values.old place.old }
     requires inside { place.old.at < length structure.now.vpds }
-    requires near { IsNear course.old.cursor place.old.at }
+    requires reach { IsInReach course.old.cursor place.old.at }
     ensures goes { (end : Walked) →
         Gives (S.tables all.now) (N.source numbers.now) end
         (walking (still_to_walk structure.now.vpds place.old.at (groups values.old place.old)) course.old (taken values.old)) →
         GoesOn (S.tables all.now) (N.source numbers.now) end (still_to_walk structure.now.vpds place.new.at (groups values.new place.new))
         course.new (taken values.new) result }
     ensures among { result ≡ None → IsAmong structure.now.vpds values.new place.new }
-    ensures near { result ≡ None → IsNear course.new.cursor place.new.at }
+    ensures reach { result ≡ None → IsInReach course.new.cursor place.new.at }
     ensures further { result ≡ None → IsFurther values.old.used place.old.at values.new.used place.new.at }
     ensures chosen { (tpsd : ℤ) → result ≡ Some (Way.Chosen tpsd) → HasChosen values.old.used values.new.used course.new }
     ensures stays { KeepsSlots values.old values.new }
@@ -194,7 +194,7 @@ fn walk_structure<S: Structures, N: Numbers>(
 ) -> Way
     requires slots { HasSlots values.old }
     requires structure { IsStructure (S.tables all.now) structure.now }
-    requires near { IsNear course.old.cursor 0 }
+    requires reach { IsInReach course.old.cursor 0 }
     ensures comes { (end : Walked) → Gives (S.tables all.now) (N.source numbers.now) end (walking structure.now.vpds course.old (taken values.old)) →
         Comes (S.tables all.now) (N.source numbers.now) end course.new (taken values.new) result }
     ensures chosen { (tpsd : ℤ) → result ≡ Way.Chosen tpsd → HasChosen values.old.used values.new.used course.new }

@@ -47,7 +47,7 @@ fn lay_place<N: Numbers>(
 // The first bit of a place: an octet and a bit in it.
 fn first_bit(octet: u32, bit: u8) -> u64
     ensures value { result ≡ 8 * octet + bit }
-    ensures near { result < 2 ^ 63 }
+    ensures within { result < 2 ^ 63 }
 {
     8 * u64::from(octet) + u64::from(bit)
 }

@@ -93,10 +93,10 @@ impl<'a> PacketTables<'a> {
         ensures { IfOk result (λ tables. tables ≡ book.now) }
     {
         Ok(PacketTables {
-            pids: FirstRows::with_near(alloc, book.pid())?,
+            pids: FirstRows::with_numbers(alloc, book.pid())?,
             pics: book.pic(),
             plfs: RowGroups::new(alloc, book.plf())?,
-            parameters: FirstRows::with_near(alloc, book.pcf())?,
+            parameters: FirstRows::with_numbers(alloc, book.pcf())?,
             structures: structures_of(alloc, book)?,
             deduced: Deduced::new(alloc, book.pcf())?,
         })

@@ -1,5 +1,5 @@
 use Rattle.std.proofs.Common.{arith}
-use Rattle.bit_writer.proofs.NearFacts.{more-in-eight}
+use Rattle.bit_writer.proofs.EightFacts.{more-in-eight}
 use Rattle.bit_writer.proofs.set.add_eight.Goals as goal
 
 pub returns : goal.returns

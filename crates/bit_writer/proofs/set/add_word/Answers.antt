@@ -1,4 +1,4 @@
-use Rattle.bit_writer.proofs.NearFacts.{more-from}
+use Rattle.bit_writer.proofs.EightFacts.{more-from}
 use Rattle.bit_writer.proofs.set.add_word.Goals as goal
 
 pub returns : goal.returns

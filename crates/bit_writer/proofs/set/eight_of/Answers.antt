@@ -1,5 +1,5 @@
 use Rattle.std.proofs.Common.{◌∙◌, ◌-◌, ◌/◌, ◌%◌, ◌^◌, ℕ, ap, sym, arith}
-use Rattle.bit_writer.proofs.NearFacts.{word-bit}
+use Rattle.bit_writer.proofs.EightFacts.{word-bit}
 use Rattle.bit_writer.proofs.set.eight_of.Goals as goal
 
 pub returns : goal.returns

@@ -26,7 +26,7 @@ loop-preserved c =
     record {
       steps = sym (walked-goes c.args.rows.now c.args.packet.now c.loop.walk c.step.new.self _ _ next goes) ∙ c.loop.invariant.steps;
       end = c.loop.invariant.end;
-      near = omega (arith, c.loop.invariant.near, c.in_ok-ended.ensures.near);
+      reach = omega (arith, c.loop.invariant.reach, c.in_ok-ended.ensures.reach);
       few = c.in_ok-ended.ensures.few;
       all = c.in_ok-ended.ensures.all;
     }

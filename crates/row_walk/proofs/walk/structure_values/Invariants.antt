@@ -9,7 +9,7 @@ abbrev pub invariant-loop : goal.invariant-loop
 invariant-loop l = record {
   steps : walked l.rows l.packet (l.end - l.counter) l.walk ≡ walked l.rows l.packet (walk_limit l.rows) (walk_start l.rows l.tpsd l.dfhsize);
   end : l.end ≡ walk_limit l.rows;
-  near : nat_abs l.walk.cursor ≤ 2 ^ 34 + l.counter * 2 ^ 33;
+  reach : nat_abs l.walk.cursor ≤ 2 ^ 34 + l.counter * 2 ^ 33;
   few : length l.walk.values ≤ most_values;
   all : All (IsOf l.packet) l.walk.values;
 }

@@ -4,7 +4,7 @@ use Rattle.mib_model.specs.Structures.{structure}
 use Rattle.mib_model.specs.Walk.{chosen}
 use Rattle.bit_field.specs.Taken.{taken}
 use Rattle.struct_plan.specs.declared.course.WalkCourse.{WalkCourse}
-use Rattle.struct_plan.specs.Courses.{IsNear, Leads, walking}
+use Rattle.struct_plan.specs.Courses.{IsInReach, Leads, walking}
 use Rattle.struct_plan.proofs.ChoiceFacts.{starts, found-gives, missing-gives, found-structure}
 use Rattle.struct_plan.proofs.walks.walk_by.Goals as goal
 use mir.Val.{to_z, of_z}
@@ -22,7 +22,7 @@ loop-structure-init g c =
       leads = λ dfhsize end at gives.
           subst (λ (v : ℤ). Leads db (g.N.Numbers.source c.args.numbers.now) end (chosen (walking [] course (taken values)) v (structure db v))) (sym next)
           (starts db (g.N.Numbers.source c.args.numbers.now) end c.args.tpsd c.args.start dfhsize course (taken values) c.requires.there at (ap (λ (x : ℤ). record { cursor = x; last = pos 0 }) cursor) none gives);
-      near = subst (λ (x : ℤ). IsNear x 0) (sym cursor) (record { low = omega (arith, ints); high = omega (arith, ints) });
+      reach = subst (λ (x : ℤ). IsInReach x 0) (sym cursor) (record { low = omega (arith, ints); high = omega (arith, ints) });
       used = omega arith;
       slots = c.requires.slots;
       borrow = refl;
@@ -56,7 +56,7 @@ loop-structure-preserved g c =
           (c.in-Chosen.ensures.comes end
           (found-gives db source end c.in-Some.structure.now c.loop-structure.course (taken c.loop-structure.values) (to_z w128 c.loop-structure.next-bits) c.in-Some.ensures.found
           (c.loop-structure.invariant.leads dfhsize end at gives)));
-      near = goes.near;
+      reach = goes.reach;
       used = c.walk_structure.ensures.stays.used;
       slots = c.walk_structure.ensures.stays.slots;
       borrow = c.walk_structure.ensures.stays.borrow ∙ c.loop-structure.invariant.borrow;

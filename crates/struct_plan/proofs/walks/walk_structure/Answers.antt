@@ -2,7 +2,7 @@ use Rattle.std.proofs.Common.{◌≡◌, ◌∙◌, length, None, refl, sym, sub
 use Rattle.mib_model.specs.Fixed.{most_values}
 use Rattle.bit_field.specs.Taken.{taken}
 use Rattle.struct_plan.specs.declared.place.RowPlace.{RowPlace}
-use Rattle.struct_plan.specs.Courses.{Gives, IsNear, walking}
+use Rattle.struct_plan.specs.Courses.{Gives, IsInReach, walking}
 use Rattle.struct_plan.specs.Groups.{still_to_walk}
 use Rattle.struct_plan.specs.Places.{groups, IsAmong}
 use Rattle.struct_plan.specs.Stacks.{IsWithin}
@@ -22,7 +22,7 @@ loop-place-init g c =
     record {
       gives = λ end gives. subst (λ (p : RowPlace). Gives db (g.N.Numbers.source c.args.numbers.now) end (walking (still_to_walk rows p.at (groups values p)) course (taken values))) there gives;
       among = subst (IsAmong rows values) there among;
-      near = subst (λ (p : RowPlace). IsNear course.cursor p.at) there c.requires.near;
+      reach = subst (λ (p : RowPlace). IsInReach course.cursor p.at) there c.requires.reach;
       more = omega arith;
       used = c.requires.slots.used;
       slots = c.requires.slots.slots;
@@ -42,7 +42,7 @@ loop-place-preserved g c =
     record {
       gives = λ end gives. c.in_default.ensures.goes end (c.loop-place.invariant.gives end gives);
       among = c.in_default.ensures.among refl;
-      near = c.in_default.ensures.near refl;
+      reach = c.in_default.ensures.reach refl;
       more = later c.loop-place.invariant.more (c.in_default.ensures.further refl);
       used = c.walk_row.ensures.stays.used;
       slots = c.walk_row.ensures.stays.slots;

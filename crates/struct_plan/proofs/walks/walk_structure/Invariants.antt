@@ -2,7 +2,7 @@ use Rattle.std.proofs.Common.{◌≡◌, ◌+◌, ◌-◌, ◌*◌, ◌≤◌, l
 use Rattle.mib_model.specs.Fixed.{most_values}
 use Rattle.struct_plan.specs.Sources.{Walked}
 use Rattle.bit_field.specs.Taken.{taken}
-use Rattle.struct_plan.specs.Courses.{Gives, IsNear, walking}
+use Rattle.struct_plan.specs.Courses.{Gives, IsInReach, walking}
 use Rattle.struct_plan.specs.Groups.{still_to_walk}
 use Rattle.struct_plan.specs.Places.{groups, IsAmong}
 use Rattle.struct_plan.proofs.walks.walk_structure.Given as goal
@@ -12,7 +12,7 @@ invariant-loop-place g l = record {
   gives : (end : Walked) → Gives (g.S.Structures.tables l.all) (g.N.Numbers.source l.numbers) end (walking l.structure.vpds l.initial.course (taken l.initial.values)) →
       Gives (g.S.Structures.tables l.all) (g.N.Numbers.source l.numbers) end (walking (still_to_walk l.structure.vpds l.place.at (groups l.values l.place)) l.course (taken l.values));
   among : IsAmong l.structure.vpds l.values l.place;
-  near : IsNear l.course.cursor l.place.at;
+  reach : IsInReach l.course.cursor l.place.at;
   more : l.initial.values.used ≤ l.values.used;
   used : l.values.used ≤ most_values;
   slots : length l.values.slots.now ≡ most_values;

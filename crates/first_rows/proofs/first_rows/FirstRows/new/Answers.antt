@@ -1,7 +1,7 @@
 use Rattle.std.proofs.Common.{◌∙◌, List, Some, ap, length, sym}
 use Rattle.std.specs.List.{find}
 use Rattle.std.specs.Option.{option_eq}
-use Rattle.first_rows.proofs.NearFacts.{none-at}
+use Rattle.first_rows.proofs.ByNumberFacts.{none-at}
 use Rattle.first_rows.proofs.first_rows.FirstRows.new.Goals as goal
 
 pub invariant_of-result : goal.invariant_of-result

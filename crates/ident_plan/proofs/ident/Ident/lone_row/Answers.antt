@@ -1,8 +1,8 @@
 use Rattle.std.proofs.Common.{◌≡◌, ◌∙◌, Bool, List, [], ◌∷◌, get_or, Some, None, if◌then◌else◌, sym, ap, subst, true}
 use Rattle.std.specs.List.{filter, find}
 use Rattle.mib_model.specs.declared.rows.PidRow.{PidRow}
-use Rattle.ident_plan.specs.declared.kin.Kin.{Kin}
-use Rattle.ident_plan.specs.declared.kin.Kin.TheVariants.{One, More}
+use Rattle.ident_plan.specs.declared.fast.kin.Kin.{Kin}
+use Rattle.ident_plan.specs.declared.fast.kin.Kin.TheVariants.{One, More}
 use Rattle.packet_keys.specs.declared.keys.PacketKey.{PacketKey}
 use Rattle.ident_plan.specs.Kins.{is_of, IsKin}
 use Rattle.ident_plan.specs.Rows.{IdentRows}

@@ -6,13 +6,13 @@ use Rattle.mib_model.specs.declared.packet.Value.{Value}
 use Rattle.mib_model.specs.Fixed.{most_values}
 use Rattle.mib_model.specs.Walk.{Walking}
 use Rattle.row_interpreter.specs.Readings.{IsOf}
-use Rattle.row_walk.proofs.WalkFacts.{always, moved-near, one-fits, there-is-of}
+use Rattle.row_walk.proofs.WalkFacts.{always, moved-reach, one-fits, there-is-of}
 use Rattle.row_walk.proofs.walk.Walk.give.Goals as goal
 
-pub returns-clause-near : goal.returns-clause-near
-returns-clause-near c =
+pub returns-clause-reach : goal.returns-clause-reach
+returns-clause-reach c =
     always c.go_on.result _
-    (moved-near c.args.self.now.cursor c.go_on.new.self.cursor c.moved_by.result (omega arith) (c.go_on.ensures.cursor ∙ ap (λ (w : Walking). w.cursor) c.in_ok-take.ensures))
+    (moved-reach c.args.self.now.cursor c.go_on.new.self.cursor c.moved_by.result (omega arith) (c.go_on.ensures.cursor ∙ ap (λ (w : Walking). w.cursor) c.in_ok-take.ensures))
 
 pub returns-clause-few : goal.returns-clause-few
 returns-clause-few c =

@@ -1,5 +1,0 @@
-use Rattle.bit_writer.proofs.NearFacts.{moved-bit}
-use Rattle.bit_writer.proofs.near.field_in.Goals as goal
-
-pub returns : goal.returns
-returns c i low = moved-bit c.args.number c.args.skip c.args.width i c.requires.some c.requires.near low

@@ -1,4 +1,0 @@
-use Rattle.first_rows.proofs.first_rows.nears.Goals as goal
-
-pub loop-row-preserved : goal.loop-row-preserved
-loop-row-preserved g c = c.put.ensures c.args.rows.now c.requires c.loop-row.invariant
