@@ -4,7 +4,7 @@ use Rattle.std.specs.List.{AllByRecursion, last_or}
 use Rattle.std.specs.List.Sorted.{IsPartitionPoint, IsPartitionedBy}
 use Rattle.dec_num.specs.declared.curve.Point.{Point}
 use Rattle.mib_model.specs.Points.{Knot, neighbours, pair_for}
-use Rattle.curve_plan.specs.declared.slope.Slope.{Slope}
+use Rattle.curve_plan.specs.declared.fast.slope.Slope.{Slope}
 use Rattle.mib_model.specs.Calibrated.{Counted}
 use Rattle.mib_model.specs.Points.{on_pair}
 use Rattle.curve_plan.specs.Slopes.{IsLine, IsOnLine, IsSlope}

@@ -10,7 +10,7 @@ use Rattle.mib_model.specs.Calibrated.{Counted, calibrated, is_wide, is_wide_res
 use Rattle.mib_model.specs.Counts.{half}
 use Rattle.mib_model.specs.Decimals.{with_sign}
 use Rattle.mib_model.specs.Points.{Knot, interpolated, on_pair, product_of}
-use Rattle.curve_plan.specs.declared.slope.Slope.{Slope}
+use Rattle.curve_plan.specs.declared.fast.slope.Slope.{Slope}
 use Rattle.curve_plan.specs.Slopes.{climbed, rise_of, IsOnLine, IsSlope}
 use Rattle.dec_num.proofs.ScalingFacts.{nat_abs-neg}
 
@@ -84,11 +84,11 @@ interpolated-between p q s raw numbers slope place inside =
     let less : rise ≤ 2 ^ 64 = omega (arith, slope.line.small) in
     let two : 2 ^ 32 * rise ≤ 2 ^ 32 * 2 ^ 64 = mul-le-mul_left (2 ^ 32) less in
     omega (arith, one, two) in
-    let near_rise : is_wide (q.y -ℤ p.y) ≡ false = rw slope.rise (grind (arith, nat_tests, signed-magnitude s.falls rise, slope.line.small)) in
-    let near_product : is_wide (product_of p q raw) ≡ false = rw product (grind (arith, nat_tests, signed-magnitude s.falls (numbers * rise), small)) in
-    let near_value : is_wide_result (p.y +ℤ with_sign s.falls climb) ≡ false =
-    narrow-result p.y s.falls climb slope.near (omega (arith, slope.line.small, climbed-within numbers rise s.run inside)) in
-    rw (near_rise, near_product, offset, near_value) refl
+    let narrow_rise : is_wide (q.y -ℤ p.y) ≡ false = rw slope.rise (grind (arith, nat_tests, signed-magnitude s.falls rise, slope.line.small)) in
+    let narrow_product : is_wide (product_of p q raw) ≡ false = rw product (grind (arith, nat_tests, signed-magnitude s.falls (numbers * rise), small)) in
+    let narrow_value : is_wide_result (p.y +ℤ with_sign s.falls climb) ≡ false =
+    narrow-result p.y s.falls climb slope.word (omega (arith, slope.line.small, climbed-within numbers rise s.run inside)) in
+    rw (narrow_rise, narrow_product, offset, narrow_value) refl
 
 -- what two points make of a raw number between them
 on-between : (p q : Knot) (inter : ℕ) (raw v : ℤ) → p.x ≤ℤ raw → raw ≤ℤ q.x → Ok v ≡ interpolated p q raw → Counted v ≡ on_pair inter raw (Some (p, q))

@@ -2,7 +2,7 @@
 use Rattle.std.specs.Prelude.{◌≡◌, ◌≢◌, ◌<ℤ◌, List, [], ◌∷◌, Option, map, filter_map, false, IfSome}
 use Rattle.std.specs.List.{AllByRecursion}
 use Rattle.dec_num.specs.declared.curve.Point.{Point}
-use Rattle.curve_plan.specs.declared.slope.Slope.{Slope}
+use Rattle.curve_plan.specs.declared.fast.slope.Slope.{Slope}
 use Rattle.curve_plan.specs.Slopes.{IsSlope}
 use Rattle.mib_model.specs.declared.plan.CurveRows.{CurveRows}
 use Rattle.mib_model.specs.declared.plan.CurveRows.TheVariants.{Points}

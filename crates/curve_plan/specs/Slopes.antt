@@ -1,6 +1,6 @@
 -- Lines between two points, by the quotient of the rise and the numbers between them. [This profile.]
 use Rattle.std.specs.Prelude.{◌≡◌, ◌<◌, ◌≤◌, ℕ, ℤ, ◌+◌, ◌*◌, ◌/◌, ◌^◌, pos, ◌+ℤ◌, ◌-ℤ◌, ◌<ℤ◌, ◌≤ℤ◌, neg_ℤ, nat_abs}
-use Rattle.curve_plan.specs.declared.slope.Slope.{Slope}
+use Rattle.curve_plan.specs.declared.fast.slope.Slope.{Slope}
 use Rattle.mib_model.specs.Decimals.{with_sign}
 use Rattle.mib_model.specs.Points.{Knot}
 
@@ -34,4 +34,4 @@ pub record IsSlope (p q : Knot) (slope : Slope) : Type 0 where
   pub y : p.y ≡ slope.y
   pub run : q.x -ℤ p.x ≡ pos slope.run
   pub rise : q.y -ℤ p.y ≡ with_sign slope.falls (rise_of slope)
-  pub near : nat_abs p.y ≤ 2 ^ 63
+  pub word : nat_abs p.y ≤ 2 ^ 63

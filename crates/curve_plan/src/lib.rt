@@ -6,12 +6,11 @@
 #![tactic(auto)]
 
 mod curve;
-mod index;
+mod fast;
 mod pair;
 mod points;
 mod ranges;
 mod rows;
-mod slope;
 
 pub use curve::Curve;
 pub use mib_model::Cal;

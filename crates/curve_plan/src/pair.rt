@@ -1,5 +1,5 @@
 // Two points of a curve, and the line between them.
-use crate::slope::Slope;
+use crate::fast::slope::Slope;
 use dec_num::Point;
 
 /// Two points, and the slope of the line from one to the other where it is at hand.

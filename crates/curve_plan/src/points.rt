@@ -1,6 +1,5 @@
 // Curves by points.
-ghost use Rattle.std.specs.Prelude.{ℕ, ◌≡◌, ◌+◌, ◌-◌, ◌≤◌, min, length, filter, int_le, ◌≤ℤ◌, ◌<ℤ◌, option_map, filter_map, get_or, None, Some, IfOk, IfSome};
-ghost use Rattle.mib_model.specs.Calibrated.{Counted};
+ghost use Rattle.std.specs.Prelude.{◌≡◌, ◌+◌, ◌-◌, ◌≤◌, min, length, filter, int_le, ◌≤ℤ◌, ◌<ℤ◌, option_map, filter_map, get_or, None, Some, IfOk, IfSome};
 ghost use Rattle.mib_model.specs.CalibrationViews.{calibrated_as};
 ghost use Rattle.mib_model.specs.Points.{knot_of, knots, neighbours, on_pair, pair_for};
 ghost use Rattle.mib_model.specs.WholeNumbers.{least_raw, greatest_raw};
@@ -8,19 +7,20 @@ ghost use Rattle.curve_plan.specs.Knots.{knot_at, knots_at, Climbs, AreApart, Ar
 ghost use Rattle.curve_plan.specs.Pairs.{pair_at};
 ghost use Rattle.curve_plan.specs.Slopes.{IsSlope};
 
-use crate::index::{NEAR, PointIndex, near_number, nearest};
+use crate::fast;
+use crate::fast::index::PointIndex;
+use crate::fast::slope::Slope;
 use crate::pair::Pair;
-use crate::slope::{Slope, slope_of};
 use dec_num::{Point, eng_of, interp, whole_number};
-use mib_model::{CafRow, Cal, CapRow, Eng};
+use mib_model::{CafRow, Cal, CapRow};
 use std::alloc::{AllocError, Global};
 
 /// The points of a curve in order of x, the slopes between them, and whether the curve goes on beyond them.
 #[derive(Drop)]
 pub struct PointCurve {
     points: Vec<Point>,
-    slopes: Vec<Option<Slope>>,
-    index: PointIndex,
+    pub(crate) slopes: Vec<Option<Slope>>,
+    pub(crate) index: PointIndex,
     inter: u8,
 }
 
@@ -56,19 +56,6 @@ fn sorted_points(alloc: Global, caf: &CafRow, caps: &[CapRow]) -> Result<Vec<Poi
     let mut points = points_of(alloc, caf.radix, caps)?;
     points.sort_by_key(|point| point.x)?;
     Ok(points)
-}
-
-// The slope of the line from each point to the next.
-#[tactic(auto, using(crate::proofs::PairFacts::sloped))]
-fn slopes_of(alloc: Global, points: &[Point]) -> Result<Vec<Option<Slope>>, AllocError>
-    requires { Climbs (knots_at points.now) }
-    ensures { IfOk result (λ slopes. AreSlopes (knots_at points.now) slopes.items) }
-{
-    let mut slopes = Vec::new(alloc);
-    for at in 1..points.len() {
-        slopes.push(slope_of(points[at - 1], points[at]))?;
-    }
-    Ok(slopes)
 }
 
 // The slope at a place, where there is one.
@@ -113,15 +100,6 @@ fn pair_of(points: &[Point], slopes: &[Option<Slope>], raw: i128) -> Option<Pair
     })
 }
 
-// The x of points, each as near as 64 bits come to it.
-fn starts_of(alloc: Global, points: &[Point]) -> Result<Vec<i64>, AllocError> {
-    let mut starts = Vec::new(alloc);
-    for point in points {
-        starts.push(nearest(point.x))?;
-    }
-    Ok(starts)
-}
-
 // What two points make of a raw number, step by step.
 fn on_any_line(p: Point, q: Point, inter: u8, raw: i128) -> Cal<'static>
     requires order { p.x <ℤ q.x }
@@ -138,16 +116,6 @@ fn on_any_line(p: Point, q: Point, inter: u8, raw: i128) -> Cal<'static>
     }
 }
 
-// The value of a raw number between two points by the slope there, where that is at hand.
-#[tactic(auto, using(crate::proofs::SlopeFacts::between))]
-fn on_slope(pair: Pair, raw: i128) -> Option<Eng>
-    requires order { pair.p.x <ℤ pair.q.x }
-    requires sloped { IfSome pair.slope (IsSlope (knot_at pair.p) (knot_at pair.q)) }
-    ensures { IfSome result (λ value. (inter : ℕ) → Counted value.count ≡ on_pair inter raw (Some (pair_at pair))) }
-{
-    pair.slope?.value_at(near_number(raw)?)
-}
-
 // What two points make of a raw number.
 fn on_line(pair: Pair, inter: u8, raw: i128) -> Cal<'static>
     requires order { pair.p.x <ℤ pair.q.x }
@@ -156,7 +124,7 @@ fn on_line(pair: Pair, inter: u8, raw: i128) -> Cal<'static>
     requires high { raw ≤ℤ greatest_raw }
     ensures { calibrated_as result ≡ on_pair inter raw (option_map pair_at (Some pair)) }
 {
-    match on_slope(pair, raw) {
+    match fast::points::on_slope(pair, raw) {
         Some(value) => Cal::Value(value),
         None => on_any_line(pair.p, pair.q, inter, raw),
     }
@@ -183,34 +151,14 @@ impl PointCurve {
         ensures inter { IfOk result (λ curve. curve.inter ≡ caf.now.inter) }
     {
         let points = sorted_points(alloc, caf, caps)?;
-        let slopes = slopes_of(alloc, &points)?;
-        let index = PointIndex::compile(alloc, &starts_of(alloc, &points)?)?;
+        let slopes = fast::points::slopes_of(alloc, &points)?;
+        let index = PointIndex::compile(alloc, &fast::points::starts_of(alloc, &points)?)?;
         Ok(PointCurve {
             points,
             slopes,
             index,
             inter: caf.inter,
         })
-    }
-
-    // The value of a raw number on a line near where the index says.
-    #[inline(always)]
-    fn near(&self, raw: i128) -> Option<Eng>
-        requires climbs { Climbs (knots_at self.now.points.items) }
-        requires slopes { AreSlopes (knots_at self.now.points.items) self.now.slopes.items }
-        ensures { IfSome result (λ value. Counted value.count ≡ on_pair self.now.inter raw (pair_for raw (neighbours (knots_at self.now.points.items)))) }
-    {
-        let raw = near_number(raw)?;
-        let first = self.index.first(raw.cast_unsigned());
-        for step in 0..NEAR {
-            let Some(Some(slope)) = self.slopes.get(first.saturating_add(step)) else {
-                return None;
-            };
-            if let Some(value) = slope.value_before(raw) {
-                return Some(value);
-            }
-        }
-        None
     }
 
     // What the curve makes of a raw number whose line is searched for.
@@ -238,7 +186,7 @@ impl PointCurve {
         requires high { raw ≤ℤ greatest_raw }
         ensures { calibrated_as result ≡ on_pair self.now.inter raw (pair_for raw (neighbours (knots_at self.now.points.items))) }
     {
-        match self.near(raw) {
+        match fast::points::indexed(self, raw) {
             Some(value) => Cal::Value(value),
             None => self.searched(raw),
         }

@@ -1,11 +1,12 @@
 // Curves by status texts.
-ghost use Rattle.std.specs.Prelude.{◌≡◌, ◌&&◌, ℤ, true, int_le, filter_map, length, Some, IfOk, IfSome, IsTrue};
+ghost use Rattle.std.specs.Prelude.{◌≡◌, ◌&&◌, ℤ, true, int_le, filter_map, length, IfOk, IsTrue};
 ghost use Rattle.std.specs.List.{AllAdjacentBelow, find};
 ghost use Rattle.std.specs.Option.{option_copied};
 ghost use Rattle.mib_model.specs.CalibrationViews.{calibrated_as};
 ghost use Rattle.curve_plan.specs.Ranges.{range_of, holds_raw, text_of_range, precedes, AreSeparate};
 
-use crate::index::{NEAR, PointIndex, lower_word, nearest};
+use crate::fast;
+use crate::fast::index::PointIndex;
 use dec_num::decimal_whole;
 use mib_model::{Cal, Text, TxpRow};
 use std::alloc::{AllocError, Global};
@@ -13,8 +14,8 @@ use std::alloc::{AllocError, Global};
 /// A range of raw numbers with its status text.
 #[derive(Clone, Copy)]
 pub struct Range {
-    low: i128,
-    high: i128,
+    pub(crate) low: i128,
+    pub(crate) high: i128,
     text: Text,
 }
 
@@ -35,9 +36,9 @@ impl Range {
 /// The ranges of a curve: in ascending order where they are separate, else in file order.
 #[derive(Drop)]
 pub struct RangeCurve {
-    ranges: Vec<Range>,
-    separate: bool,
-    index: PointIndex,
+    pub(crate) ranges: Vec<Range>,
+    pub(crate) separate: bool,
+    pub(crate) index: PointIndex,
 }
 
 // The range of a row, where its bounds are whole numbers.
@@ -95,30 +96,6 @@ fn halved(ranges: &[Range], raw: i128) -> Option<&Range>
     if raw <= range.high { Some(range) } else { None }
 }
 
-// The only range that holds a raw number, where it is one of the next from a place on.
-#[inline(always)]
-fn next_holding(ranges: &[Range], first: usize, raw: i128) -> Option<&Range>
-    requires { AreSeparate ranges.now }
-    ensures { IfSome result (λ range. find (holds_raw raw) ranges.now ≡ Some range.now) }
-{
-    for step in 0..NEAR {
-        let range = ranges.get(first.saturating_add(step))?;
-        if raw <= range.high {
-            return if range.low <= raw { Some(range) } else { None };
-        }
-    }
-    None
-}
-
-// The numbers at which ranges begin, each as near as 64 bits come to it.
-fn starts_of(alloc: Global, ranges: &[Range]) -> Result<Vec<i64>, AllocError> {
-    let mut starts = Vec::new(alloc);
-    for range in ranges {
-        starts.push(nearest(range.low))?;
-    }
-    Ok(starts)
-}
-
 impl RangeCurve {
     /// A number made of a range in the middle.
     pub fn touch(&self) -> usize {
@@ -137,7 +114,7 @@ impl RangeCurve {
         let ranges = ranges_of(alloc, txps)?;
         let mut ascending = Vec::from_slice(alloc, &ranges)?;
         ascending.sort_by_key(|range| range.low)?;
-        let index = PointIndex::compile(alloc, &starts_of(alloc, &ascending)?)?;
+        let index = PointIndex::compile(alloc, &fast::ranges::starts_of(alloc, &ascending)?)?;
         if are_separate(&ascending) {
             Ok(RangeCurve {
                 ranges: ascending,
@@ -167,25 +144,13 @@ impl RangeCurve {
         }
     }
 
-    // The range that holds a raw number, where it lies near where the index says.
-    #[inline(always)]
-    fn near(&self, raw: i128) -> Option<&Range>
-        requires { self.now.separate ≡ true → AreSeparate self.now.ranges.items }
-        ensures { IfSome result (λ range. find (holds_raw raw) self.now.ranges.items ≡ Some range.now) }
-    {
-        if !self.separate {
-            return None;
-        }
-        next_holding(&self.ranges, self.index.first(lower_word(raw)), raw)
-    }
-
     // The range that a raw number's text is taken from.
     #[inline(always)]
     fn range(&self, raw: i128) -> Option<&Range>
         requires { self.now.separate ≡ true → AreSeparate self.now.ranges.items }
         ensures { option_copied result ≡ find (holds_raw raw) self.now.ranges.items }
     {
-        match self.near(raw) {
+        match fast::ranges::indexed(self, raw) {
             Some(range) => Some(range),
             None => self.searched(raw),
         }

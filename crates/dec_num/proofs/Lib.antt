@@ -7,5 +7,5 @@ pub mod TextFacts
 pub mod LineFacts
 pub mod BaseFacts
 pub mod PolynomialFacts
-pub mod NearFacts
-pub mod NearSumFacts
+pub mod WordFacts
+pub mod WordSumFacts

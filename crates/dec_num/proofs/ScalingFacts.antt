@@ -41,13 +41,13 @@ mul-zero_ℤ a b none = rw none (zero_at a)
     zero_at (pos n) = rw mul-zero refl
     zero_at (negsuc n) = rw mul-zero refl
 
-pub ruleset far_products = (narrow-product, mul-zero_ℤ)
+pub ruleset wide_products = (narrow-product, mul-zero_ℤ)
 
 -- a product of numbers of 64 bits has few bits
-pub near-product : (a b : ℤ) → nat_abs a ≤ 2 ^ 63 → nat_abs b ≤ 2 ^ 63 → nat_abs (a *ℤ b) ≤ 2 ^ 126
-near-product a b one two =
+pub word-product : (a b : ℤ) → nat_abs a ≤ 2 ^ 63 → nat_abs b ≤ 2 ^ 63 → nat_abs (a *ℤ b) ≤ 2 ^ 126
+word-product a b one two =
     let first : nat_abs a * nat_abs b ≤ 2 ^ 63 * nat_abs b = mul-le-mul_right (nat_abs b) one in
     let second : 2 ^ 63 * nat_abs b ≤ 2 ^ 63 * 2 ^ 63 = mul-le-mul_left (2 ^ 63) two in
     omega (arith, nat_abs-mul a b)
 
-pub ruleset near_products = (near-product)
+pub ruleset word_products = (word-product)

@@ -38,7 +38,7 @@ fn raised(count: i128, offset: i128) -> Result<Eng, Over>
 }
 
 // How far a number is from a point, times the rise of the line there.
-#[tactic(auto, using(crate::proofs::ScalingFacts::far_products))]
+#[tactic(auto, using(crate::proofs::ScalingFacts::wide_products))]
 fn climb(rise: i128, x: i128, raw: i128) -> Option<i128>
     ensures value { result ≡ narrow ((raw -ℤ x) *ℤ rise) }
     ensures within { IfSome result (λ z. nat_abs z < STEP_BOUND) }

@@ -9,7 +9,7 @@
 mod count;
 mod curve;
 mod digits;
-mod near_poly;
+mod fast;
 mod parts;
 mod polynomial;
 mod read;

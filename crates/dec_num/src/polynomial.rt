@@ -1,5 +1,5 @@
 // Polynomials, summed at one scale.
-ghost use Rattle.std.specs.Prelude.{◌≡◌, Some, ◌<◌, ◌≤◌, ◌≤ℤ◌, ◌+ℤ◌, ◌∷◌, ◌^◌, pos, length, take, nat_abs, true, false, IfSome, IfNone, OnSome};
+ghost use Rattle.std.specs.Prelude.{◌≡◌, ◌<◌, ◌≤◌, ◌≤ℤ◌, ◌+ℤ◌, ◌∷◌, ◌^◌, pos, length, nat_abs, true, false, IfSome, IfNone, OnSome};
 ghost use Rattle.std.specs.List.{list_any};
 ghost use Rattle.mib_model.specs.WholeNumbers.{least_raw, greatest_raw};
 ghost use Rattle.mib_model.specs.Calibrated.{is_wide};
@@ -7,12 +7,12 @@ ghost use Rattle.mib_model.specs.Counts as Counts;
 ghost use Rattle.mib_model.specs.Polynomials as Spec;
 ghost use Rattle.dec_num.specs.Narrow.{counted, narrow, narrow_result, or_over};
 ghost use Rattle.dec_num.specs.Sums.{without_zeros, advanced, sum_behind, sum_of};
-ghost use Rattle.dec_num.specs.NearSums.{near_sum, AreNear};
 ghost use Rattle.mib_model.specs.declared.limits.TheConstants.{STEP_BOUND};
 
-use crate::near_poly::NearPoly;
-use crate::rounding::{scaled_down, small_power};
-use crate::steps::{near_product, outcome, product, scaled_up, step, sum};
+use crate::fast;
+use crate::fast::WordPoly;
+use crate::rounding::scaled_down;
+use crate::steps::{outcome, product, scaled_up, step, sum};
 use mib_model::{Dec, Eng, Over};
 use std::marker::Model;
 use std::snapshot::Snapshot;
@@ -73,7 +73,7 @@ fn coefficients(a: &[Dec; 5], scale: u8) -> Option<(i128, [i128; 4])>
 }
 
 // Coefficients without the zeros at the end.
-fn up_to_degree(coefficients: &[i128]) -> &[i128]
+pub(crate) fn up_to_degree(coefficients: &[i128]) -> &[i128]
     requires { length coefficients.now ≤ 4 }
     ensures { result.now ≡ without_zeros coefficients.now }
 {
@@ -94,120 +94,20 @@ fn advance(raw: i128, power: i128, total: i128, coefficient: i128) -> Option<(i1
     Some((next, sum(total, term)?))
 }
 
-// The next power, and the sum with the term of its coefficient, where all are numbers of 64 bits.
-#[inline(always)]
-fn near_advance(raw: i64, power: i64, total: i64, coefficient: i64) -> Option<(i64, i64)>
-    ensures { IfSome result (λ p. advanced raw power total coefficient ≡ Some p) }
-{
-    let next = power.checked_mul(raw)?;
-    let term = coefficient.checked_mul(next)?;
-    Some((next, total.checked_add(term)?))
-}
-
-// A number as one of 64 bits, where it is.
-fn near_number(number: i128) -> Option<i64>
-    ensures { IfSome result (λ near. near ≡ number) }
-{
-    i64::try_from(number).ok()
-}
-
-// The coefficients as numbers of 64 bits, where all are.
-fn near_rest(rest: &[i128; 4]) -> Option<[i64; 4]>
-    ensures { IfSome result (λ near. near ≡ rest.now) }
-{
-    let [a, b, c, d] = *rest;
-    Some([
-        near_number(a)?,
-        near_number(b)?,
-        near_number(c)?,
-        near_number(d)?,
-    ])
-}
-
-// How many of the coefficients of the powers from 1 on come up to the degree.
-#[tactic(auto, using(crate::proofs::NearSumFacts::degrees))]
-fn degree_of(rest: &[i128; 4]) -> u8
-    ensures value { take result rest.now ≡ without_zeros rest.now }
-    ensures few { result ≤ 4 }
-{
-    up_to_degree(rest).len() as u8
-}
-
-// Coefficients that are all numbers of 64 bits.
-fn near_of(scaled: &Option<(i128, [i128; 4])>) -> Option<NearPoly>
-    ensures { AreNear result scaled.now }
-{
-    let (first, rest) = (*scaled)?;
-    Some(NearPoly {
-        first: near_number(first)?,
-        rest: near_rest(&rest)?,
-        count: degree_of(&rest),
-    })
-}
-
-// The sum of a first coefficient and of those of the powers from 1 on, where all are numbers of 64 bits.
-#[inline(always)]
-fn near_total(first: i64, rest: &[i64], raw: i64) -> Option<i64>
-    ensures { IfSome result (λ z. sum_behind raw (pos 1) first rest.now ≡ Some z) }
-{
-    let mut power = 1_i64;
-    let mut total = first;
-    for coefficient in rest {
-        let (next, more) = near_advance(raw, power, total, *coefficient)?;
-        power = next;
-        total = more;
-    }
-    Some(total)
-}
-
-// The sum of coefficients at a number that isn't a word of 32 bits, where all are numbers of 64 bits.
-#[inline(never)]
-fn long_sum(near: &NearPoly, raw: i128) -> Option<i64>
-    ensures { IfSome result (λ z. near_sum (Some near.now) raw ≡ Some z) }
-{
-    let raw = near_number(raw)?;
-    near_total(near.first, &near.rest[..usize::from(near.count)], raw)
-}
-
-// The sum of coefficients at a number, where all are numbers of 64 bits.
-#[inline(always)]
-fn short_sum(near: &NearPoly, raw: i128) -> Option<i64>
-    ensures { IfSome result (λ z. near_sum (Some near.now) raw ≡ Some z) }
-{
-    match u32::try_from(raw) {
-        Ok(raw) => {
-            let raw = i64::from(raw);
-            near_total(near.first, &near.rest[..usize::from(near.count)], raw)
-        }
-        Err(_) => long_sum(near, raw),
-    }
-}
-
-// The sum of coefficients at a number, where they are there and all are numbers of 64 bits.
-#[inline(always)]
-fn near_sum(near: &Option<NearPoly>, raw: i128) -> Option<i64>
-    ensures { IfSome result (λ z. near_sum near.now raw ≡ Some z) }
-{
-    match near {
-        Some(near) => short_sum(near, raw),
-        None => None,
-    }
-}
-
 // The sum of coefficients at a number, where no step is too wide.
 #[cold]
 #[inline(never)]
-fn far_sum(scaled: &Option<(i128, [i128; 4])>, raw: i128) -> Option<i128>
+fn sum_of(scaled: &Option<(i128, [i128; 4])>, raw: i128) -> Option<i128>
     requires { IfSome scaled.now (λ c. nat_abs c.0 < STEP_BOUND) }
     ensures value { result ≡ sum_of scaled.now raw }
     ensures within { IfSome result (λ z. nat_abs z < STEP_BOUND) }
 {
     let (first, rest) = (*scaled)?;
-    far_total(first, up_to_degree(&rest), raw)
+    total(first, up_to_degree(&rest), raw)
 }
 
 // The sum of a first coefficient and of those of the powers from 1 on, step by step, where no step is too wide.
-fn far_total(first: i128, rest: &[i128], raw: i128) -> Option<i128>
+fn total(first: i128, rest: &[i128], raw: i128) -> Option<i128>
     requires { nat_abs first < STEP_BOUND }
     ensures value { result ≡ sum_behind raw (pos 1) first rest.now }
     ensures within { IfSome result (λ z. nat_abs z < STEP_BOUND) }
@@ -222,16 +122,6 @@ fn far_total(first: i128, rest: &[i128], raw: i128) -> Option<i128>
     Some(total)
 }
 
-// A sum of 64 bits at a scale of 12 at most, brought to counts of 10^-12.
-#[tactic(auto, using(crate::proofs::NearFacts::near_counts))]
-#[inline(always)]
-fn near_to_count(sum: i64, scale: u8) -> i128
-    requires { scale ≤ 12 }
-    ensures { Some result ≡ narrow_result (Spec.to_count scale sum) }
-{
-    near_product(sum, small_power(12 - u32::from(scale)) as i64)
-}
-
 // A sum at a scale, brought to counts of 10^-12, where it is below the bound of results.
 #[inline(always)]
 fn to_count(sum: i128, scale: u8) -> Option<i128>
@@ -239,15 +129,15 @@ fn to_count(sum: i128, scale: u8) -> Option<i128>
     ensures { result ≡ narrow_result (Spec.to_count scale sum) }
 {
     match i64::try_from(sum) {
-        Ok(sum) if scale <= 12 => Some(near_to_count(sum, scale)),
-        _ => far_to_count(sum, scale),
+        Ok(sum) if scale <= 12 => Some(fast::to_count(sum, scale)),
+        _ => to_count_by_steps(sum, scale),
     }
 }
 
 // A sum at a scale, brought to counts of 10^-12 step by step, where it is below the bound of results.
 #[cold]
 #[inline(never)]
-fn far_to_count(sum: i128, scale: u8) -> Option<i128>
+fn to_count_by_steps(sum: i128, scale: u8) -> Option<i128>
     requires { nat_abs sum < STEP_BOUND }
     ensures { result ≡ narrow_result (Spec.to_count scale sum) }
 {
@@ -259,7 +149,7 @@ fn far_to_count(sum: i128, scale: u8) -> Option<i128>
 #[derive(Drop)]
 pub struct PolyCurve {
     scale: u8,
-    near: Option<NearPoly>,
+    words: Option<WordPoly>,
     scaled: Option<(i128, [i128; 4])>,
     decs: Snapshot<[Dec; 5]>,
 }
@@ -269,13 +159,13 @@ impl Model for PolyCurve {
     ghost use Rattle.mib_model.specs.declared.number.Dec.{Dec};
     ghost use Rattle.mib_model.specs.Polynomials.{scale_of};
     ghost use Rattle.dec_num.specs.Sums.{AreScaled};
-    ghost use Rattle.dec_num.specs.NearSums.{AreNear};
+    ghost use Rattle.dec_num.specs.WordSums.{AreWords};
 
     ghost Value = { List Dec };
 
     ghost view = { λ poly. poly.decs.value };
 
-    ghost invariant = { λ poly. (poly.scale ≡ scale_of poly.decs.value) × AreScaled poly.decs.value poly.scale poly.scaled × AreNear poly.near poly.scaled };
+    ghost invariant = { λ poly. (poly.scale ≡ scale_of poly.decs.value) × AreScaled poly.decs.value poly.scale poly.scaled × AreWords poly.words poly.scaled };
 }
 
 impl PolyCurve {
@@ -287,7 +177,7 @@ impl PolyCurve {
         let scaled = coefficients(a, scale);
         PolyCurve {
             scale,
-            near: near_of(&scaled),
+            words: fast::word_poly(&scaled),
             scaled,
             decs: Snapshot::of(a),
         }
@@ -298,9 +188,9 @@ impl PolyCurve {
     fn count_at(&self, raw: i128) -> Option<i128>
         ensures { or_over result ≡ Spec.polynomial self.now raw }
     {
-        match near_sum(&self.near, raw) {
+        match fast::sum(&self.words, raw) {
             Some(sum) => to_count(i128::from(sum), self.scale),
-            None => to_count(far_sum(&self.scaled, raw)?, self.scale),
+            None => to_count(sum_of(&self.scaled, raw)?, self.scale),
         }
     }
 

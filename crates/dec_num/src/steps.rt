@@ -3,6 +3,7 @@ ghost use Rattle.std.specs.Prelude.{◌≡◌, ◌<◌, ◌≤◌, ◌+ℤ◌, �
 ghost use Rattle.dec_num.specs.Narrow.{narrow, narrow_result};
 ghost use Rattle.mib_model.specs.declared.limits.TheConstants.{STEP_BOUND};
 
+use crate::fast;
 use crate::rounding::power;
 use mib_model::{RESULT_BOUND, STEP_BOUND};
 
@@ -45,21 +46,13 @@ pub fn difference(a: i128, b: i128) -> Option<i128>
     step(a.checked_sub(b)?)
 }
 
-/// A product of numbers of 64 bits.
-#[tactic(auto, using(crate::proofs::ScalingFacts::near_products))]
-pub fn near_product(a: i64, b: i64) -> i128
-    ensures { result ≡ a *ℤ b }
-{
-    i128::from(a) * i128::from(b)
-}
-
 /// A product, where it is below the bound of steps, by words of 64 bits where both numbers are that small.
 pub fn product(a: i128, b: i128) -> Option<i128>
     ensures value { result ≡ narrow (a *ℤ b) }
     ensures within { IfSome result (λ z. nat_abs z < STEP_BOUND) }
 {
     match (i64::try_from(a), i64::try_from(b)) {
-        (Ok(a), Ok(b)) => step(near_product(a, b)),
+        (Ok(a), Ok(b)) => step(fast::product(a, b)),
         _ => step(a.checked_mul(b)?),
     }
 }

@@ -1,4 +1,0 @@
-use Rattle.curve_plan.proofs.points.PointCurve.near.Given as goal
-
-abbrev pub invariant-loop-step : goal.invariant-loop-step
-invariant-loop-step l = Unit {0}
