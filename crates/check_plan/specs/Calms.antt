@@ -1,6 +1,6 @@
 -- The counts of which nothing is told, whatever is kept and whatever the last number was. [This profile.]
 use Rattle.std.specs.Prelude.{ℤ, int_lt, Bool, false, ◌==◌, ◌&&◌, ◌||◌, not}
-use Rattle.check_plan.specs.declared.calm.Calm.{Calm}
+use Rattle.check_plan.specs.declared.fast.Calm.{Calm}
 use Rattle.check_plan.specs.declared.limit.Limit.{Limit}
 use Rattle.mib_model.specs.Checks.{Sample, Numbered, Worded}
 use Rattle.mib_model.specs.Letters.{letter}

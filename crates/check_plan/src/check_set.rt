@@ -6,8 +6,8 @@ ghost use Rattle.check_plan.specs.Samples.{count_of, sample_of};
 
 use crate::apart::{Apart, apart_of, asked_behind, states_behind};
 use crate::asked::{AskedLimit, any_asked_passed, any_asked_step_passed};
-use crate::calm::Calm;
 use crate::condition::Holds;
+use crate::fast::Calm;
 use crate::limit::{Limit, all_limits, any_passed, any_step_passed};
 use crate::sample::Sample;
 use crate::state::{State, any_agrees, any_applies};

@@ -8,10 +8,10 @@
 mod alarm;
 mod apart;
 mod asked;
-mod calm;
 mod check_set;
 mod checks;
 mod condition;
+mod fast;
 mod limit;
 mod sample;
 mod state;

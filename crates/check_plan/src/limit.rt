@@ -4,7 +4,7 @@ ghost use Rattle.std.specs.List.{list_any};
 ghost use Rattle.check_plan.specs.Calms.{is_in, may_tell};
 ghost use Rattle.check_plan.specs.Limits.{binds, bound_count, limit_of, is_outside, is_passed, is_unasked};
 
-use crate::calm::Calm;
+use crate::fast::Calm;
 use dec_num::eng_of;
 use mib_model::{Bound, OcpRow};
 use std::alloc::{AllocError, Global};

@@ -1,5 +1,5 @@
 pub mod OctetFacts
 pub mod PlaceFacts
 pub mod ShortFacts
-pub mod NearFacts
-pub mod PlainFacts
+pub mod DigitFacts
+pub mod StandFacts

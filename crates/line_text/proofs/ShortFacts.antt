@@ -4,7 +4,7 @@ use Rattle.std.specs.Prelude.{map, decimal}
 use Rattle.std.proofs.lemmas.Fmt.{decimal_digit, decimal_step}
 use Rattle.std.proofs.lemmas.List.{get_or-map, length-map, take_all}
 use Rattle.std.proofs.lemmas.List.FromFn.{map-range_with_len_more, get_or-map-range_with_len, length-map-range_with_len}
-use Rattle.line_text.specs.declared.short.Short.{Short}
+use Rattle.line_text.specs.declared.fast.short.Short.{Short}
 use Rattle.line_text.specs.ShortTexts.{four_digits, digits_of, texts_of, number_texts, number_texts_below}
 
 pub decimal-one : (n : ℕ) → n < 10 → decimal n ≡ (48 + n % 10) ∷ []

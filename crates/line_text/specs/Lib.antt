@@ -1,3 +1,3 @@
-pub mod PlainTexts
+pub mod Standing
 pub mod ShortTexts
-pub mod NearTexts
+pub mod DigitTexts

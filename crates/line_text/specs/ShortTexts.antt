@@ -1,7 +1,7 @@
 -- The texts of small numbers. [This profile.]
 use Rattle.std.specs.Prelude.{ℕ, ◌+◌, ◌/◌, ◌%◌, List, [], ◌∷◌, map, take, decimal}
 use Rattle.std.specs.List.{range_with_len}
-use Rattle.line_text.specs.declared.short.Short.{Short}
+use Rattle.line_text.specs.declared.fast.short.Short.{Short}
 
 -- the four digits of a number below 10,000, with zeros in front
 abbrev pub four_digits : ℕ → List ℕ

@@ -8,17 +8,15 @@
 
 mod bits;
 mod count;
-mod near;
-mod number;
+mod digits;
+mod fast;
 mod octets;
 mod place;
-mod plain;
-mod short;
-mod short_texts;
 
 pub use bits::field;
 pub use count::add_count;
-pub use number::{add_digits, add_number};
+pub use digits::add_digits;
+pub use fast::number::add_number;
+pub use fast::short_texts::{ShortTexts, Shorts};
 pub use octets::{Digits, Quoted, Spelling, add_hex_number, add_octets_at, add_quoted};
 pub use place::{add_ends, add_indented, add_name, add_octet, add_text, add_word};
-pub use short_texts::{ShortTexts, Shorts};

@@ -4,8 +4,8 @@ ghost use Rattle.std.specs.List.{flat_map};
 ghost use Rattle.mib_model.specs.RawTexts as Spec;
 
 use crate::bits::{field, whole_octets};
+use crate::fast::stand::{eights_stand, fours_stand, sixteens_stand, twos_stand};
 use crate::place::{add_ends, add_octet, add_word};
-use crate::plain::{eights_stand, fours_stand, sixteens_stand, stands_as_itself, twos_stand};
 
 // A hexadecimal digit, in upper case.
 fn hex_digit(n: u8) -> u8
@@ -75,6 +75,13 @@ pub fn add_hex_number(number: u64, digits: u8, line: &mut [u8], used: usize) -> 
         }
         _ => add_digits(number, digits, line, used),
     }
+}
+
+// From a space to a tilde, but for the quote and the backslash.
+fn stands_as_itself(octet: u8) -> bool
+    ensures { result ≡ Spec.stands_as_itself octet }
+{
+    (0x20..=0x7E).contains(&octet) && octet != b'"' && octet != b'\\'
 }
 
 // Appends an octet that doesn't stand as itself, by its digits.

@@ -1,5 +1,0 @@
-use Rattle.line_text.proofs.PlainFacts.{quoted-ends}
-use Rattle.line_text.proofs.plain.fours_stand.Goals as goal
-
-pub returns : goal.returns
-returns c = quoted-ends c.eight_stand.result c.args.octets.now c.ends.result 4 c.ends.ensures c.requires.some c.requires.few c.eight_stand.ensures

@@ -1,0 +1,12 @@
+// Writing the numbers of a packet takes GAIN-line_text-short: a number below 10,000 has a text made once, in two forms.
+ghost use Rattle.std.specs.Prelude.{◌≤◌};
+
+/// The text of a small number: the first `count` of `digits`, with other octets behind, and in four digits with zeros in
+/// front.
+#[derive(Clone, Copy)]
+pub(crate) struct Short {
+    pub digits: [u8; 4],
+    pub count: u8,
+    pub four: [u8; 4],
+    ghost few: { count ≤ 4 },
+}
