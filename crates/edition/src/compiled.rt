@@ -4,15 +4,15 @@ ghost use Rattle.std.specs.Option.{option_copied};
 ghost use Rattle.edition_plans.specs.Layouts.{layout_of, HasPlaces};
 ghost use Rattle.mib_model.specs.Soundness.{IsSound};
 
-use crate::ways::ByTitled;
 use edition_diff::PlanSets;
 use edition_plans::Plans;
 use first_rows::FirstRows;
 use ident_plan::Ident;
 use layout_plan::Layout;
-use mib_model::{Rows, Text, TypeItem};
+use mib_model::{Rows, Text, TpcfRow, TypeItem};
 use mib_tables::Book;
 use param_plan::Params;
+use row_keys::BySpid;
 use std::marker::Model;
 use std::snapshot::Snapshot;
 use std::sync::Arc;
@@ -21,7 +21,7 @@ use struct_plan::{Structure, Structures};
 /// The plans of sound tables, which are let go themselves. Contracts see the database of the tables.
 pub struct Compiled {
     pub(crate) sets: PlanSets,
-    pub(crate) titles: Arc<FirstRows<ByTitled>>,
+    pub(crate) titles: Arc<FirstRows<BySpid<TpcfRow>>>,
     pub(crate) book: Snapshot<Book>,
 }
 

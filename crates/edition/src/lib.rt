@@ -11,7 +11,6 @@ mod compiled;
 mod edition;
 mod fault;
 mod titles;
-mod ways;
 
 pub use compiled::Compiled;
 pub use edition::{Amended, Edition};

@@ -7,11 +7,11 @@ ghost use Rattle.layout_plan.specs.Readings.{Reads};
 ghost use Rattle.layout_plan.specs.Spans.{span_places, spans_places};
 ghost use Rattle.layout_plan.specs.Stops.{ended_at};
 
-use crate::items::ByName;
 use crate::span::{Span, SpanStop};
 use bit_field::{Values, shape_of};
 use first_rows::FirstRows;
 use mib_model::{Ended, PidRow, PlfRow, Shape, Steps, TypeItem};
+use row_keys::ByName;
 use std::alloc::{AllocError, Global};
 use std::marker::Model;
 use std::snapshot::Snapshot;
@@ -52,7 +52,7 @@ fn shape_by(item: Option<&TypeItem>) -> Option<Shape>
 }
 
 // Adds the occurrences of a row, if its parameter has values.
-fn add_row(spans: &mut Vec<Span>, row: &PlfRow, types: &FirstRows<ByName>) -> Result<(), AllocError>
+fn add_row(spans: &mut Vec<Span>, row: &PlfRow, types: &FirstRows<ByName<TypeItem>>) -> Result<(), AllocError>
     ensures { OnOk result (spans_places spans.new.items ≡ spans_places spans.old.items
         ++ occurrences row.now (option_and_then item_encoding (item_named types.now row.now.name))) }
 {
@@ -67,7 +67,7 @@ fn add_row(spans: &mut Vec<Span>, row: &PlfRow, types: &FirstRows<ByName>) -> Re
 fn spans_of(
     alloc: Global,
     plfs: &[PlfRow],
-    types: &FirstRows<ByName>,
+    types: &FirstRows<ByName<TypeItem>>,
 ) -> Result<Vec<Span>, AllocError>
     ensures { IfOk result (λ spans. spans_places spans.items ≡ layout_places plfs.now types.now) }
 {

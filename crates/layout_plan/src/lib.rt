@@ -5,7 +5,6 @@
 //! pass and takes no memory. It rests on mib_model for the definitions and types and on bit_field for the values.
 #![tactic(auto)]
 
-mod items;
 mod layout;
 mod span;
 

@@ -2,9 +2,9 @@ ghost use Rattle.std.specs.Prelude.{◌≡◌, IfOk};
 
 use crate::firsts::Firsts;
 use crate::groups::Groups;
-use crate::keys::{ByName, ByStructure};
 use mib_model::{CafRow, CapRow, CurRow, LgfRow, McfRow, OcfRow, PcfRow, TxfRow};
 use mib_tables::Book;
+use row_keys::{ByName, ByStructure};
 use std::alloc::{AllocError, Global};
 use std::marker::Model;
 

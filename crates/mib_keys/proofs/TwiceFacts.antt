@@ -16,7 +16,7 @@ use Rattle.mib_keys.specs.Firsts.{least}
 use Rattle.mib_index.proofs.PlaceFacts.{position-cons}
 use Rattle.mib_tables.proofs.TableFacts.{position-map}
 use Rattle.row_flaws.specs.Indexes.{cut}
-use Rattle.mib_index.specs.Packets.{packet_eq, packet_of}
+use Rattle.packet_keys.specs.Keys.{packet_eq, packet_key}
 use Rattle.row_flaws.specs.Rows.{IsFirst}
 use Rattle.row_flaws.proofs.PointFacts.{position-take}
 
@@ -74,7 +74,7 @@ pub no-kind : (rows : List Row) (r : Row) → as_pid r ≡ None → position (ha
 no-kind rows r none = no-place (has_its_kind r) (λ (other : Row). ap (λ (p : Option PidRow). are_of_a_kind p (as_pid other)) none) rows
 
 -- a packet has the kind of packets
-pub own-kind : (db : Database) (r : Row) (p : PidRow) → as_pid r ≡ Some p → position (has_its_kind r) (rows_of db (kind_in r)) ≡ position (λ (o : PidRow). packet_eq (packet_of o) (packet_of p)) db.pid
+pub own-kind : (db : Database) (r : Row) (p : PidRow) → as_pid r ≡ Some p → position (has_its_kind r) (rows_of db (kind_in r)) ≡ position (λ (o : PidRow). packet_eq (packet_key o) (packet_key p)) db.pid
 unfolding rows_of
-own-kind db (row.Pid q) p is = let same : q ≡ p = cc in position-map row.Pid (has_its_kind (row.Pid q)) db.pid ∙ ap (λ (k : PidRow). position (λ (o : PidRow). packet_eq (packet_of o) (packet_of k)) db.pid) same
+own-kind db (row.Pid q) p is = let same : q ≡ p = cc in position-map row.Pid (has_its_kind (row.Pid q)) db.pid ∙ ap (λ (k : PidRow). position (λ (o : PidRow). packet_eq (packet_key o) (packet_key k)) db.pid) same
 own-kind db other p is = absurd (cc is)

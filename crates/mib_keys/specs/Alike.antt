@@ -6,7 +6,7 @@ use Rattle.mib_model.specs.declared.rows.PidRow.{PidRow}
 use Rattle.mib_model.specs.declared.rows.Row.{Row}
 use Rattle.mib_model.specs.Keys.{key_in}
 use Rattle.mib_model.specs.TypedRows.{as_pid}
-use Rattle.mib_index.specs.Packets.{packet_eq, packet_of}
+use Rattle.packet_keys.specs.Keys.{packet_eq, packet_key}
 
 -- `==` of keys
 abbrev pub key_eq : Key → Key → Bool
@@ -18,7 +18,7 @@ has_its_key r other = key_eq (key_in other) (key_in r)
 
 -- packets of one kind, if both are there
 abbrev pub are_of_a_kind : Option PidRow → Option PidRow → Bool
-are_of_a_kind (Some p) (Some other) = packet_eq (packet_of other) (packet_of p)
+are_of_a_kind (Some p) (Some other) = packet_eq (packet_key other) (packet_key p)
 are_of_a_kind (Some p) None = false
 are_of_a_kind None other = false
 

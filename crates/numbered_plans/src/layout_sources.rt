@@ -6,12 +6,13 @@ ghost use Rattle.mib_model.specs.Touched.{same_slice};
 ghost use Rattle.numbered_plans.specs.Layouts.{laid_spids, layout_numbered, same_layout};
 
 use crate::sources::Sources;
-use crate::ways::{ByLaidOut, ByPlaced};
+use crate::ways::ByLaidOut;
 use first_rows::FirstRows;
 use layout_plan::Layout;
 use mib_index::Groups;
 use mib_model::{PidRow, PlfRow, Steps, TypeItem};
 use mib_tables::Book;
+use row_keys::BySpid;
 use row_sameness::{all_same, same_row};
 use std::alloc::{AllocError, Global};
 use std::marker::Model;
@@ -37,7 +38,7 @@ impl Model for LayoutParts {
 /// The packets of a book, the places of its parameters, and their type items. Contracts see the book's database.
 pub struct LayoutSources<'a> {
     packets: FirstRows<ByLaidOut>,
-    places: Groups<'a, ByPlaced>,
+    places: Groups<'a, BySpid<PlfRow>>,
     items: TypeItems<'a>,
     book: &'a Book,
 }

@@ -8,10 +8,10 @@ ghost use Rattle.numbered_plans.specs.Structures.{same_structure};
 ghost use Rattle.struct_plan.specs.Slices.{structure_found};
 
 use crate::sources::Sources;
-use crate::ways::ByStructure;
 use mib_model::{Steps, TypeItem, VpdRow};
 use mib_tables::Book;
 use row_groups::RowGroups;
+use row_keys::ByTpsd;
 use row_sameness::all_same;
 use std::alloc::{AllocError, Global};
 use std::marker::Model;
@@ -36,7 +36,7 @@ impl Model for StructureParts {
 
 /// The rows of a book's structures by POS, and the type items of its parameters. Contracts see the book's database.
 pub struct StructureSources<'a> {
-    rows: RowGroups<ByStructure>,
+    rows: RowGroups<ByTpsd>,
     items: TypeItems<'a>,
     book: &'a Book,
 }

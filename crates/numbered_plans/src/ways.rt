@@ -1,6 +1,6 @@
-// The keys by which rows are found.
+// The key by which a packet of fixed layout is found.
 use first_rows::By;
-use mib_model::{PidRow, PlfRow, VpdRow};
+use mib_model::PidRow;
 
 /// Packets of fixed layout by SPID.
 #[derive(Drop)]
@@ -21,41 +21,5 @@ impl By for ByLaidOut {
         } else {
             None
         }
-    }
-}
-
-/// Places of parameters by the SPIDs of their packets.
-#[derive(Drop)]
-pub struct ByPlaced;
-
-impl By for ByPlaced {
-    ghost use Rattle.std.specs.Prelude.{Some};
-
-    type Row = PlfRow;
-
-    type Key = u32;
-
-    ghost key_of = { λ row. Some row.spid };
-
-    fn key(row: &PlfRow) -> Option<u32> {
-        Some(row.spid)
-    }
-}
-
-/// Rows of structures by TPSD.
-#[derive(Drop)]
-pub struct ByStructure;
-
-impl By for ByStructure {
-    ghost use Rattle.std.specs.Prelude.{pos, Some};
-
-    type Row = VpdRow;
-
-    type Key = i128;
-
-    ghost key_of = { λ row. Some (pos row.tpsd) };
-
-    fn key(row: &VpdRow) -> Option<i128> {
-        Some(i128::from(row.tpsd))
     }
 }

@@ -1,4 +1,6 @@
 // The keys by which rows of pic and pid are looked up.
+ghost use Rattle.std.specs.Prelude.{◌≡◌};
+ghost use Rattle.packet_keys.specs.Keys.{packet_key};
 
 use first_rows::By;
 use mib_model::{PicRow, PidRow};
@@ -58,13 +60,25 @@ impl By for ByCriterion {
     }
 }
 
+/// What a packet of a row of pid agrees with.
+pub fn packet_key(row: &PidRow) -> PacketKey
+    ensures { result ≡ packet_key row.now }
+{
+    PacketKey {
+        apid: row.apid,
+        service: row.service,
+        subtype: row.subtype,
+        pi1_val: row.pi1_val,
+        pi2_val: row.pi2_val,
+    }
+}
+
 /// Rows of pid by what a packet must agree with.
 #[derive(Drop)]
 pub struct ByPacket;
 
 impl By for ByPacket {
     ghost use Rattle.std.specs.Prelude.{Some};
-    ghost use Rattle.packet_keys.specs.Keys.{packet_key};
 
     type Row = PidRow;
 
@@ -73,13 +87,7 @@ impl By for ByPacket {
     ghost key_of = { λ row. Some (packet_key row) };
 
     fn key(row: &PidRow) -> Option<PacketKey> {
-        Some(PacketKey {
-            apid: row.apid,
-            service: row.service,
-            subtype: row.subtype,
-            pi1_val: row.pi1_val,
-            pi2_val: row.pi2_val,
-        })
+        Some(packet_key(row))
     }
 
     #[inline(always)]

@@ -8,5 +8,5 @@
 mod keys;
 mod reading;
 
-pub use keys::{ByCriterion, ByPacket, CriterionKey, PacketKey};
+pub use keys::{ByCriterion, ByPacket, CriterionKey, PacketKey, packet_key};
 pub use reading::{discriminants, found_by, types};

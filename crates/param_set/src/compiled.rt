@@ -10,9 +10,9 @@ ghost use Rattle.param_set.specs.Compiled.{AreNamed};
 
 use crate::curves::Curves;
 use curve_plan::{Curve, CurveRows};
-use mib_index::{By, ByName};
 use mib_model::{CafRow, LgfRow, McfRow, Name, TxfRow};
 use mib_tables::Book;
+use row_keys::{By, ByName};
 use std::alloc::{AllocError, Global};
 use std::collections::HashMap;
 use std::marker::Model;

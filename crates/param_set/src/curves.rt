@@ -7,9 +7,10 @@ ghost use Rattle.curve_plan.specs.Rows.{rows_of};
 ghost use Rattle.mib_model.specs.Curves as Spec;
 
 use curve_plan::CurveRows;
-use mib_index::{ByName, Firsts, Groups, Named};
+use mib_index::{Firsts, Groups};
 use mib_model::{CafRow, CapRow, LgfRow, McfRow, Name, TxfRow, TxpRow};
 use mib_tables::Book;
+use row_keys::{ByName, Named};
 use std::alloc::{AllocError, Global};
 use std::marker::Model;
 use std::snapshot::Snapshot;

@@ -6,7 +6,7 @@ ghost use Rattle.std.specs.Str.{bytes_eq};
 ghost use Rattle.mib_model.specs.Parameters.{parameter};
 ghost use Rattle.mib_model.specs.References.{has_parameter, has_packet, has_points, has_texts, has_polynomial, has_logarithm, has_check};
 ghost use Rattle.mib_model.specs.CurveFlaws.{points_in};
-ghost use Rattle.mib_index.specs.Packets.{packet_eq, packet_of};
+ghost use Rattle.packet_keys.specs.Keys.{packet_eq, packet_key};
 ghost use Rattle.row_flaws.specs.Structures.{spot_of, spots_in};
 ghost use Rattle.mib_model.specs.Structures.{structure};
 ghost use Rattle.row_flaws.specs.Indexes.{first_place};
@@ -14,9 +14,11 @@ ghost use Rattle.row_flaws.specs.Points.{point_eq, point_in};
 
 use crate::points::{PointKey, point_places};
 use crate::structures::{Structure, structures};
-use mib_index::{ByPacket, BySpid, Firsts, Index, packet_key};
+use mib_index::{Firsts, Index};
 use mib_model::{CafRow, Name, PcfRow, PidRow, TxfRow};
 use mib_tables::Book;
+use packet_keys::{ByPacket, packet_key};
+use row_keys::BySpid;
 use std::alloc::{AllocError, Global};
 use std::collections::HashMap;
 use std::marker::Model;
@@ -24,7 +26,7 @@ use std::marker::Model;
 /// What the rows of a book are looked up by. Contracts see the database.
 pub struct Lookups<'a> {
     index: &'a Index<'a>,
-    packets: Firsts<'a, BySpid>,
+    packets: Firsts<'a, BySpid<PidRow>>,
     packet_kinds: Firsts<'a, ByPacket>,
     point_places: HashMap<PointKey, usize>,
     structures: HashMap<u32, Structure>,
@@ -79,7 +81,7 @@ impl<'a> Lookups<'a> {
 
     /// The first place, from 0, of a packet of the kind of a packet.
     pub fn packet_place(&self, packet: &PidRow) -> Option<usize>
-        ensures { result ≡ position (λ row. packet_eq (packet_of row) (packet_of packet.now)) self.now.pid }
+        ensures { result ≡ position (λ row. packet_eq (packet_key row) (packet_key packet.now)) self.now.pid }
     {
         self.packet_kinds.place(&packet_key(packet))
     }

@@ -4,17 +4,17 @@ ghost use Rattle.std.specs.Option.{option_copied};
 ghost use Rattle.std.specs.Str.{bytes_eq};
 ghost use Rattle.mib_model.specs.Orders.{sorted_by_number};
 
-use crate::keys::{ByCheck, ByLimit};
 use crate::ordered::OrderedRows;
 use first_rows::FirstRows;
 use mib_model::{Name, OcfRow, OcpRow};
+use row_keys::ByName;
 use std::alloc::{AllocError, Global};
 use std::marker::Model;
 
 /// The rows of checks and their limits. Contracts see the tables.
 pub struct CheckRows {
-    checks: FirstRows<ByCheck>,
-    limits: OrderedRows<ByLimit>,
+    checks: FirstRows<ByName<OcfRow>>,
+    limits: OrderedRows<ByName<OcpRow>>,
 }
 
 /// By hand, so that whoever lets one go proves one call.

@@ -4,25 +4,23 @@ ghost use Rattle.std.specs.Option.{option_copied};
 ghost use Rattle.std.specs.Str.{bytes_eq};
 ghost use Rattle.mib_model.specs.Orders.{sorted_by_number};
 
-use crate::keys::{
-    ByLogarithm, ByPoint, ByPointCurve, ByPolynomial, BySelection, ByStatusText, ByTextCurve,
-};
 use crate::ordered::OrderedRows;
 use first_rows::FirstRows;
 use mib_model::{CafRow, CapRow, CurRow, LgfRow, McfRow, Name, TxfRow, TxpRow};
 use row_groups::RowGroups;
+use row_keys::ByName;
 use std::alloc::{AllocError, Global};
 use std::marker::Model;
 
 /// The rows of curves and of their selections. Contracts see the tables.
 pub struct CurveRows {
-    selections: OrderedRows<BySelection>,
-    point_curves: FirstRows<ByPointCurve>,
-    points: RowGroups<ByPoint>,
-    text_curves: FirstRows<ByTextCurve>,
-    texts: RowGroups<ByStatusText>,
-    polynomials: FirstRows<ByPolynomial>,
-    logarithms: FirstRows<ByLogarithm>,
+    selections: OrderedRows<ByName<CurRow>>,
+    point_curves: FirstRows<ByName<CafRow>>,
+    points: RowGroups<ByName<CapRow>>,
+    text_curves: FirstRows<ByName<TxfRow>>,
+    texts: RowGroups<ByName<TxpRow>>,
+    polynomials: FirstRows<ByName<McfRow>>,
+    logarithms: FirstRows<ByName<LgfRow>>,
 }
 
 /// By hand, so that whoever lets one go proves one call.

@@ -24,7 +24,6 @@ pub use checks::CheckRows;
 pub use class::class_of;
 pub use curves::CurveRows;
 pub use kept::KeptOf;
-pub use keys::{ByPlaced, ByStructure};
 pub use layout::read_places;
 pub use memory::Memory;
 pub use ordered::{ByPlace, OrderedRows};

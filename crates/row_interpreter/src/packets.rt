@@ -4,10 +4,10 @@ ghost use Rattle.std.specs.Option.{option_copied};
 ghost use Rattle.mib_model.specs.Headers.{header_of};
 ghost use Rattle.mib_model.specs.Match as Spec;
 
-use crate::keys::ByTitle;
 use first_rows::FirstRows;
 use mib_model::{BadWhy, Found, Header, IDLE_APID, PicRow, PidRow, TpcfRow};
 use packet_keys::{ByCriterion, ByPacket, CriterionKey, PacketKey, discriminants, found_by, types};
+use row_keys::BySpid;
 use std::alloc::{AllocError, Global};
 use std::marker::Model;
 
@@ -15,7 +15,7 @@ use std::marker::Model;
 pub struct PacketRows {
     packets: FirstRows<ByPacket>,
     criteria: FirstRows<ByCriterion>,
-    titles: FirstRows<ByTitle>,
+    titles: FirstRows<BySpid<TpcfRow>>,
 }
 
 /// By hand, so that whoever lets one go proves one call.

@@ -5,16 +5,17 @@ ghost use Rattle.std.specs.Ordering.{int_eq};
 ghost use Rattle.mib_model.specs.Parameters as Spec;
 ghost use Rattle.mib_model.specs.Structures.{is_deduced};
 
-use crate::keys::{ByNumber, ByParameter};
+use crate::keys::ByNumber;
 use bit_field::shape_of;
 use first_rows::FirstRows;
 use mib_model::{Endian, Name, PcfRow, Shape};
+use row_keys::ByName;
 use std::alloc::{AllocError, Global};
 use std::marker::Model;
 
 /// The parameters, by their names and by the numbers that deduced ones name. Contracts see the table.
 pub struct ParameterRows {
-    named: FirstRows<ByParameter>,
+    named: FirstRows<ByName<PcfRow>>,
     numbered: FirstRows<ByNumber>,
 }
 

@@ -16,14 +16,15 @@ ghost use Rattle.row_interpreter.specs.Readings.{IsOf};
 ghost use Rattle.row_searches.specs.Nesting.{AreNested};
 
 use mib_model::{
-    CurRow, Ended, Found, Header, MOST_VALUES, Name, OcfRow, OcpRow, PcfRow, Text, Value, VpdRow,
+    CurRow, Ended, Found, Header, MOST_VALUES, Name, OcfRow, OcpRow, PcfRow, PlfRow, Text, Value, VpdRow,
 };
 use mib_tables::Book;
 use row_groups::RowGroups;
 use row_interpreter::{
-    ByPlaced, ByStructure, CheckRows, CurveRows, OrderedRows, PacketRows, ParameterRows,
+    CheckRows, CurveRows, OrderedRows, PacketRows, ParameterRows,
     read_places,
 };
+use row_keys::{BySpid, ByTpsd};
 use std::alloc::{AllocError, Global};
 use std::marker::Model;
 
@@ -33,8 +34,8 @@ pub struct RowSearches {
     parameters: ParameterRows,
     // The names of the parameters, in the order of their rows.
     names: Vec<Name>,
-    places: RowGroups<ByPlaced>,
-    structures: OrderedRows<ByStructure>,
+    places: RowGroups<BySpid<PlfRow>>,
+    structures: OrderedRows<ByTpsd>,
     // How many rows the structures have together.
     structure_rows: u32,
     curves: CurveRows,

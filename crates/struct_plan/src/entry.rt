@@ -5,10 +5,10 @@ ghost use Rattle.mib_model.specs.Layouts.{item_named};
 ghost use Rattle.struct_plan.specs.Entries as Spec;
 ghost use Rattle.struct_plan.specs.Entries.{act_of, entry_of, item_field, subject_by, then_of};
 
-use crate::items::ByName;
 use bit_field::shape_of;
 use first_rows::FirstRows;
 use mib_model::{Name, Shape, TypeItem, VpdRow};
+use row_keys::ByName;
 use std::alloc::{AllocError, Global};
 
 /// What a value is of: a name, what its bits are, and how many bits the walk moves on behind its first.
@@ -114,7 +114,7 @@ fn then_by(row: &VpdRow) -> Then
 }
 
 // What a row does.
-fn act_by(row: &VpdRow, types: &FirstRows<ByName>) -> Act
+fn act_by(row: &VpdRow, types: &FirstRows<ByName<TypeItem>>) -> Act
     ensures { result ≡ act_of types.now row.now }
 {
     if row.fixrep != 0 {
@@ -124,7 +124,7 @@ fn act_by(row: &VpdRow, types: &FirstRows<ByName>) -> Act
 }
 
 // A row, compiled.
-fn entry_by(row: &VpdRow, types: &FirstRows<ByName>) -> StructureRow
+fn entry_by(row: &VpdRow, types: &FirstRows<ByName<TypeItem>>) -> StructureRow
     ensures { result ≡ entry_of types.now row.now }
 {
     StructureRow {
@@ -138,7 +138,7 @@ fn entry_by(row: &VpdRow, types: &FirstRows<ByName>) -> StructureRow
 pub fn entries(
     alloc: Global,
     rows: &[VpdRow],
-    types: &FirstRows<ByName>,
+    types: &FirstRows<ByName<TypeItem>>,
 ) -> Result<Vec<StructureRow>, AllocError>
     ensures { IfOk result (λ entries. entries.items ≡ map (entry_of types.now) rows.now) }
 {

@@ -12,7 +12,6 @@
 mod course;
 mod entry;
 mod group;
-mod items;
 mod laws;
 mod numbers;
 mod place;

@@ -9,10 +9,10 @@ ghost use Rattle.bit_field.specs.Taken.{taken, HasSlots, KeepsSlots};
 ghost use Rattle.build_rules.specs.Laying.{values_from};
 ghost use Rattle.tm_build.specs.Lays.{Lays};
 
-use crate::keys::ByName;
 use bit_field::{MOST_VALUES, Values, shape_of};
 use first_rows::FirstRows;
 use mib_model::{Ended, Endian, Name, PcfRow, PlfRow, Shape};
+use row_keys::ByName;
 use struct_plan::{Numbers, ValueField, WalkEnd};
 
 // Lays the value at a place, or tells why the values end before it.
@@ -120,7 +120,7 @@ fn lay_row<N: Numbers>(
 pub fn lay_rows<N: Numbers>(
     numbers: &N,
     rows: &[PlfRow],
-    parameters: &FirstRows<ByName>,
+    parameters: &FirstRows<ByName<PcfRow>>,
     values: &mut Values,
 ) -> WalkEnd
     requires slots { length values.old.slots.now ≡ most_values }

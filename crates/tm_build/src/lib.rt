@@ -6,7 +6,6 @@
 #![tactic(auto)]
 
 mod building;
-mod keys;
 mod laws;
 mod laying;
 mod layout;

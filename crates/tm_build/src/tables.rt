@@ -5,12 +5,12 @@ ghost use Rattle.mib_model.specs.Match.{is_criterion};
 ghost use Rattle.mib_model.specs.Soundness.{IsSound};
 ghost use Rattle.build_rules.specs.Building.{criterion_of};
 
-use crate::keys::{ByName, ByPacket, BySpid};
 use first_rows::FirstRows;
-use mib_model::{PicRow, PidRow, PlfRow, Steps};
+use mib_model::{PcfRow, PicRow, PidRow, PlfRow, Steps};
 use mib_tables::Book;
 use numbered_plans::{Deduced, StructureSet};
 use row_groups::RowGroups;
+use row_keys::{ByName, BySpid};
 use std::alloc::{AllocError, Global};
 use std::marker::{Brand, Model};
 use std::sync::ledger::{Blank, Ledger};
@@ -18,10 +18,10 @@ use struct_plan::{Structure, Structures, TypeItem};
 
 /// The tables of a sound database by which packets are built, each row found by its key. Contracts see the database.
 pub struct PacketTables<'a> {
-    pids: FirstRows<BySpid>,
+    pids: FirstRows<BySpid<PidRow>>,
     pics: &'a [PicRow],
-    plfs: RowGroups<ByPacket>,
-    parameters: FirstRows<ByName>,
+    plfs: RowGroups<BySpid<PlfRow>>,
+    parameters: FirstRows<ByName<PcfRow>>,
     structures: StructureSet,
     deduced: Deduced,
 }
@@ -118,7 +118,7 @@ impl<'a> PacketTables<'a> {
     }
 
     /// The parameters by name.
-    pub fn parameters(&self) -> &FirstRows<ByName>
+    pub fn parameters(&self) -> &FirstRows<ByName<PcfRow>>
         ensures { result.now ≡ self.now.pcf }
     {
         &self.parameters

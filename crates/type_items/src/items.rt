@@ -3,8 +3,9 @@ ghost use Rattle.mib_model.specs.Parameters as Spec;
 ghost use Rattle.mib_model.specs.Plans.{type_item};
 ghost use Rattle.type_items.specs.Items as Items;
 
-use mib_index::{ByName, Firsts, Named};
+use mib_index::Firsts;
 use mib_model::{Endian, Name, PcfRow, TypeItem};
+use row_keys::{ByName, Named};
 use std::alloc::{AllocError, Global};
 use std::marker::Model;
 

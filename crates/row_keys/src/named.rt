@@ -1,36 +1,12 @@
-// The keys by which rows are looked up.
+// Rows by their names.
 ghost use Rattle.std.specs.Prelude.{◌≡◌, ℕ, List};
-ghost use Rattle.mib_index.specs.Packets.{packet_of};
 
 use first_rows::By;
 use mib_model::{
-    CafRow, CapRow, CurRow, LgfRow, McfRow, Name, OcfRow, OcpRow, PcfRow, PidRow, PlfRow, TxfRow,
-    TxpRow, VpdRow,
+    CafRow, CapRow, CurRow, LgfRow, McfRow, Name, OcfRow, OcpRow, PcfRow, PlfRow, TxfRow, TxpRow,
+    TypeItem, VpdRow,
 };
 use std::marker::PhantomData;
-
-/// What tells kinds of packets apart.
-#[derive(Clone, Copy, PartialEq, Eq, Hash)]
-pub struct PacketKey {
-    pub apid: u16,
-    pub service: u8,
-    pub subtype: u8,
-    pub pi1_val: u64,
-    pub pi2_val: u64,
-}
-
-/// The kind of packet of a row of pid.
-pub fn packet_key(row: &PidRow) -> PacketKey
-    ensures { result ≡ packet_of row.now }
-{
-    PacketKey {
-        apid: row.apid,
-        service: row.service,
-        subtype: row.subtype,
-        pi1_val: row.pi1_val,
-        pi2_val: row.pi2_val,
-    }
-}
 
 /// A row that has a name: that of its parameter, or of its curve.
 pub trait Named: Copy + Drop {
@@ -137,6 +113,14 @@ impl Named for VpdRow {
     }
 }
 
+impl Named for TypeItem {
+    ghost name_of = { λ row. row.name };
+
+    fn name(&self) -> Name {
+        self.name
+    }
+}
+
 /// Rows by their names.
 #[derive(Drop)]
 pub struct ByName<R: Named> {
@@ -155,58 +139,9 @@ impl<R: Named> By for ByName<R> {
     fn key(row: &R) -> Option<Name> {
         Some(row.name())
     }
-}
 
-/// Packets by their numbers.
-#[derive(Drop)]
-pub struct BySpid;
-
-impl By for BySpid {
-    ghost use Rattle.std.specs.Prelude.{Some};
-
-    type Row = PidRow;
-
-    type Key = u32;
-
-    ghost key_of = { λ row. Some row.spid };
-
-    fn key(row: &PidRow) -> Option<u32> {
-        Some(row.spid)
-    }
-}
-
-/// Packets by their kinds.
-#[derive(Drop)]
-pub struct ByPacket;
-
-impl By for ByPacket {
-    ghost use Rattle.std.specs.Prelude.{Some};
-
-    type Row = PidRow;
-
-    type Key = PacketKey;
-
-    ghost key_of = { λ row. Some (packet_of row) };
-
-    fn key(row: &PidRow) -> Option<PacketKey> {
-        Some(packet_key(row))
-    }
-}
-
-/// Rows of structures by their structures.
-#[derive(Drop)]
-pub struct ByStructure;
-
-impl By for ByStructure {
-    ghost use Rattle.std.specs.Prelude.{Some};
-
-    type Row = VpdRow;
-
-    type Key = u32;
-
-    ghost key_of = { λ row. Some row.tpsd };
-
-    fn key(row: &VpdRow) -> Option<u32> {
-        Some(row.tpsd)
+    fn number(name: &Name) -> u64 {
+        let [a, b, c, d, e, f, g, h, ..] = *name.room();
+        u64::from_le_bytes([a, b, c, d, e, f, g, h])
     }
 }
