@@ -4,7 +4,7 @@ use Rattle.std.specs.List.{list_any}
 use Rattle.check_plan.specs.declared.asked.AskedLimit.{AskedLimit}
 use Rattle.check_plan.specs.declared.check_set.CheckSet.{CheckSet}
 use Rattle.check_plan.specs.declared.limit.Limit.{Limit}
-use Rattle.check_plan.specs.declared.state.State.{State}
+use Rattle.check_plan.specs.declared.state.ExpectedState.{ExpectedState}
 use Rattle.mib_model.specs.declared.check.Class.{Class}
 use Rattle.mib_model.specs.declared.check.Class.TheVariants.{Nominal, Hard, Status, Delta, Soft}
 use Rattle.mib_model.specs.declared.rows.OcfRow.{OcfRow}
@@ -29,7 +29,7 @@ any_far memory (Some previous) (Numbered count) limits asked = any_passed memory
 any_far memory (Some previous) (Worded text) limits asked = false
 
 -- whether a state is expected, and a sample agrees with none that is
-abbrev pub is_unexpected : Memory → Sample → List State → Bool
+abbrev pub is_unexpected : Memory → Sample → List ExpectedState → Bool
 is_unexpected memory sample states =
     list_any (asked_of memory) states && not (list_any (λ state. is_in_state sample state && asked_of memory state) states)
 

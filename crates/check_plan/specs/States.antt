@@ -2,7 +2,7 @@
 use Rattle.std.specs.Prelude.{ℕ, ℤ, Bool, false, List, Option, Some, None, Result, Ok, Err}
 use Rattle.std.specs.Ordering.{int_eq}
 use Rattle.std.specs.Str.{bytes_eq}
-use Rattle.check_plan.specs.declared.state.State.{State}
+use Rattle.check_plan.specs.declared.state.ExpectedState.{ExpectedState}
 use Rattle.mib_model.specs.declared.number.Dec.{Dec}
 use Rattle.mib_model.specs.declared.number.DecFault.{DecFault}
 use Rattle.mib_model.specs.declared.number.Eng.{Eng}
@@ -34,7 +34,7 @@ words_count (bound.Words text) = count_in text
 words_count other = None
 
 -- the state that a row expects
-abbrev pub state_of : OcpRow → State
+abbrev pub state_of : OcpRow → ExpectedState
 state_of row = record { text = words_in row.lvalu; count = words_count row.lvalu; rlchk = row.rlchk; valpar = row.valpar }
 
 -- whether a count is expected
@@ -48,10 +48,10 @@ has_text None words = false
 has_text (Some text) words = bytes_eq words text
 
 -- whether a sample is in a state: a number by its count, a text by its octets
-abbrev pub is_in_state : Sample → State → Bool
+abbrev pub is_in_state : Sample → ExpectedState → Bool
 is_in_state (Numbered count) state = has_count state.count count
 is_in_state (Worded words) state = has_text state.text words
 
 -- whether a state has no condition, or one that holds
-abbrev pub asked_of : Memory → State → Bool
+abbrev pub asked_of : Memory → ExpectedState → Bool
 asked_of memory state = is_met memory state.rlchk state.valpar

@@ -6,7 +6,7 @@ ghost use Rattle.check_plan.specs.Limits.{asked_limit_of, is_asked};
 ghost use Rattle.check_plan.specs.States.{state_of};
 
 use crate::asked::{AskedLimit, all_asked};
-use crate::state::{State, states_of};
+use crate::state::{ExpectedState, states_of};
 use mib_model::OcpRow;
 use std::alloc::{AllocError, Global};
 
@@ -14,7 +14,7 @@ use std::alloc::{AllocError, Global};
 #[derive(Drop)]
 pub struct Apart {
     asked: Vec<AskedLimit>,
-    states: Vec<State>,
+    states: Vec<ExpectedState>,
 }
 
 /// The limits with a condition and the states of rows of ocp. None is given, and no memory is taken, where there are no such.
@@ -45,7 +45,7 @@ pub fn asked_behind(apart: &Option<Box<Apart>>) -> &[AskedLimit]
 }
 
 /// The expected states.
-pub fn states_behind(apart: &Option<Box<Apart>>) -> &[State]
+pub fn states_behind(apart: &Option<Box<Apart>>) -> &[ExpectedState]
     ensures { result.now ≡ states_behind apart.now }
 {
     match apart {

@@ -10,7 +10,7 @@ use crate::condition::Holds;
 use crate::fast::Calm;
 use crate::limit::{Limit, all_limits, any_passed, any_step_passed};
 use crate::sample::Sample;
-use crate::state::{State, any_agrees, any_applies};
+use crate::state::{ExpectedState, any_agrees, any_applies};
 use mib_model::{Class, Eng, OcpRow};
 use std::alloc::{AllocError, Global};
 
@@ -60,7 +60,7 @@ fn is_far<K: Holds>(
 }
 
 // Whether states are expected and a sample agrees with none of them.
-fn is_unexpected<K: Holds>(states: &[State], sample: Sample, kept: &K) -> bool
+fn is_unexpected<K: Holds>(states: &[ExpectedState], sample: Sample, kept: &K) -> bool
     ensures { result ≡ is_unexpected (K.memory kept.now) (sample_of sample.entry) states.now }
 {
     any_applies(states, kept) && !any_agrees(states, sample, kept)

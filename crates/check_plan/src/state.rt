@@ -13,7 +13,7 @@ use std::alloc::{AllocError, Global};
 
 /// A state that is expected: a text, and its count where it reads as a decimal.
 #[derive(Clone, Copy)]
-pub struct State {
+pub struct ExpectedState {
     text: Option<Text>,
     count: Option<Eng>,
     rlchk: Option<Name>,
@@ -30,14 +30,14 @@ fn count_in(text: &Text) -> Option<Eng>
     }
 }
 
-fn state_of(row: &OcpRow) -> State
+fn state_of(row: &OcpRow) -> ExpectedState
     ensures { result ≡ state_of row.now }
 {
     let (text, count) = match &row.lvalu {
         Bound::Words(text) => (Some(*text), count_in(text)),
         _ => (None, None),
     };
-    State {
+    ExpectedState {
         text,
         count,
         rlchk: row.rlchk,
@@ -46,7 +46,7 @@ fn state_of(row: &OcpRow) -> State
 }
 
 /// The states that the rows of status checks expect, in their order.
-pub fn states_of(alloc: Global, ocps: &[OcpRow]) -> Result<Vec<State>, AllocError>
+pub fn states_of(alloc: Global, ocps: &[OcpRow]) -> Result<Vec<ExpectedState>, AllocError>
     ensures { IfOk result (λ states. states.items ≡ map state_of (filter is_status ocps.now)) }
 {
     ocps.iter()
@@ -55,7 +55,7 @@ pub fn states_of(alloc: Global, ocps: &[OcpRow]) -> Result<Vec<State>, AllocErro
         .collect(alloc)
 }
 
-impl State {
+impl ExpectedState {
     fn agrees(&self, sample: Sample) -> bool
         ensures { result ≡ is_in_state (sample_of sample.entry) self.now }
     {
@@ -76,7 +76,7 @@ impl State {
 }
 
 /// Whether a sample agrees with one of the states that apply.
-pub fn any_agrees<K: Holds>(states: &[State], sample: Sample, kept: &K) -> bool
+pub fn any_agrees<K: Holds>(states: &[ExpectedState], sample: Sample, kept: &K) -> bool
     ensures { result ≡ list_any (λ state. is_in_state (sample_of sample.entry) state && asked_of (K.memory kept.now) state) states.now }
 {
     states
@@ -85,7 +85,7 @@ pub fn any_agrees<K: Holds>(states: &[State], sample: Sample, kept: &K) -> bool
 }
 
 /// Whether one of the states applies.
-pub fn any_applies<K: Holds>(states: &[State], kept: &K) -> bool
+pub fn any_applies<K: Holds>(states: &[ExpectedState], kept: &K) -> bool
     ensures { result ≡ list_any (asked_of (K.memory kept.now)) states.now }
 {
     states.iter().any(|state| state.applies(kept))

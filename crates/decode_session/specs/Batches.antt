@@ -5,12 +5,12 @@ use Rattle.std.specs.Io.KnownBytes.{Consumes, IsAtEnd}
 use Rattle.packet_feed.specs.Feed.{TookRest, TookLast}
 use Rattle.decode_session.specs.declared.batch.Filled.{Filled}
 use Rattle.decode_session.specs.declared.batch.Filled.TheVariants as filled
-use Rattle.decode_session.specs.declared.cell.Cell.{Cell}
+use Rattle.decode_session.specs.declared.cell.PacketCell.{PacketCell}
 use Rattle.decode_session.specs.Cells.{packet_in}
 use Rattle.mib_model.specs.Packets.{IsPacket}
 
 -- a cell has the packet that was read, with this number
-pub record IsRead (number : ℕ) (cell : Cell) (old new : Option (List ℕ)) : Type 0 where
+pub record IsRead (number : ℕ) (cell : PacketCell) (old new : Option (List ℕ)) : Type 0 where
   pub has_number : cell.number ≡ number
   pub is_packet : IsPacket (packet_in cell)
   pub taken : Consumes old new (packet_in cell)

@@ -86,7 +86,7 @@ fn draw_jobs<P: Plans + Sync, R: Threads + Sync>(
 
 /// Jobs, what they are drawn with, the first that may come next, and the number behind their packets.
 #[derive(Drop)]
-pub(crate) struct Ahead {
+pub(crate) struct DrawnAhead {
     pub jobs: Vec<DrawingJob>,
     tools: Vec<Mutex<DrawingTool>>,
     next: usize,
@@ -126,13 +126,13 @@ fn new_tools<P: Plans>(
     Ok(tools)
 }
 
-impl Ahead {
+impl DrawnAhead {
     /// No packets, and room for those of so many workers: none for one, who draws none. An error is want of memory.
-    pub fn new<P: Plans>(alloc: Global, plans: &P, workers: u8) -> Result<Ahead, AllocError>
+    pub fn new<P: Plans>(alloc: Global, plans: &P, workers: u8) -> Result<DrawnAhead, AllocError>
         ensures { IfOk result (λ ahead. All IsUnused ahead.jobs.items) }
     {
         let count = jobs_for(workers);
-        Ok(Ahead {
+        Ok(DrawnAhead {
             jobs: new_jobs(alloc, count)?,
             tools: new_tools(alloc, plans, count.min(usize::from(workers)))?,
             next: 0,

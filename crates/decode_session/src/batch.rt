@@ -4,7 +4,7 @@ ghost use Rattle.decode_session.specs.Batches.{IsRead, EndsFeed};
 ghost use Rattle.decode_session.specs.Causes.{HasFillCause};
 ghost use Rattle.packet_feed.specs.Feed.{SourceStays, source_of};
 
-use crate::cell::Cell;
+use crate::cell::PacketCell;
 use crate::room::Room;
 use packet_feed::{Feed, Next};
 use tm_io::Source;
@@ -38,7 +38,7 @@ pub fn read_packet<S: Source>(
     number: u64,
     feed: &mut Feed<S>,
     mut room: Room,
-) -> Result<Cell, Unread>
+) -> Result<PacketCell, Unread>
     ensures read { IfOk result (λ cell. IsRead number cell (S.left (source_of feed.old)) (S.left (source_of feed.new))) }
     ensures unread { IfErr result (λ unread. EndsFeed unread.why (S.left (source_of feed.old)) (S.left (source_of feed.new))) }
     ensures ok { OnOk result (S.faults (source_of feed.new) ≡ S.faults (source_of feed.old)) }
@@ -46,7 +46,7 @@ pub fn read_packet<S: Source>(
     ensures kept { SourceStays S.holds S.missed S.borrow (source_of feed.old) (source_of feed.new) }
 {
     match feed.next(room.buffers.frame.slice_mut()) {
-        Next::Packet { octets, header } => Ok(Cell::new(number, octets, header, room)),
+        Next::Packet { octets, header } => Ok(PacketCell::new(number, octets, header, room)),
         Next::End => Err(Unread {
             room,
             why: Filled::End,

@@ -8,7 +8,7 @@ use work_queue::Numbered;
 
 /// A packet between its reading and its record.
 #[derive(Drop)]
-pub struct Cell {
+pub struct PacketCell {
     pub number: u64,
     pub octets: u32,
     pub header: Header,
@@ -16,7 +16,7 @@ pub struct Cell {
     ghost framed: { IsFramed buffers.value.frame octets header },
 }
 
-impl Numbered for Cell {
+impl Numbered for PacketCell {
     ghost number_of = { λ cell. cell.number };
 
     fn number(&self) -> u64 {
@@ -24,17 +24,17 @@ impl Numbered for Cell {
     }
 }
 
-impl Cell {
+impl PacketCell {
     ghost use Rattle.decode_session.specs.Cells.{IsDecoded, packet_in};
 
     /// The cell of a packet that stands in a room.
-    pub fn new(number: u64, octets: u32, header: Header, room: Room) -> Cell
+    pub fn new(number: u64, octets: u32, header: Header, room: Room) -> PacketCell
         requires { IsFramed room.buffers.value.frame octets header }
         ensures number { result.number ≡ number }
         ensures packet { packet_in result ≡ take octets room.buffers.value.frame }
     {
         let Room { buffers } = room;
-        Cell {
+        PacketCell {
             number,
             octets,
             header,

@@ -20,7 +20,7 @@ mod run;
 mod stock;
 
 pub use batch::{Filled, MOST_PACKETS, Unread, read_packet};
-pub use cell::Cell;
+pub use cell::PacketCell;
 pub use ending::{RunEnd, RunFault, Stop};
 pub use room::{Buffers, Room};
 pub use run::{decode_run, hand_on_before_wait, write_cut};

@@ -7,7 +7,7 @@ ghost use Rattle.fold_state.specs.Boards.{memory_of};
 ghost use Rattle.mib_model.specs.Kept.{empty_memory};
 ghost use Rattle.decode_session.specs.Homes.{AreOutOf};
 
-use crate::ahead::Ahead;
+use crate::ahead::DrawnAhead;
 use crate::room::{Buffers, Room};
 use bit_field::{MOST_VALUES, shape_of};
 use decode_one::Half;
@@ -35,7 +35,7 @@ pub(crate) struct RunStock {
     pub board: Board,
     pub demands: Vec<Demand>,
     pub lines: Lines,
-    pub ahead: Ahead,
+    pub ahead: DrawnAhead,
 }
 
 /// By hand, so that whoever lets one go proves one call.
@@ -195,7 +195,7 @@ impl RunStock {
             board: Board::new(alloc, plans.params())?,
             demands: demands_of(alloc, plans.params())?,
             lines: Lines::new(alloc)?,
-            ahead: Ahead::new(alloc, plans, workers)?,
+            ahead: DrawnAhead::new(alloc, plans, workers)?,
         })
     }
 }

@@ -11,7 +11,7 @@ ghost use Rattle.mib_model.specs.Touched.{touched};
 use crate::compiled::Compiled;
 use crate::fault::SaveFault;
 use crate::titles::{titles_beside, titles_of};
-use edition_diff::{Made, PlanName, PlanSets};
+use edition_diff::{MadeSets, PlanName, PlanSets};
 use edition_plans::Plans;
 use ident_plan::Ident;
 use layout_plan::Layout;
@@ -96,7 +96,7 @@ impl Edition {
         ensures steps { OnOk result (steps.new ≡ steps.old + length (touched base.now book.now)) }
     {
         let held = &base.plans;
-        let Made { sets, touched } = PlanSets::beside(
+        let MadeSets { sets, touched } = PlanSets::beside(
             alloc, &held.sets, &base.book, same, book, steps,
         )?;
         let plans = Compiled {

@@ -16,4 +16,4 @@ mod plan_sets;
 
 pub use keyed::KeyedPlans;
 pub use mib_model::PlanName;
-pub use plan_sets::{Made, PlanSets};
+pub use plan_sets::{MadeSets, PlanSets};

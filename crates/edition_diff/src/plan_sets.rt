@@ -49,7 +49,7 @@ impl Model for PlanSets {
 
 /// The plans of a database, and the names of those that were compiled, not shared with a base, in the order of all plans.
 #[derive(Drop)]
-pub struct Made {
+pub struct MadeSets {
     pub sets: PlanSets,
     pub touched: Vec<PlanName>,
 }
@@ -79,7 +79,7 @@ impl PlanSets {
         same: TableSet,
         book: &Book,
         steps: &mut Steps<L>,
-    ) -> Result<Made, AllocError>
+    ) -> Result<MadeSets, AllocError>
         requires base { base.now ≡ old.now }
         requires sound { IsSound book.now }
         requires same { AreSameIn same old.now book.now }
@@ -96,7 +96,7 @@ impl PlanSets {
             keyed: keyed.keyed,
             ident: ident.ident,
         };
-        Ok(Made { sets, touched })
+        Ok(MadeSets { sets, touched })
     }
 
     /// The plan of identification.

@@ -5,7 +5,7 @@ ghost use Rattle.std.specs.HashMap.{get};
 ghost use Rattle.first_rows.specs.ByNumbers.{IsAtHand, IsFirst};
 
 use crate::fast::ByNumber;
-use crate::seen::Seen;
+use crate::seen::GhostRows;
 use std::alloc::{AllocError, Global};
 use std::collections::HashMap;
 use std::hash::Hash;
@@ -35,7 +35,7 @@ pub struct FirstRows<B: By> {
     firsts: HashMap<B::Key, B::Row>,
     numbered: ByNumber<B::Row>,
     count: usize,
-    rows: Seen<B::Row>,
+    rows: GhostRows<B::Row>,
 }
 
 impl<B: By> Model for FirstRows<B> {
@@ -135,7 +135,7 @@ impl<B: By> FirstRows<B> {
             firsts: firsts::<B>(alloc, rows)?,
             numbered: ByNumber::none(alloc),
             count: rows.len(),
-            rows: Seen::of(alloc, rows)?,
+            rows: GhostRows::of(alloc, rows)?,
         })
     }
 
@@ -149,7 +149,7 @@ impl<B: By> FirstRows<B> {
             firsts,
             numbered,
             count: rows.len(),
-            rows: Seen::of(alloc, rows)?,
+            rows: GhostRows::of(alloc, rows)?,
         })
     }
 

@@ -12,4 +12,4 @@ mod seen;
 
 pub use fast::ByNumber;
 pub use first_rows::{By, FirstRows};
-pub use seen::Seen;
+pub use seen::GhostRows;

@@ -6,11 +6,11 @@ use std::snapshot::Snapshot;
 
 /// Rows as contracts see them: it has none of their octets, and takes no memory. Contracts see the rows.
 #[derive(Drop)]
-pub struct Seen<R> {
+pub struct GhostRows<R> {
     rows: Vec<Snapshot<R>>,
 }
 
-impl<R> Model for Seen<R> {
+impl<R> Model for GhostRows<R> {
     ghost use Rattle.std.specs.Prelude.{List, map};
 
     ghost Value = { List R };
@@ -18,15 +18,15 @@ impl<R> Model for Seen<R> {
     ghost view = { λ seen. map (λ row. row.value) seen.rows.items };
 }
 
-impl<R> Seen<R> {
+impl<R> GhostRows<R> {
     /// These rows. An error is want of memory.
-    pub fn of(alloc: Global, rows: &[R]) -> Result<Seen<R>, AllocError>
+    pub fn of(alloc: Global, rows: &[R]) -> Result<GhostRows<R>, AllocError>
         ensures { IfOk result (λ seen. seen ≡ rows.now) }
     {
         let mut seen = Vec::new(alloc);
         for row in rows {
             seen.push(Snapshot::of(row))?;
         }
-        Ok(Seen { rows: seen })
+        Ok(GhostRows { rows: seen })
     }
 }

@@ -8,8 +8,8 @@ use Rattle.mib_model.specs.declared.number.Eng.{Eng}
 use Rattle.mib_model.specs.Kept.{Memory}
 use Rattle.line_sheets.specs.declared.sheet.Deed.{Deed}
 use Rattle.line_sheets.specs.declared.sheet.Deed.TheVariants as deed
-use Rattle.line_sheets.specs.declared.sheet.Event.{Event}
-use Rattle.line_sheets.specs.declared.reading.Work.{Work}
+use Rattle.line_sheets.specs.declared.sheet.SheetEvent.{SheetEvent}
+use Rattle.line_sheets.specs.declared.reading.SheetWork.{SheetWork}
 use Rattle.line_sheets.specs.Pieces.{Piece, Played, Text, behind, played, played_one}
 use Rattle.line_sheets.specs.Readings.{HasPlayed, IsPassed, IsTaken, LeftView, left_from, held_size}
 use Rattle.line_sheets.specs.Lying.{AreHeld, act_as, act_of, counts_of, counts_taken, last_at, no_count, raws_of, raws_taken, runs_in, sheet_in}
@@ -30,24 +30,24 @@ drop-all [] = refl
 drop-all (x ∷ xs) = drop-all xs
 
 -- where events begin isn't behind the end
-pub held-within : (start : ℕ) (es : List Event) (raws : List ℕ) (counts : List Eng) (end : ℕ) → AreHeld start es raws counts end → start ≤ end
+pub held-within : (start : ℕ) (es : List SheetEvent) (raws : List ℕ) (counts : List Eng) (end : ℕ) → AreHeld start es raws counts end → start ≤ end
 held-within start [] raws counts end held = held.0
 held-within start (e ∷ es) raws counts end held =
     let rest = held-within e.at es _ _ end held.3 in
     omega (arith, held.0, rest)
 
 -- nor is the last one
-held-last : (start : ℕ) (es : List Event) (raws : List ℕ) (counts : List Eng) (end : ℕ) → AreHeld start es raws counts end → last_at start es ≤ end
+held-last : (start : ℕ) (es : List SheetEvent) (raws : List ℕ) (counts : List Eng) (end : ℕ) → AreHeld start es raws counts end → last_at start es ≤ end
 held-last start [] raws counts end held = held.0
 held-last start (e ∷ es) raws counts end held = held-last e.at es _ _ end held.3
 
 -- a longer text
-held-longer : (start : ℕ) (es : List Event) (raws : List ℕ) (counts : List Eng) (end longer : ℕ) → end ≤ longer → AreHeld start es raws counts end → AreHeld start es raws counts longer
+held-longer : (start : ℕ) (es : List SheetEvent) (raws : List ℕ) (counts : List Eng) (end longer : ℕ) → end ≤ longer → AreHeld start es raws counts end → AreHeld start es raws counts longer
 held-longer start [] raws counts end longer more held = (omega (arith, held.0, more), held.1, held.2)
 held-longer start (e ∷ es) raws counts end longer more held = (held.0, held.1, held.2, held-longer e.at es _ _ end longer more held.3)
 
 -- octets behind the text leave the runs as they are
-runs-text : (text octets : List ℕ) (start : ℕ) (es : List Event) (raws : List ℕ) (counts : List Eng) → AreHeld start es raws counts (length text)
+runs-text : (text octets : List ℕ) (start : ℕ) (es : List SheetEvent) (raws : List ℕ) (counts : List Eng) → AreHeld start es raws counts (length text)
     → runs_in (text ++ octets) start es raws counts ≡ runs_in text start es raws counts
 runs-text text octets start [] raws counts held = refl
 runs-text text octets start (e ∷ es) raws counts held =
@@ -56,7 +56,7 @@ runs-text text octets start (e ∷ es) raws counts held =
     λ i. (drop start (front i), act_of e.seat e.deed (get_or raws 0 0) (get_or counts 0 no_count)) ∷ rest i
 
 -- octets behind the text
-pub sheet-text : (text octets : List ℕ) (es : List Event) (raws : List ℕ) (counts : List Eng) → AreHeld 0 es raws counts (length text)
+pub sheet-text : (text octets : List ℕ) (es : List SheetEvent) (raws : List ℕ) (counts : List Eng) → AreHeld 0 es raws counts (length text)
     → sheet_in (text ++ octets) es raws counts ≡ with_text (sheet_in text es raws counts) octets
 sheet-text text octets es raws counts held =
     let runs = runs-text text octets 0 es raws counts held in
@@ -64,7 +64,7 @@ sheet-text text octets es raws counts held =
     let long : length (text ++ octets) ≡ length text + length octets = length-append text octets in
     λ i. record { runs = runs i; tail = tail i; size = long i }
 
-pub held-text : (text octets : List ℕ) (es : List Event) (raws : List ℕ) (counts : List Eng) → AreHeld 0 es raws counts (length text) → AreHeld 0 es raws counts (length (text ++ octets))
+pub held-text : (text octets : List ℕ) (es : List SheetEvent) (raws : List ℕ) (counts : List Eng) → AreHeld 0 es raws counts (length text) → AreHeld 0 es raws counts (length (text ++ octets))
 held-text text octets es raws counts held =
     let long : length (text ++ octets) ≡ length text + length octets = length-append text octets in
     held-longer 0 es raws counts (length text) (length (text ++ octets)) (omega (arith, long)) held
@@ -95,13 +95,13 @@ held-own deed.Open raw number at = (omega arith, omega arith, (omega arith, refl
 held-own (deed.OpenRaw below) raw number at = (omega arith, omega arith, (omega arith, refl, refl))
 
 -- where the text behind the last event begins, with one more
-last-more : (start : ℕ) (es : List Event) (e : Event) → last_at start (es ++ e ∷ []) ≡ e.at
+last-more : (start : ℕ) (es : List SheetEvent) (e : SheetEvent) → last_at start (es ++ e ∷ []) ≡ e.at
 last-more start [] e = refl
 last-more start (f ∷ es) e = last-more f.at es e
 
-module _ (text : List ℕ) (e : Event) (raw : ℕ) (number : Eng) (here : e.at ≡ length text) where
+module _ (text : List ℕ) (e : SheetEvent) (raw : ℕ) (number : Eng) (here : e.at ≡ length text) where
   -- one more event, behind the others
-  runs-more : (start : ℕ) (es : List Event) (raws : List ℕ) (counts : List Eng) → AreHeld start es raws counts (length text)
+  runs-more : (start : ℕ) (es : List SheetEvent) (raws : List ℕ) (counts : List Eng) → AreHeld start es raws counts (length text)
       → runs_in text start (es ++ e ∷ []) (raws ++ raws_of e.deed raw) (counts ++ counts_of e.deed number) ≡ runs_in text start es raws counts ++ (drop (last_at start es) text, act_of e.seat e.deed raw number) ∷ []
   runs-more start [] raws counts held =
       let whole = take_all e.at text (omega (arith, here)) in
@@ -116,7 +116,7 @@ module _ (text : List ℕ) (e : Event) (raw : ℕ) (number : Eng) (here : e.at �
       λ i. (drop start (take f.at text), act i) ∷ ((λ j. runs_in text f.at (es ++ e ∷ []) (first j) (second j)) ∙ rest) i
 
   -- they are held
-  held-from : (start : ℕ) (es : List Event) (raws : List ℕ) (counts : List Eng) → AreHeld start es raws counts (length text)
+  held-from : (start : ℕ) (es : List SheetEvent) (raws : List ℕ) (counts : List Eng) → AreHeld start es raws counts (length text)
       → AreHeld start (es ++ e ∷ []) (raws ++ raws_of e.deed raw) (counts ++ counts_of e.deed number) (length text)
   held-from start [] raws counts held =
       let own = held-own e.deed raw number e.at in
@@ -141,19 +141,19 @@ module _ (text : List ℕ) (e : Event) (raw : ℕ) (number : Eng) (here : e.at �
       )
 
   -- one more event, behind the others
-  pub sheet-act : (es : List Event) (raws : List ℕ) (counts : List Eng) → AreHeld 0 es raws counts (length text)
+  pub sheet-act : (es : List SheetEvent) (raws : List ℕ) (counts : List Eng) → AreHeld 0 es raws counts (length text)
       → sheet_in text (es ++ e ∷ []) (raws ++ raws_of e.deed raw) (counts ++ counts_of e.deed number) ≡ with_act (sheet_in text es raws counts) (act_of e.seat e.deed raw number)
   sheet-act es raws counts held =
       let runs = runs-more 0 es raws counts held in
       let tail : drop (last_at 0 (es ++ e ∷ [])) text ≡ [] = ap (λ (n : ℕ). drop n text) (last-more 0 es e ∙ here) ∙ drop-all text in
       λ i. record { runs = runs i; tail = tail i; size = length text }
 
-  pub held-act : (es : List Event) (raws : List ℕ) (counts : List Eng) → AreHeld 0 es raws counts (length text)
+  pub held-act : (es : List SheetEvent) (raws : List ℕ) (counts : List Eng) → AreHeld 0 es raws counts (length text)
       → AreHeld 0 (es ++ e ∷ []) (raws ++ raws_of e.deed raw) (counts ++ counts_of e.deed number) (length text)
   held-act es raws counts held = held-from 0 es raws counts held
 
 -- octets behind the text of a sheet
-module _ (text octets after : List ℕ) (es : List Event) (raws : List ℕ) (counts : List Eng) (held : AreHeld 0 es raws counts (length text)) (wrote : after ≡ text ++ octets) where
+module _ (text octets after : List ℕ) (es : List SheetEvent) (raws : List ℕ) (counts : List Eng) (held : AreHeld 0 es raws counts (length text)) (wrote : after ≡ text ++ octets) where
   pub write-view : (old : SheetView) → sheet_in text es raws counts ≡ old → sheet_in after es raws counts ≡ with_text old octets
   write-view old view = ap (λ (t : List ℕ). sheet_in t es raws counts) wrote ∙ (sheet-text text octets es raws counts held ∙ ap (λ (s : SheetView). with_text s octets) view)
 
@@ -161,29 +161,29 @@ module _ (text octets after : List ℕ) (es : List Event) (raws : List ℕ) (cou
   write-held = subst (λ (t : List ℕ). AreHeld 0 es raws counts (length t)) (sym wrote) (held-text text octets es raws counts held)
 
 -- a sheet with one more deed
-module _ (text : List ℕ) (es more : List Event) (raws others : List ℕ) (counts numbers : List Eng) (held : AreHeld 0 es raws counts (length text)) (at seat : ℕ) (d : Deed) (raw : ℕ) (number : Eng)
+module _ (text : List ℕ) (es more : List SheetEvent) (raws others : List ℕ) (counts numbers : List Eng) (held : AreHeld 0 es raws counts (length text)) (at seat : ℕ) (d : Deed) (raw : ℕ) (number : Eng)
     (here : at ≡ length text) (first : more ≡ es ++ record { at = at; seat = seat; deed = d } ∷ []) (second : others ≡ raws ++ raws_of d raw) (third : numbers ≡ counts ++ counts_of d number) where
   pub push-view : (old : SheetView) → sheet_in text es raws counts ≡ old → sheet_in text more others numbers ≡ with_act old (act_of seat d raw number)
   push-view old view =
-      let e : Event = record { at = at; seat = seat; deed = d } in
+      let e : SheetEvent = record { at = at; seat = seat; deed = d } in
       (λ i. sheet_in text (first i) (second i) (third i)) ∙ (sheet-act text e raw number here es raws counts held ∙ ap (λ (s : SheetView). with_act s (act_of seat d raw number)) view)
 
   pub push-held : AreHeld 0 more others numbers (length text)
   push-held =
-      let e : Event = record { at = at; seat = seat; deed = d } in
+      let e : SheetEvent = record { at = at; seat = seat; deed = d } in
       let all = held-act text e raw number here es raws counts held in
-      subst (λ (l : List Event). AreHeld 0 l others numbers (length text)) (sym first)
+      subst (λ (l : List SheetEvent). AreHeld 0 l others numbers (length text)) (sym first)
       (subst (λ (l : List ℕ). AreHeld 0 (es ++ e ∷ []) l numbers (length text)) (sym second)
       (subst (λ (l : List Eng). AreHeld 0 (es ++ e ∷ []) (raws ++ raws_of d raw) l (length text)) (sym third) all))
 
 -- the first event lies within the text
-pub held-first : (start : ℕ) (es others : List Event) (raws : List ℕ) (counts : List Eng) (end : ℕ) (e : Event) → AreHeld start es raws counts end → es ≡ e ∷ others → e.at ≤ end
+pub held-first : (start : ℕ) (es others : List SheetEvent) (raws : List ℕ) (counts : List Eng) (end : ℕ) (e : SheetEvent) → AreHeld start es raws counts end → es ≡ e ∷ others → e.at ≤ end
 held-first start es others raws counts end e held is =
-    let all : AreHeld start (e ∷ others) raws counts end = subst (λ (l : List Event). AreHeld start l raws counts end) is held in
+    let all : AreHeld start (e ∷ others) raws counts end = subst (λ (l : List SheetEvent). AreHeld start l raws counts end) is held in
     held-within e.at others (drop (raws_taken e.deed) raws) (drop (counts_taken e.deed) counts) end all.3
 
 -- the pieces of a sheet whose first run is known
-taken-pieces : (names : List (List ℕ)) (octets : List ℕ) (seat : ℕ) (w : Work) (old new : SheetView) → IsTaken octets seat w old new
+taken-pieces : (names : List (List ℕ)) (octets : List ℕ) (seat : ℕ) (w : SheetWork) (old new : SheetView) → IsTaken octets seat w old new
     → pieces_of names old ≡ Text octets ∷ piece_of names (act_as seat w) ∷ pieces_of names new
 taken-pieces names octets seat w old new taken = λ i. flat_map (run_pieces names) (taken.runs i) ++ Text (taken.tail i) ∷ []
 
@@ -193,7 +193,7 @@ unfolding played
 two-played db octets p others memory = refl
 
 -- a run that was taken off
-pub run-played : (names : List (List ℕ)) (db : Database) (octets : List ℕ) (seat : ℕ) (w : Work) (old new : SheetView) (text : List ℕ) (memory : Memory) → IsTaken octets seat w old new
+pub run-played : (names : List (List ℕ)) (db : Database) (octets : List ℕ) (seat : ℕ) (w : SheetWork) (old new : SheetView) (text : List ℕ) (memory : Memory) → IsTaken octets seat w old new
     → behind text (played db (pieces_of names old) memory) ≡ behind (text ++ octets ++ (played_one db (piece_of names (act_as seat w)) memory).1) (played db (pieces_of names new) (played_one db (piece_of names (act_as seat w)) memory).0)
 run-played names db octets seat w old new text memory taken =
     let p = piece_of names (act_as seat w) in
@@ -210,12 +210,12 @@ end-played names db sheet text memory none =
     ap (λ (runs : List Run). behind text (played db (flat_map (run_pieces names) runs ++ Text sheet.tail ∷ []) memory)) none ∙ ap (behind text) (played-one db (Text sheet.tail) memory)
 
 -- where no run is left, there is no event
-pub no-events : (text : List ℕ) (start : ℕ) (es : List Event) (raws : List ℕ) (counts : List Eng) → runs_in text start es raws counts ≡ [] → es ≡ []
+pub no-events : (text : List ℕ) (start : ℕ) (es : List SheetEvent) (raws : List ℕ) (counts : List Eng) → runs_in text start es raws counts ≡ [] → es ≡ []
 no-events text start [] raws counts none = refl
 no-events text start (e ∷ es) raws counts none = absurd (cc none)
 
 -- a run fewer
-pub taken-fewer : (octets : List ℕ) (seat : ℕ) (w : Work) (old new : SheetView) → IsTaken octets seat w old new → length new.runs < length old.runs
+pub taken-fewer : (octets : List ℕ) (seat : ℕ) (w : SheetWork) (old new : SheetView) → IsTaken octets seat w old new → length new.runs < length old.runs
 taken-fewer octets seat w old new taken =
     let long : length old.runs ≡ suc (length new.runs) = ap (λ (runs : List Run). length runs) taken.runs in
     omega (arith, long)
@@ -257,17 +257,17 @@ part-none text zero = refl
 part-none [] (suc n) = refl
 part-none (x ∷ text) (suc n) = part-none text n
 
-empty-events : (es : List Event) → (length es == 0) ≡ true → es ≡ []
+empty-events : (es : List SheetEvent) → (length es == 0) ≡ true → es ≡ []
 empty-events [] h = refl
 empty-events (e ∷ es) h = absurd (grind (arith, nat_tests, h))
 
-module _ (text : List ℕ) (written start : ℕ) (es : List Event) (raws : List ℕ) (counts : List Eng) (held : AreHeld start es raws counts (length text)) (order : written ≤ start) (old : LeftView)
+module _ (text : List ℕ) (written start : ℕ) (es : List SheetEvent) (raws : List ℕ) (counts : List Eng) (held : AreHeld start es raws counts (length text)) (order : written ≤ start) (old : LeftView)
     (view : left_from text written start es raws counts ≡ old) where
   -- the first run was passed
-  pub pass-view : (others : List Event) (left : List ℕ) (numbers : List Eng) (e : Event) (raw : ℕ) (number : Eng) (w : Work) → es ≡ e ∷ others → left ≡ drop (raws_taken e.deed) raws → numbers ≡ drop (counts_taken e.deed) counts
+  pub pass-view : (others : List SheetEvent) (left : List ℕ) (numbers : List Eng) (e : SheetEvent) (raw : ℕ) (number : Eng) (w : SheetWork) → es ≡ e ∷ others → left ≡ drop (raws_taken e.deed) raws → numbers ≡ drop (counts_taken e.deed) counts
       → ((seat : ℕ) → act_as seat w ≡ act_of seat e.deed raw number) → raw ≡ get_or raws 0 0 → number ≡ get_or counts 0 no_count → IsPassed e.seat w old (left_from text written e.at others left numbers)
   pass-view others left numbers e raw number w is first second works own own' =
-      let all : AreHeld start (e ∷ others) raws counts (length text) = subst (λ (l : List Event). AreHeld start l raws counts (length text)) is held in
+      let all : AreHeld start (e ∷ others) raws counts (length text) = subst (λ (l : List SheetEvent). AreHeld start l raws counts (length text)) is held in
       let octets = drop start (take e.at text) in
       let act : act_of e.seat e.deed (get_or raws 0 0) (get_or counts 0 no_count) ≡ act_as e.seat w = sym (works e.seat ∙ (λ i. act_of e.seat e.deed (own i) (own' i))) in
       let run : List Run → List Run = λ runs. (octets, act_as e.seat w) ∷ runs in
@@ -289,7 +289,7 @@ module _ (text : List ℕ) (written start : ℕ) (es : List Event) (raws : List 
       (ap (λ (t : List ℕ). drop written (take start text) ++ t) tail ∙ ap (λ (v : LeftView). v.pending ++ v.left.tail) view)
 
 -- a run fewer
-pub passed-fewer : (seat : ℕ) (w : Work) (old new : LeftView) → IsPassed seat w old new → length new.left.runs < length old.left.runs
+pub passed-fewer : (seat : ℕ) (w : SheetWork) (old new : LeftView) → IsPassed seat w old new → length new.left.runs < length old.left.runs
 passed-fewer seat w old new passed = taken-fewer passed.octets seat w old.left new.left passed.taken
 
 -- all runs were passed
@@ -302,7 +302,7 @@ all-passed names db sheet begun rest before after text out octets longer none be
     (wrote ∙ (ap (λ (t : List ℕ). out ++ t) are ∙ sym (append_assoc out rest.pending rest.left.tail)))
 
 -- as many runs as events
-pub runs-count : (text : List ℕ) (start : ℕ) (es : List Event) (raws : List ℕ) (counts : List Eng) → length (runs_in text start es raws counts) ≡ length es
+pub runs-count : (text : List ℕ) (start : ℕ) (es : List SheetEvent) (raws : List ℕ) (counts : List Eng) → length (runs_in text start es raws counts) ≡ length es
 runs-count text start [] raws counts = refl
 runs-count text start (e ∷ es) raws counts = ap suc (runs-count text e.at es (drop (raws_taken e.deed) raws) (drop (counts_taken e.deed) counts))
 
@@ -312,7 +312,7 @@ drop-length (suc n) [] within = absurd (omega (arith, within))
 drop-length (suc n) (x ∷ xs) within = let rest = drop-length n xs (omega (arith, within)) in omega (arith, rest)
 
 -- the octets of a text, from one on
-size-from : (text : List ℕ) (start : ℕ) (es : List Event) (raws : List ℕ) (counts : List Eng) → AreHeld start es raws counts (length text)
+size-from : (text : List ℕ) (start : ℕ) (es : List SheetEvent) (raws : List ℕ) (counts : List Eng) → AreHeld start es raws counts (length text)
     → start + (length (flat_map (λ (run : Run). run.0) (runs_in text start es raws counts)) + length (drop (last_at start es) text)) ≡ length text
 size-from text start [] raws counts held = let rest = drop-length start text held.0 in omega (arith, rest)
 size-from text start (e ∷ es) raws counts held =
@@ -326,7 +326,7 @@ size-from text start (e ∷ es) raws counts held =
     omega (arith, own, part, both, rest)
 
 -- so many octets a sheet has
-pub size-held : (text : List ℕ) (es : List Event) (raws : List ℕ) (counts : List Eng) → AreHeld 0 es raws counts (length text) → held_size (sheet_in text es raws counts) ≡ length text
+pub size-held : (text : List ℕ) (es : List SheetEvent) (raws : List ℕ) (counts : List Eng) → AreHeld 0 es raws counts (length text) → held_size (sheet_in text es raws counts) ≡ length text
 size-held text es raws counts held = let size = size-from text 0 es raws counts held in omega (arith, size)
 
 -- what stands behind octets
@@ -339,7 +339,7 @@ pub write-behind : (octets : List ℕ) (old new : SheetView) → new ≡ with_te
 write-behind octets old new is = sym (ap (λ (s : SheetView). drop (length old.tail) s.tail) is ∙ drop-own old.tail octets)
 
 -- as many events as runs
-pub events_many : (text : List ℕ) (es : List Event) (raws : List ℕ) (counts : List Eng) (old : SheetView) → sheet_in text es raws counts ≡ old → length es ≡ length old.runs
+pub events_many : (text : List ℕ) (es : List SheetEvent) (raws : List ℕ) (counts : List Eng) (old : SheetView) → sheet_in text es raws counts ≡ old → length es ≡ length old.runs
 events_many text es raws counts old view = sym (runs-count text 0 es raws counts) ∙ ap (λ (s : SheetView). length s.runs) view
 
 -- an act more

@@ -3,8 +3,8 @@ use Rattle.std.proofs.Common.{◌≡◌, ◌∙◌, ℕ, suc, ◌+◌, ◌<◌, 
 use Rattle.std.specs.List.{flat_map}
 use Rattle.mib_model.specs.declared.database.Database.{Database}
 use Rattle.mib_model.specs.Kept.{Memory}
-use Rattle.line_sheets.specs.declared.reading.Work.{Work}
-use Rattle.line_sheets.specs.declared.reading.Work.TheVariants as work
+use Rattle.line_sheets.specs.declared.reading.SheetWork.{SheetWork}
+use Rattle.line_sheets.specs.declared.reading.SheetWork.TheVariants as work
 use Rattle.line_sheets.specs.Pieces.{Played, behind, played, played_one}
 use Rattle.line_sheets.specs.Playing.{GoesOn, left_played}
 use Rattle.line_sheets.specs.Readings.{HasPlayed, IsPassed, IsTaken, LeftView, held_size}
@@ -12,25 +12,25 @@ use Rattle.line_sheets.specs.Lying.{act_as}
 use Rattle.line_sheets.specs.Sheets.{AreSeated, Run, SheetView, piece_of, pieces_of, seat_of}
 use Rattle.line_sheets.proofs.LyingFacts.{end-played, run-played}
 
-seat-same : (seat : ℕ) (w : Work) → seat_of (act_as seat w) ≡ seat
+seat-same : (seat : ℕ) (w : SheetWork) → seat_of (act_as seat w) ≡ seat
 seat-same seat (work.Enter raw) = refl
 seat-same seat (work.Calm number) = refl
 seat-same seat (work.Open raw) = refl
 
 -- the first run speaks of a name that has a seat
-pub first-seated : (names : List (List ℕ)) (seat : ℕ) (w : Work) (old new : LeftView) → IsPassed seat w old new → AreSeated names old.left.runs → seat < length names
+pub first-seated : (names : List (List ℕ)) (seat : ℕ) (w : SheetWork) (old new : LeftView) → IsPassed seat w old new → AreSeated names old.left.runs → seat < length names
 first-seated names seat w old new passed seated =
     let all : AreSeated names ((passed.octets, act_as seat w) ∷ new.left.runs) = subst (AreSeated names) passed.taken.runs seated in
     subst (λ (n : ℕ). n < length names) (seat-same seat w) (all 0 (passed.octets, act_as seat w) (omega arith))
 
 -- so do the others
-others-seated : (names : List (List ℕ)) (seat : ℕ) (w : Work) (old new : LeftView) → IsPassed seat w old new → AreSeated names old.left.runs → AreSeated names new.left.runs
+others-seated : (names : List (List ℕ)) (seat : ℕ) (w : SheetWork) (old new : LeftView) → IsPassed seat w old new → AreSeated names old.left.runs → AreSeated names new.left.runs
 others-seated names seat w old new passed seated =
     let all : AreSeated names ((passed.octets, act_as seat w) ∷ new.left.runs) = subst (AreSeated names) passed.taken.runs seated in
     λ k d below. all (suc k) d (omega (arith, below))
 
 -- a run more was played
-pub run-goes : (db : Database) (names : List (List ℕ)) (begun old passed left : LeftView) (seat : ℕ) (w : Work) (text middle longer : List ℕ) (first before after : Memory)
+pub run-goes : (db : Database) (names : List (List ℕ)) (begun old passed left : LeftView) (seat : ℕ) (w : SheetWork) (text middle longer : List ℕ) (first before after : Memory)
     → GoesOn db names begun old text middle first before → IsPassed seat w old passed → left.left ≡ passed.left
     → HasPlayed (played_one db (piece_of names (act_as seat w)) before) after (middle ++ passed.pending) (longer ++ left.pending) → GoesOn db names begun left text longer first after
 run-goes db names begun old passed left seat w text middle longer first before after goes is same has =
@@ -58,7 +58,7 @@ end-goes db names sheet begun left text middle longer octets first after began g
     }
 
 -- the octets of a run are no longer left
-taken-size : (octets : List ℕ) (seat : ℕ) (w : Work) (old new : SheetView) → IsTaken octets seat w old new → held_size old ≡ length octets + held_size new
+taken-size : (octets : List ℕ) (seat : ℕ) (w : SheetWork) (old new : SheetView) → IsTaken octets seat w old new → held_size old ≡ length octets + held_size new
 taken-size octets seat w old new taken =
     let runs : length (flat_map (λ (run : Run). run.0) old.runs) ≡ length (octets ++ flat_map (λ (run : Run). run.0) new.runs) = ap (λ (rs : List Run). length (flat_map (λ (run : Run). run.0) rs)) taken.runs in
     let both : length (octets ++ flat_map (λ (run : Run). run.0) new.runs) ≡ length octets + length (flat_map (λ (run : Run). run.0) new.runs) = length-append octets (flat_map (λ (run : Run). run.0) new.runs) in
@@ -66,7 +66,7 @@ taken-size octets seat w old new taken =
     omega (arith, runs, both, tail)
 
 -- a run that is passed makes nothing longer
-pub passed-size : (seat : ℕ) (w : Work) (old new : LeftView) → IsPassed seat w old new
+pub passed-size : (seat : ℕ) (w : SheetWork) (old new : LeftView) → IsPassed seat w old new
     → (length new.pending + held_size new.left ≡ length old.pending + held_size old.left) × (length old.left.runs ≡ length new.left.runs + 1)
 passed-size seat w old new passed =
     let size = taken-size passed.octets seat w old.left new.left passed.taken in

@@ -1,10 +1,10 @@
 -- A sheet as it lies in memory: a text, events, and the numbers that they take. [This profile.]
 use Rattle.std.specs.Prelude.{◌≡◌, ℕ, ℤ, pos, neg_ℤ, Bool, if◌then◌else◌, min, ◌≤◌, List, [], ◌∷◌, length, take, drop, get_or, Some, None}
-use Rattle.line_sheets.specs.declared.reading.Work.{Work}
-use Rattle.line_sheets.specs.declared.reading.Work.TheVariants as work
+use Rattle.line_sheets.specs.declared.reading.SheetWork.{SheetWork}
+use Rattle.line_sheets.specs.declared.reading.SheetWork.TheVariants as work
 use Rattle.line_sheets.specs.declared.sheet.Deed.{Deed}
 use Rattle.line_sheets.specs.declared.sheet.Deed.TheVariants as deed
-use Rattle.line_sheets.specs.declared.sheet.Event.{Event}
+use Rattle.line_sheets.specs.declared.sheet.SheetEvent.{SheetEvent}
 use Rattle.line_sheets.specs.Sheets.{Act, Calmed, Entered, Opened, Run, SheetView}
 use Rattle.mib_model.specs.declared.number.Eng.{Eng}
 
@@ -50,33 +50,33 @@ act_of seat deed.Open raw number = Opened seat None
 act_of seat (deed.OpenRaw below) raw number = Opened seat (Some (held_raw below raw))
 
 -- the runs of events, the first of which begins at an octet; they take the numbers in their order
-abbrev pub runs_in : List ℕ → ℕ → List Event → List ℕ → List Eng → List Run
+abbrev pub runs_in : List ℕ → ℕ → List SheetEvent → List ℕ → List Eng → List Run
 runs_in text start [] raws counts = []
 runs_in text start (e ∷ es) raws counts =
     (drop start (take e.at text), act_of e.seat e.deed (get_or raws 0 0) (get_or counts 0 no_count)) ∷
     runs_in text e.at es (drop (raws_taken e.deed) raws) (drop (counts_taken e.deed) counts)
 
 -- where the text behind the last event begins
-abbrev pub last_at : ℕ → List Event → ℕ
+abbrev pub last_at : ℕ → List SheetEvent → ℕ
 last_at start [] = start
 last_at start (e ∷ es) = last_at e.at es
 
 -- what is left of a sheet, from an octet of its text on
-abbrev pub sheet_from : List ℕ → ℕ → List Event → List ℕ → List Eng → SheetView
+abbrev pub sheet_from : List ℕ → ℕ → List SheetEvent → List ℕ → List Eng → SheetView
 sheet_from text start events raws counts = record { runs = runs_in text start events raws counts; tail = drop (last_at start events) text; size = length text }
 
 -- the sheet of a text, of events and of their numbers
-abbrev pub sheet_in : List ℕ → List Event → List ℕ → List Eng → SheetView
+abbrev pub sheet_in : List ℕ → List SheetEvent → List ℕ → List Eng → SheetView
 sheet_in text events raws counts = sheet_from text 0 events raws counts
 
 -- the act that a seat and what is to be done there are
-abbrev pub act_as : ℕ → Work → Act
+abbrev pub act_as : ℕ → SheetWork → Act
 act_as seat (work.Enter raw) = Entered seat raw
 act_as seat (work.Calm number) = Calmed seat number.count
 act_as seat (work.Open raw) = Opened seat raw
 
 -- events stand in their order, none behind the end of the text, and there are as many numbers as they take
-abbrev pub AreHeld : ℕ → List Event → List ℕ → List Eng → ℕ → Type 0
+abbrev pub AreHeld : ℕ → List SheetEvent → List ℕ → List Eng → ℕ → Type 0
 AreHeld start [] raws counts end = (start ≤ end) × (length raws ≡ 0) × (length counts ≡ 0)
 AreHeld start (e ∷ es) raws counts end =
     (start ≤ e.at) × (raws_taken e.deed ≤ length raws) × (counts_taken e.deed ≤ length counts)

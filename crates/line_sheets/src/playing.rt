@@ -10,8 +10,8 @@ ghost use Rattle.line_sheets.specs.Sheets.{AreSeated, piece_of, pieces_of};
 ghost use Rattle.mib_model.specs.declared.database.Database.{Database};
 ghost use Rattle.record_text.specs.declared.lines.TheConstants.{END_ROOM, LINES_ROOM, LINE_MOST, NOTE_ROOM};
 
-use crate::reading::{Reading, Work};
-use crate::sheet::{Event, Sheet};
+use crate::reading::{Reading, SheetWork};
+use crate::sheet::{SheetEvent, Sheet};
 use fold_state::Board;
 use mib_model::Eng;
 use param_plan::Params;
@@ -21,7 +21,7 @@ use record_text::{Lines, VALUE_ROOM, add_written};
 const AHEAD: usize = 64;
 
 // A number made of what is kept of the names behind the next ones. It says nothing.
-fn touch(board: &Board, events: &[Event]) -> usize {
+fn touch(board: &Board, events: &[SheetEvent]) -> usize {
     let mut seen = 0;
     for at in AHEAD..events.len().min(AHEAD + AHEAD) {
         seen ^= board.touch_at(events[at].seat as usize);
@@ -31,7 +31,7 @@ fn touch(board: &Board, events: &[Event]) -> usize {
 
 // Reads ahead what is kept of them, once for so many.
 #[inline(always)]
-fn read_ahead(board: &mut Board, events: &[Event])
+fn read_ahead(board: &mut Board, events: &[SheetEvent])
     ensures { board.new ≡ board.old }
 {
     if events.len() % AHEAD == 0 {
@@ -67,7 +67,7 @@ fn play_calm(
     ensures names { board.new.names ≡ board.old.names }
     ensures left { reading.new.left ≡ reading.old.left }
     ensures played { (db : Database) → seat < length board.old.names
-        → HasPlayed (played_one db (piece_of board.old.names (act_as seat (Work.Calm number))) (memory_of board.old)) (memory_of board.new)
+        → HasPlayed (played_one db (piece_of board.old.names (act_as seat (SheetWork.Calm number))) (memory_of board.old)) (memory_of board.new)
         (out.old ++ reading.old.pending) (out.new ++ reading.new.pending) }
     ensures room { length out.new + length reading.new.pending ≤ length out.old + length reading.old.pending + NOTE_ROOM }
 {
@@ -87,12 +87,12 @@ fn play_open(
     reading: &mut Reading<'_>,
     out: &mut Lines,
 )
-    requires raw { HasRaw (Work.Open raw) }
+    requires raw { HasRaw (SheetWork.Open raw) }
     requires room { length out.old + length reading.old.pending + END_ROOM + LINE_MOST ≤ LINES_ROOM }
     ensures names { board.new.names ≡ board.old.names }
     ensures left { reading.new.left ≡ reading.old.left }
     ensures played { (db : Database) → IsParamsOf db params.now → board.old.names ≡ plan_names params.now → seat < length board.old.names
-        → HasPlayed (played_one db (piece_of board.old.names (act_as seat (Work.Open raw))) (memory_of board.old)) (memory_of board.new)
+        → HasPlayed (played_one db (piece_of board.old.names (act_as seat (SheetWork.Open raw))) (memory_of board.old)) (memory_of board.new)
         (out.old ++ reading.old.pending) (out.new ++ reading.new.pending) }
     ensures room { length out.new + length reading.new.pending ≤ length out.old + length reading.old.pending + (END_ROOM + NOTE_ROOM) }
 {
@@ -106,7 +106,7 @@ fn play_one(
     board: &mut Board,
     params: &Params,
     seat: usize,
-    work: Work,
+    work: SheetWork,
     reading: &mut Reading<'_>,
     out: &mut Lines,
 )
@@ -120,9 +120,9 @@ fn play_one(
     ensures room { length out.new + length reading.new.pending ≤ length out.old + length reading.old.pending + (END_ROOM + NOTE_ROOM) }
 {
     match work {
-        Work::Enter(raw) => board.enter_at(seat, raw),
-        Work::Calm(number) => play_calm(board, seat, number, reading, out),
-        Work::Open(raw) => play_open(board, params, seat, raw, reading, out),
+        SheetWork::Enter(raw) => board.enter_at(seat, raw),
+        SheetWork::Calm(number) => play_calm(board, seat, number, reading, out),
+        SheetWork::Open(raw) => play_open(board, params, seat, raw, reading, out),
     }
 }
 

@@ -4,7 +4,7 @@ ghost use Rattle.std.specs.Prelude.{◌≡◌, ◌≤◌, ◌≤ℤ◌, ◌++◌
 ghost use Rattle.line_sheets.specs.Readings.{HasRaw, IsPassed};
 ghost use Rattle.line_sheets.specs.Lying.{AreHeld, act_as, act_of, counts_taken, held_raw, no_count, raws_taken, sheet_in};
 
-use crate::sheet::{Deed, Event};
+use crate::sheet::{Deed, SheetEvent};
 use mib_model::Eng;
 use std::marker::Model;
 
@@ -13,7 +13,7 @@ const MOST_BELOW: u64 = 9_223_372_036_854_775_808;
 
 /// What is to be done with the name that has a seat.
 #[derive(Clone, Copy)]
-pub enum Work {
+pub enum SheetWork {
     /// A raw number is entered.
     Enter(i128),
     /// The alarm takes a step after a nominal number.
@@ -27,7 +27,7 @@ pub struct Reading<'a> {
     text: &'a [u8],
     written: usize,
     from: usize,
-    events: &'a [Event],
+    events: &'a [SheetEvent],
     raws: &'a [u64],
     counts: &'a [Eng],
 }
@@ -128,15 +128,15 @@ fn together(below: bool, magnitude: u64) -> i128
 
 // What a deed is with its numbers.
 #[inline(always)]
-fn work_of(deed: Deed, raw: u64, number: Eng) -> Work
+fn work_of(deed: Deed, raw: u64, number: Eng) -> SheetWork
     ensures act { (seat : ℕ) → act_as seat result ≡ act_of seat deed raw number }
     ensures raw { HasRaw result }
 {
     match deed {
-        Deed::Enter(below) => Work::Enter(together(below, raw)),
-        Deed::Calm => Work::Calm(number),
-        Deed::Open => Work::Open(None),
-        Deed::OpenRaw(below) => Work::Open(Some(together(below, raw))),
+        Deed::Enter(below) => SheetWork::Enter(together(below, raw)),
+        Deed::Calm => SheetWork::Calm(number),
+        Deed::Open => SheetWork::Open(None),
+        Deed::OpenRaw(below) => SheetWork::Open(Some(together(below, raw))),
     }
 }
 
@@ -144,7 +144,7 @@ impl<'a> Reading<'a> {
     // All of a sheet.
     pub(crate) fn of(
         text: &'a [u8],
-        events: &'a [Event],
+        events: &'a [SheetEvent],
         raws: &'a [u64],
         counts: &'a [Eng],
     ) -> Reading<'a>
@@ -163,19 +163,19 @@ impl<'a> Reading<'a> {
 
     /// The events that are left. They say nothing.
     #[inline(always)]
-    pub(crate) fn ahead(&self) -> &'a [Event] {
+    pub(crate) fn ahead(&self) -> &'a [SheetEvent] {
         self.events
     }
 
     /// Passes the first run: the seat of a name, and what is to be done there. The run's octets are pending.
-    pub fn pass(&mut self) -> Option<(u32, Work)>
+    pub fn pass(&mut self) -> Option<(u32, SheetWork)>
         ensures passed { IfSome result (λ r. IsPassed r.0 r.1 self.old self.new) }
         ensures raw { IfSome result (λ r. HasRaw r.1) }
         ensures end { IsNone result → self.old.left.runs ≡ [] }
         ensures same { IsNone result → self.new ≡ self.old }
     {
         let (first, others) = self.events.split_first()?;
-        let Event { at, seat, deed } = *first;
+        let SheetEvent { at, seat, deed } = *first;
         let work = work_of(deed, first_raw(self.raws), first_count(self.counts));
         self.raws = other_raws(deed, self.raws);
         self.counts = other_counts(deed, self.counts);

@@ -50,20 +50,20 @@ pub enum Deed {
 
 /// What is done with the name that has a seat, behind so many octets of text.
 #[derive(Clone, Copy)]
-pub struct Event {
+pub struct SheetEvent {
     pub at: u32,
     pub seat: u32,
     pub deed: Deed,
 }
 
 // A sheet goes from the memory of one processor to that of another, so it is small.
-const _: () = prove!(size_of::<Event>() == 12);
+const _: () = prove!(size_of::<SheetEvent>() == 12);
 
 /// The records of a stretch of packets, in room that is reserved once. Contracts see the parts of the text, each with what is done
 /// behind it.
 pub struct Sheet {
     pub(crate) text: Lines,
-    events: Vec<Event>,
+    events: Vec<SheetEvent>,
     raws: Vec<u64>,
     counts: Vec<Eng>,
 }
@@ -167,7 +167,7 @@ impl Sheet {
         if values > VALUES_MOST || self.text.bytes().len() > TEXT_MOST {
             return false;
         }
-        let events: &[Event] = &self.events;
+        let events: &[SheetEvent] = &self.events;
         events.len() <= EVENT_ROOM - 2 * VALUES_MOST
     }
 
@@ -180,7 +180,7 @@ impl Sheet {
         let at = self.text.bytes().len() as u32;
         note_raw(deed, raw, &mut self.raws);
         note_count(deed, number, &mut self.counts);
-        self.events.push_reserved(Event { at, seat, deed });
+        self.events.push_reserved(SheetEvent { at, seat, deed });
     }
 
     /// A raw number is entered behind it now, of the name that has a seat.

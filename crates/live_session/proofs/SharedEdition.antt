@@ -11,7 +11,7 @@ use Rattle.edition_diff.specs.contracts.plan_sets.PlanSets as PlanSets
 use Rattle.layout_plan.specs.contracts.layout.Layout as Layout
 use Rattle.numbered_plans.specs.contracts.deduced.Deduced as Deduced
 use Rattle.numbered_plans.specs.contracts.plan_set.PlanSet as PlanSet
-use Rattle.numbered_plans.specs.declared.numbered.Numbered as Numbered
+use Rattle.numbered_plans.specs.declared.numbered.NumberedPlan as NumberedPlan
 use Rattle.mib_model.specs.contracts.rows.CafRow as CafRow
 use Rattle.mib_model.specs.contracts.rows.CapRow as CapRow
 use Rattle.mib_model.specs.contracts.rows.CurRow as CurRow
@@ -107,17 +107,17 @@ layout-crosses = record { read = search (crosses, sendable) depth 60 fits 20000;
 structure-crosses : Crosses Structure.the_row
 structure-crosses = record { read = search (crosses, sendable) depth 60 fits 20000; moved = search (crosses, sendable) depth 60 fits 20000 }
 
-shared-plans-sync : (T : RattleType) (g : Numbered.Ghosts T.Denot) → IsSync T → IsSend T → IsSync (PlanSet.the_row T g)
+shared-plans-sync : (T : RattleType) (g : NumberedPlan.Ghosts T.Denot) → IsSync T → IsSend T → IsSync (PlanSet.the_row T g)
 shared-plans-sync T g y d = search (map_crosses, crosses, sendable) depth 60 fits 20000
 
-shared-plans-send : (T : RattleType) (g : Numbered.Ghosts T.Denot) → IsSync T → IsSend T → IsSend (PlanSet.the_row T g)
+shared-plans-send : (T : RattleType) (g : NumberedPlan.Ghosts T.Denot) → IsSync T → IsSend T → IsSend (PlanSet.the_row T g)
 shared-plans-send T g y d = search (map_crosses, crosses, sendable) depth 60 fits 20000
 
 -- sets share their plans, so those must cross in both ways
-set-sync : (T : RattleType) (g : Numbered.Ghosts T.Denot) → Crosses T → IsSync (PlanSet.the_row T g)
+set-sync : (T : RattleType) (g : NumberedPlan.Ghosts T.Denot) → Crosses T → IsSync (PlanSet.the_row T g)
 set-sync T g c = shared-plans-sync T g c.read c.moved
 
-set-send : (T : RattleType) (g : Numbered.Ghosts T.Denot) → Crosses T → IsSend (PlanSet.the_row T g)
+set-send : (T : RattleType) (g : NumberedPlan.Ghosts T.Denot) → Crosses T → IsSend (PlanSet.the_row T g)
 set-send T g c = shared-plans-send T g c.read c.moved
 
 deduced-sync : IsSync Deduced.the_row

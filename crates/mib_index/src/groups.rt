@@ -12,11 +12,11 @@ use std::marker::Model;
 
 // The rows of one key, where they stand. Contracts see the list of them.
 #[derive(Drop)]
-struct Group<'a, R: Copy + Drop> {
+struct KeyGroup<'a, R: Copy + Drop> {
     rows: Vec<&'a R>,
 }
 
-impl<'a, R: Copy + Drop> Model for Group<'a, R> {
+impl<'a, R: Copy + Drop> Model for KeyGroup<'a, R> {
     ghost use Rattle.std.specs.Prelude.{List, map};
 
     ghost Value = { List R };
@@ -38,12 +38,12 @@ fn copies_of<R: Copy + Drop>(alloc: Global, rows: &[&R]) -> Result<Vec<R>, Alloc
     rows.iter().map(copy_of).collect(alloc)
 }
 
-impl<'a, R: Copy + Drop> Group<'a, R> {
+impl<'a, R: Copy + Drop> KeyGroup<'a, R> {
     // A group without rows.
-    fn empty(alloc: Global) -> Group<'a, R>
+    fn empty(alloc: Global) -> KeyGroup<'a, R>
         ensures { result ≡ [] }
     {
-        Group {
+        KeyGroup {
             rows: Vec::new(alloc),
         }
     }
@@ -75,7 +75,7 @@ impl<'a, R: Copy + Drop> Group<'a, R> {
 #[derive(Drop)]
 pub struct Groups<'a, B: By> {
     // None where few are looked up.
-    groups: Option<HashMap<B::Key, Group<'a, B::Row>>>,
+    groups: Option<HashMap<B::Key, KeyGroup<'a, B::Row>>>,
     rows: &'a [B::Row],
 }
 
@@ -96,21 +96,21 @@ impl<'a, B: By> Model for Groups<'a, B> {
 // Puts a row behind those of a key, in one probe.
 fn add<'a, K: Eq + Hash + Copy + Drop, R: Copy + Drop>(
     alloc: Global,
-    groups: &mut HashMap<K, Group<'a, R>>,
+    groups: &mut HashMap<K, KeyGroup<'a, R>>,
     key: K,
     row: &'a R,
 ) -> Result<(), AllocError>
     ensures { OnOk result ((q : K) → rows_of (get K.eq groups.new q) ≡
         (if K.eq key q then rows_of (get K.eq groups.old q) ++ row.now ∷ [] else rows_of (get K.eq groups.old q))) }
 {
-    let group = groups.entry(key)?.or_insert(Group::empty(alloc));
+    let group = groups.entry(key)?.or_insert(KeyGroup::empty(alloc));
     group.add(row)
 }
 
 // Puts a row behind those with its key, if it has one.
 fn put<'a, B: By>(
     alloc: Global,
-    groups: &mut HashMap<B::Key, Group<'a, B::Row>>,
+    groups: &mut HashMap<B::Key, KeyGroup<'a, B::Row>>,
     row: &'a B::Row,
 ) -> Result<(), AllocError>
     ensures { OnOk result ((key : B.Key) → rows_of (get B.Key.eq groups.new key) ≡ (if option_eq B.Key.eq (B.key_of row.now) (Some key)
@@ -126,7 +126,7 @@ fn put<'a, B: By>(
 fn groups_of<'a, B: By>(
     alloc: Global,
     rows: &'a [B::Row],
-) -> Result<HashMap<B::Key, Group<'a, B::Row>>, AllocError>
+) -> Result<HashMap<B::Key, KeyGroup<'a, B::Row>>, AllocError>
     ensures { IfOk result (λ groups. (key : B.Key) → rows_of (get B.Key.eq groups key)
         ≡ filter (λ row. option_eq B.Key.eq (B.key_of row) (Some key)) rows.now) }
 {

@@ -9,7 +9,7 @@ ghost use Rattle.numbered_plans.specs.Numbered.{added, found_among, has_same, ne
 
 use crate::before::Before;
 use crate::order::in_order;
-use crate::plans::Plans;
+use crate::plans::PlanMap;
 use crate::sources::Sources;
 use mib_model::Steps;
 use std::alloc::{AllocError, Global};
@@ -19,7 +19,7 @@ use std::sync::ledger::Ledger;
 
 // A plan, and whether it was compiled, not shared.
 #[derive(Drop)]
-struct Plan<P: Drop> {
+struct BuiltPlan<P: Drop> {
     plan: Arc<P>,
     is_new: bool,
 }
@@ -34,7 +34,7 @@ struct Building<P: Drop> {
 /// Plans by number, and the numbers of those that were compiled, not shared, in order.
 #[derive(Drop)]
 pub struct Built<P: Drop> {
-    pub plans: Plans<P>,
+    pub plans: PlanMap<P>,
     pub compiled: Vec<u32>,
 }
 
@@ -45,18 +45,18 @@ fn plan_of<S: Sources, L: Ledger>(
     number: i128,
     rows: &S::Rows,
     steps: &mut Steps<L>,
-) -> Result<Plan<S::Plan>, AllocError>
+) -> Result<BuiltPlan<S::Plan>, AllocError>
     ensures plan { IfOk result (λ made. arc_value made.plan ≡ S.rows_of rows.now) }
     ensures is_new { IfOk result (λ made. made.is_new ≡ not (has_same S.same (S.rows_at before.now number) (S.rows_of rows.now))) }
     ensures steps { OnOk result (steps.new ≡ steps.old + one_if (not (has_same S.same (S.rows_at before.now number) (S.rows_of rows.now)))) }
 {
     if let Some(plan) = before.shared(alloc, number, rows)? {
-        return Ok(Plan {
+        return Ok(BuiltPlan {
             plan,
             is_new: false,
         });
     }
-    Ok(Plan {
+    Ok(BuiltPlan {
         plan: Arc::new(alloc, S::compile(alloc, rows, steps)?)?,
         is_new: true,
     })
@@ -85,7 +85,7 @@ fn note<S: Sources, L: Ledger>(
     let Some(rows) = new.rows(alloc, key)? else {
         return Ok(());
     };
-    let Plan { plan, is_new } = plan_of(alloc, before, key, &rows, steps)?;
+    let BuiltPlan { plan, is_new } = plan_of(alloc, before, key, &rows, steps)?;
     building.plans.insert(key, plan)?;
     if is_new {
         building.compiled.push(number)?;
@@ -133,7 +133,7 @@ pub fn build<S: Sources, L: Ledger>(
     let numbers = new.numbers(alloc)?;
     let Building { plans, compiled } = noted(alloc, before, new, &numbers, steps)?;
     Ok(Built {
-        plans: Plans::of(alloc, plans, &numbers)?,
+        plans: PlanMap::of(alloc, plans, &numbers)?,
         compiled: in_order(compiled)?,
     })
 }

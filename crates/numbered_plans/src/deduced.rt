@@ -8,7 +8,7 @@ ghost use Rattle.mib_model.specs.Plans.{type_item};
 ghost use Rattle.numbered_plans.specs.Structures.{item_numbered, number_of};
 
 use crate::known::are_same;
-use first_rows::Seen;
+use first_rows::GhostRows;
 use mib_model::{PcfRow, TypeItem};
 use std::alloc::{AllocError, Global};
 use std::collections::HashMap;
@@ -20,7 +20,7 @@ use type_items::item_of;
 #[derive(Drop)]
 pub struct Deduced {
     items: HashMap<i128, TypeItem>,
-    parameters: Seen<PcfRow>,
+    parameters: GhostRows<PcfRow>,
 }
 
 impl Model for Deduced {
@@ -79,7 +79,7 @@ impl Deduced {
     {
         Ok(Deduced {
             items: firsts(alloc, parameters)?,
-            parameters: Seen::of(alloc, parameters)?,
+            parameters: GhostRows::of(alloc, parameters)?,
         })
     }
 

@@ -8,9 +8,9 @@ use crate::before::Before;
 use crate::building::{Built, build};
 use crate::known::{are_same, are_types_same};
 use crate::layout_sources::LayoutSources;
-use crate::numbered::Numbered;
+use crate::numbered::NumberedPlan;
 use crate::plan_set::PlanSet;
-use crate::plans::Plans;
+use crate::plans::PlanMap;
 use layout_plan::Layout;
 use mib_model::Steps;
 use mib_tables::{Book, TableSet};
@@ -25,7 +25,7 @@ fn are_placed_alike(known: TableSet, old: &Book, book: &Book) -> bool
     are_same(known.pid, old.pid(), book.pid()) && are_same(known.plf, old.plf(), book.plf())
 }
 
-impl Numbered for Layout {
+impl NumberedPlan for Layout {
     ghost use Rattle.std.proofs.Common.{refl};
     ghost use Rattle.numbered_plans.specs.Laws.{same-layout};
     ghost use Rattle.numbered_plans.specs.Layouts.{laid_spids, layout_numbered, same_layout};
@@ -46,7 +46,7 @@ impl Numbered for Layout {
 
     fn build<L: Ledger>(
         alloc: Global,
-        base: &Plans<Layout>,
+        base: &PlanMap<Layout>,
         old: &Book,
         book: &Book,
         steps: &mut Steps<L>,

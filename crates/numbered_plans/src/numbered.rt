@@ -6,14 +6,14 @@ ghost use Rattle.mib_model.specs.declared.limits.TheConstants.{HELD_MOST};
 ghost use Rattle.numbered_plans.specs.Numbered.{new_numbers, plan_at};
 
 use crate::building::Built;
-use crate::plans::Plans;
+use crate::plans::PlanMap;
 use mib_model::Steps;
 use mib_tables::{Book, TableSet};
 use std::alloc::{AllocError, Global};
 use std::sync::ledger::Ledger;
 
 /// A plan that is found by a number, seen as the rows and type items that it is compiled of.
-pub trait Numbered: Drop {
+pub trait NumberedPlan: Drop {
     ghost rows_at: { Database → ℤ → Option Self };
 
     ghost same: { Self → Self → Bool };
@@ -28,7 +28,7 @@ pub trait Numbered: Drop {
     /// The plans of a book beside those of another, each of which is looked at. An error is want of memory.
     fn build<L: Ledger>(
         alloc: Global,
-        base: &Plans<Self>,
+        base: &PlanMap<Self>,
         old: &Book,
         book: &Book,
         steps: &mut Steps<L>,

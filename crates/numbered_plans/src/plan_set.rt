@@ -6,8 +6,8 @@ ghost use Rattle.mib_model.specs.Database.{no_rows};
 ghost use Rattle.mib_model.specs.declared.limits.TheConstants.{HELD_MOST};
 ghost use Rattle.numbered_plans.specs.Numbered.{new_numbers};
 
-use crate::numbered::Numbered;
-use crate::plans::Plans;
+use crate::numbered::NumberedPlan;
+use crate::plans::PlanMap;
 use layout_plan::Layout;
 use mib_model::Steps;
 use mib_tables::{Book, TableSet};
@@ -19,8 +19,8 @@ use std::sync::ledger::Ledger;
 use struct_plan::Structure;
 
 /// The plans of one kind of a database, compiled, by their numbers. Contracts see the database.
-pub struct PlanSet<P: Numbered> {
-    plans: Arc<Plans<P>>,
+pub struct PlanSet<P: NumberedPlan> {
+    plans: Arc<PlanMap<P>>,
     book: Snapshot<Book>,
 }
 
@@ -31,7 +31,7 @@ pub type LayoutSet = PlanSet<Layout>;
 pub type StructureSet = PlanSet<Structure>;
 
 /// By hand, so that whoever lets one go proves one call.
-impl<P: Numbered> Drop for PlanSet<P> {
+impl<P: NumberedPlan> Drop for PlanSet<P> {
     fn drop(self) {
         let PlanSet {
             plans: _plans,
@@ -40,7 +40,7 @@ impl<P: Numbered> Drop for PlanSet<P> {
     }
 }
 
-impl<P: Numbered> Model for PlanSet<P> {
+impl<P: NumberedPlan> Model for PlanSet<P> {
     ghost use Rattle.std.specs.Prelude.{◌≡◌, ℤ};
     ghost use Rattle.std.specs.Arc.{arc_value};
     ghost use Rattle.mib_model.specs.declared.database.Database.{Database};
@@ -55,18 +55,18 @@ impl<P: Numbered> Model for PlanSet<P> {
 
 /// A set of plans, and the numbers of those that were compiled for it, not shared, in order.
 #[derive(Drop)]
-pub struct Made<P: Numbered> {
+pub struct MadeSet<P: NumberedPlan> {
     pub set: PlanSet<P>,
     pub compiled: Vec<u32>,
 }
 
-impl<P: Numbered> PlanSet<P> {
+impl<P: NumberedPlan> PlanSet<P> {
     /// The set of a database without rows. An error is want of memory.
     pub fn empty(alloc: Global) -> Result<PlanSet<P>, AllocError>
         ensures { IfOk result (λ set. set ≡ no_rows) }
     {
         Ok(PlanSet {
-            plans: Arc::new(alloc, Plans::none(alloc))?,
+            plans: Arc::new(alloc, PlanMap::none(alloc))?,
             book: Snapshot::of(&Book::empty(alloc)),
         })
     }
@@ -89,7 +89,7 @@ impl<P: Numbered> PlanSet<P> {
         old: &Book,
         book: &Book,
         steps: &mut Steps<L>,
-    ) -> Result<Made<P>, AllocError>
+    ) -> Result<MadeSet<P>, AllocError>
         requires { base.now ≡ old.now }
         ensures set { IfOk result (λ made. made.set ≡ book.now) }
         ensures compiled { IfOk result (λ made. made.compiled.items ≡ new_numbers P.same P.rows_at P.numbers base.now book.now) }
@@ -101,7 +101,7 @@ impl<P: Numbered> PlanSet<P> {
             plans: Arc::new(alloc, built.plans)?,
             book: Snapshot::of(book),
         };
-        Ok(Made {
+        Ok(MadeSet {
             set,
             compiled: built.compiled,
         })
@@ -117,7 +117,7 @@ impl<P: Numbered> PlanSet<P> {
         known: TableSet,
         book: &Book,
         steps: &mut Steps<L>,
-    ) -> Result<Made<P>, AllocError>
+    ) -> Result<MadeSet<P>, AllocError>
         requires base { base.now ≡ old.now }
         requires known { AreSameIn known old.now book.now }
         ensures set { IfOk result (λ made. made.set ≡ book.now) }
@@ -126,7 +126,7 @@ impl<P: Numbered> PlanSet<P> {
         ensures steps { OnOk result (steps.new ≡ steps.old + length (new_numbers P.same P.rows_at P.numbers base.now book.now)) }
     {
         if P::are_alike(known, old, book) {
-            return Ok(Made {
+            return Ok(MadeSet {
                 set: base.taken_over(book)?,
                 compiled: Vec::new(alloc),
             });
@@ -141,7 +141,7 @@ impl<P: Numbered> PlanSet<P> {
         old: &Book,
         book: &Book,
         steps: &mut Steps<L>,
-    ) -> Result<Made<P>, AllocError>
+    ) -> Result<MadeSet<P>, AllocError>
         requires { base.now ≡ old.now }
         ensures set { IfOk result (λ made. made.set ≡ book.now) }
         ensures compiled { IfOk result (λ made. made.compiled.items ≡ new_numbers P.same P.rows_at P.numbers base.now book.now) }

@@ -20,7 +20,7 @@ pub struct Kept<P: Drop> {
 
 /// Plans by number, most of them at the places of their numbers too.
 #[derive(Drop)]
-pub struct Plans<P: Drop> {
+pub struct PlanMap<P: Drop> {
     pub map: HashMap<i128, Arc<P>>,
     by_number: ByNumber<Kept<P>>,
     ghost at_hand: { ArePlansOf map by_number },
@@ -77,12 +77,12 @@ fn at_place<P: Drop>(by_number: &ByNumber<Kept<P>>, number: i128) -> Option<&Kep
     }
 }
 
-impl<P: Drop> Plans<P> {
+impl<P: Drop> PlanMap<P> {
     /// No plans. They take no memory.
-    pub fn none(alloc: Global) -> Plans<P>
+    pub fn none(alloc: Global) -> PlanMap<P>
         ensures { (number : ℤ) → plan_at result.map number ≡ None }
     {
-        Plans {
+        PlanMap {
             map: HashMap::new(alloc),
             by_number: ByNumber::none(alloc),
         }
@@ -93,11 +93,11 @@ impl<P: Drop> Plans<P> {
         alloc: Global,
         map: HashMap<i128, Arc<P>>,
         numbers: &[u32],
-    ) -> Result<Plans<P>, AllocError>
+    ) -> Result<PlanMap<P>, AllocError>
         ensures { IfOk result (λ plans. plans.map ≡ map) }
     {
         let by_number = by_number_of(alloc, &map, numbers)?;
-        Ok(Plans { map, by_number })
+        Ok(PlanMap { map, by_number })
     }
 
     /// The plan of a number, in one probe at most.

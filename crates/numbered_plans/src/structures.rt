@@ -2,8 +2,8 @@
 use crate::before::Before;
 use crate::building::{Built, build};
 use crate::known::{are_same, are_types_same};
-use crate::numbered::Numbered;
-use crate::plans::Plans;
+use crate::numbered::NumberedPlan;
+use crate::plans::PlanMap;
 use crate::structure_sources::StructureSources;
 use mib_model::Steps;
 use mib_tables::{Book, TableSet};
@@ -11,7 +11,7 @@ use std::alloc::{AllocError, Global};
 use std::sync::ledger::Ledger;
 use struct_plan::Structure;
 
-impl Numbered for Structure {
+impl NumberedPlan for Structure {
     ghost use Rattle.struct_plan.specs.Slices.{structure_found};
     ghost use Rattle.numbered_plans.specs.Laws.{no-structures, same-structure};
     ghost use Rattle.numbered_plans.specs.Structures.{same_structure, tpsds};
@@ -33,7 +33,7 @@ impl Numbered for Structure {
 
     fn build<L: Ledger>(
         alloc: Global,
-        base: &Plans<Structure>,
+        base: &PlanMap<Structure>,
         old: &Book,
         book: &Book,
         steps: &mut Steps<L>,

@@ -18,7 +18,7 @@ ghost use Rattle.mib_model.specs.Interpreter.{Course, StampedPacket, title_of};
 use crate::in_use::InUse;
 use crate::job::Job;
 use decode_one::{Half, finish, sound_values};
-use decode_session::Cell;
+use decode_session::PacketCell;
 use edition_plans::Plans;
 use fold_state::{Board, Seen, finish_is_a_step};
 use line_sketches::Sketch;
@@ -100,7 +100,7 @@ pub fn finish_job<P: Plans + Drop>(job: &Job<P>, in_use: &mut InUse<P>, lines: &
 }
 
 /// Decodes a packet by the edition in use, and appends its record, without the line of its edition.
-pub fn finish_alone<P: Plans + Drop>(cell: &mut Cell, in_use: &mut InUse<P>, lines: &mut Lines)
+pub fn finish_alone<P: Plans + Drop>(cell: &mut PacketCell, in_use: &mut InUse<P>, lines: &mut Lines)
     requires room { length lines.old ≤ TEXT_BEFORE }
     ensures edition { in_use.new.edition ≡ in_use.old.edition }
     ensures handle { in_use.new.handle ≡ in_use.old.handle }

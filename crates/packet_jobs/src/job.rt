@@ -3,7 +3,7 @@ ghost use Rattle.std.specs.Arc.{arc_value};
 ghost use Rattle.decode_session.specs.Cells.{IsReady};
 ghost use Rattle.packet_jobs.specs.Drawn.{IsDrawn};
 
-use decode_session::Cell;
+use decode_session::PacketCell;
 use std::sync::Arc;
 use struct_plan::Structures;
 
@@ -11,7 +11,7 @@ use struct_plan::Structures;
 /// handle, and its lines were drawn by them.
 #[derive(Drop)]
 pub struct Job<P: Structures + Drop> {
-    pub cell: Cell,
+    pub cell: PacketCell,
     pub handle: Arc<P>,
     pub is_decoded: bool,
     ghost decoded: { is_decoded ≡ true → IsReady (P.tables (arc_value handle)) cell },

@@ -8,7 +8,7 @@ ghost use Rattle.packet_jobs.specs.Tasks.{IsWorked, number_in};
 use crate::job::{Job, Task};
 use decode_one::draw;
 use decode_pool::Work;
-use decode_session::{Buffers, Cell};
+use decode_session::{Buffers, PacketCell};
 use edition_plans::Plans;
 use line_sketches::Drawer;
 use param_plan::Params;
@@ -46,7 +46,7 @@ pub struct Decoding<P> {
 }
 
 // Draws the lines of a cell's packet, which was decoded there.
-fn draw_in<P: Plans>(plans: &P, cell: &mut Cell, tool: &mut Tool)
+fn draw_in<P: Plans>(plans: &P, cell: &mut PacketCell, tool: &mut Tool)
     requires { IsReady (P.tables plans.now) cell.old }
     ensures number { cell.new.number ≡ cell.old.number }
     ensures packet { packet_in cell.new ≡ packet_in cell.old }
@@ -65,7 +65,7 @@ fn draw_in<P: Plans>(plans: &P, cell: &mut Cell, tool: &mut Tool)
 }
 
 // Draws no line of a cell's packet, which was decoded there.
-fn draw_none<P: Plans>(_plans: &P, cell: &mut Cell)
+fn draw_none<P: Plans>(_plans: &P, cell: &mut PacketCell)
     requires { IsReady (P.tables _plans.now) cell.old }
     ensures number { cell.new.number ≡ cell.old.number }
     ensures packet { packet_in cell.new ≡ packet_in cell.old }

@@ -21,7 +21,7 @@ use crate::parts::Pipeline;
 use crate::pipeline::{keep_room, pass_by};
 use crate::reading::StampedCell;
 use crate::watch::Watch;
-use decode_session::Cell;
+use decode_session::PacketCell;
 use edition_plans::Plans;
 use edition_register::Start;
 use fold_state::BoardRoom;
@@ -34,7 +34,7 @@ use tm_io::{Failed, Sink};
 // Decodes a packet and prints its record, by its own edition, which comes into use.
 fn print_alone<P: Plans + Rows + Drop, O: Sink, W: Watch, R: Wait>(
     rt: &R,
-    cell: &mut Cell,
+    cell: &mut PacketCell,
     edition: u32,
     start: Option<Start<P, BoardRoom>>,
     in_use: &mut InUse<P>,

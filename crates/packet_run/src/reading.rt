@@ -10,7 +10,7 @@ ghost use Rattle.packet_feed.specs.Feed.{SourceStays, source_of};
 ghost use Rattle.packet_run.specs.Reading.{IsStamped};
 ghost use Rattle.turn_cell.specs.Seats.{own_moves, seen_by};
 
-use decode_session::{Cell, Room, Unread, read_packet};
+use decode_session::{PacketCell, Room, Unread, read_packet};
 use edition_plans::Plans;
 use edition_register::{Editions, Register, Stamp, Start, intake_counts};
 use fold_state::BoardRoom;
@@ -23,7 +23,7 @@ use turn_cell::Seat;
 /// A packet that was read and stamped: its edition, and what begins with it.
 #[derive(Drop)]
 pub(crate) struct StampedCell<P: Drop> {
-    pub cell: Cell,
+    pub cell: PacketCell,
     pub edition: u32,
     pub start: Option<Start<P, BoardRoom>>,
 }

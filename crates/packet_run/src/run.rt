@@ -27,7 +27,7 @@ use crate::pipeline::{keep_room, offer};
 use crate::reading::{StampedCell, read_stamped};
 use crate::until::Until;
 use crate::watch::Watch;
-use decode_session::{Cell, Filled, MOST_PACKETS, Unread};
+use decode_session::{PacketCell, Filled, MOST_PACKETS, Unread};
 use edition_plans::Plans;
 use edition_register::{Editions, Start};
 use fold_state::BoardRoom;
@@ -103,7 +103,7 @@ fn hand_over<P: Plans + Drop, R: Wait>(
     rt: &R,
     crew: &Crew<P>,
     pipeline: &mut Pipeline<P>,
-    cell: Cell,
+    cell: PacketCell,
     handle: Arc<P>,
 )
     requires first { IsOf crew.now.jobs pipeline.old.first }

@@ -18,6 +18,6 @@ mod viewer;
 pub use catching::catch_up;
 pub use note::Note;
 pub use publisher::Publisher;
-pub use sheet::{Sheet, empty_sheet, lay_cell, lay_head, page_of};
+pub use sheet::{PageWords, empty_sheet, lay_cell, lay_head, page_of};
 pub use view::BoardView;
 pub use viewer::Viewer;

@@ -7,7 +7,7 @@ ghost use Rattle.page_board.specs.Views.{onlooker};
 use crate::note::Note;
 use crate::publisher::Publisher;
 use crate::rule::{BoardCell, BoardPass, Publish, Tell};
-use crate::sheet::{Sheet, empty_sheet};
+use crate::sheet::{PageWords, empty_sheet};
 use crate::viewer::Viewer;
 use std::alloc::{AllocError, Global};
 use std::sync::atomic::{AtomicBool, Ordering};
@@ -45,7 +45,7 @@ impl Publisher {
     }
 
     /// Publishes a page of a greater number than the last one. It may wait while the viewer copies a page.
-    pub fn publish<R: Wait>(&mut self, rt: &R, sheet: &Sheet)
+    pub fn publish<R: Wait>(&mut self, rt: &R, sheet: &PageWords)
         requires { self.old.shown < (page_in sheet.now).number }
         ensures pages { pages_of self.new ≡ pages_of self.old ++ page_in sheet.now ∷ [] }
         ensures shown { self.new.shown ≡ (page_in sheet.now).number }

@@ -3,7 +3,7 @@ ghost use Rattle.std.specs.Prelude.{[]};
 ghost use Rattle.page_board.specs.Sheets.{page_in};
 ghost use Rattle.page_board.specs.Views.{Kept, Looks, Publishes, onlooker, publisher, told_of};
 
-use crate::sheet::Sheet;
+use crate::sheet::PageWords;
 use crate::view::BoardView;
 use atomic_table::{Join, Split};
 use crossbeam_utils::atomic::seq_cell::{Pass, RuledSeqCell};
@@ -12,7 +12,7 @@ use crossbeam_utils::rule::{Outcome, Protocol};
 /// The rule: one end publishes, and each knows some of the pages.
 pub struct Pages;
 
-impl Protocol<Sheet, BoardView> for Pages {
+impl Protocol<PageWords, BoardView> for Pages {
     ghost holds = { λ sheet. Kept (page_in sheet) };
 
     ghost first = { publisher };
@@ -21,14 +21,14 @@ impl Protocol<Sheet, BoardView> for Pages {
 /// Publishes a page.
 pub struct Publish;
 
-impl Outcome<Sheet, BoardView> for Publish {
+impl Outcome<PageWords, BoardView> for Publish {
     ghost then = { λ v x y w. Publishes v (page_in y) w };
 }
 
 /// Takes the last page.
 pub struct BoardLook;
 
-impl Outcome<Sheet, BoardView> for BoardLook {
+impl Outcome<PageWords, BoardView> for BoardLook {
     ghost then = { λ v x y w. Looks v (page_in x) w };
 }
 
@@ -51,7 +51,7 @@ impl Join<BoardView> for Learn {
 }
 
 /// The cell of a board.
-pub type BoardCell = RuledSeqCell<Sheet, BoardView, Pages, 130>;
+pub type BoardCell = RuledSeqCell<PageWords, BoardView, Pages, 130>;
 
 /// What an end of a board holds of its cell.
-pub type BoardPass = Pass<Sheet, BoardView>;
+pub type BoardPass = Pass<PageWords, BoardView>;

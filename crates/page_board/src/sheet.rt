@@ -8,7 +8,7 @@ use display_pages::{Cell, MOST_CELLS, Page};
 use mib_model::Class;
 
 /// A page as words: its number, its edition, and two words for each cell.
-pub type Sheet = [u64; 130];
+pub type PageWords = [u64; 130];
 
 // How far a number below zero lies from the one that is kept for it.
 const TURN: i128 = 18_446_744_073_709_551_616;
@@ -67,7 +67,7 @@ fn raw_of_mark(mark: u64, bits: u64) -> Option<i128>
 }
 
 // The cell at a place.
-fn cell_at(sheet: &Sheet, place: usize) -> Cell
+fn cell_at(sheet: &PageWords, place: usize) -> Cell
     requires { place < 64 }
     ensures { result ≡ Spec.cell_at sheet.now place }
 {
@@ -80,7 +80,7 @@ fn cell_at(sheet: &Sheet, place: usize) -> Cell
 }
 
 /// Lays a cell at a place. Its number has at most 64 bits beside its sign.
-pub fn lay_cell(sheet: &mut Sheet, place: usize, cell: Cell)
+pub fn lay_cell(sheet: &mut PageWords, place: usize, cell: Cell)
     requires place { place < 64 }
     requires range { IfSome cell.raw (λ number. ((pos 0 -ℤ pos 18446744073709551616) ≤ℤ number) × (number <ℤ pos 18446744073709551616)) }
     ensures cells { cells_in sheet.new ≡ set (cells_in sheet.old) place cell }
@@ -93,7 +93,7 @@ pub fn lay_cell(sheet: &mut Sheet, place: usize, cell: Cell)
 }
 
 /// Lays the number and the edition of a page.
-pub fn lay_head(sheet: &mut Sheet, number: u64, edition: u32)
+pub fn lay_head(sheet: &mut PageWords, number: u64, edition: u32)
     ensures number { (page_in sheet.new).number ≡ number }
     ensures edition { (page_in sheet.new).edition ≡ edition }
     ensures cells { cells_in sheet.new ≡ cells_in sheet.old }
@@ -103,7 +103,7 @@ pub fn lay_head(sheet: &mut Sheet, number: u64, edition: u32)
 }
 
 /// The sheet of no packet.
-pub fn empty_sheet() -> Sheet
+pub fn empty_sheet() -> PageWords
     ensures { page_in result ≡ no_page }
 {
     let mut sheet = [0; 130];
@@ -112,7 +112,7 @@ pub fn empty_sheet() -> Sheet
 }
 
 /// The page of a sheet.
-pub fn page_of(sheet: &Sheet) -> Page
+pub fn page_of(sheet: &PageWords) -> Page
     ensures { result ≡ page_in sheet.now }
 {
     let mut cells = [Cell {

@@ -4,7 +4,7 @@ ghost use Rattle.page_board.specs.Sheets.{cells_in};
 
 use display_pages::MOST_CELLS;
 use mib_model::Name;
-use page_board::{Publisher, Sheet};
+use page_board::{Publisher, PageWords};
 
 /// What is told of packets and publishes the pages of its names.
 #[derive(Drop)]
@@ -13,7 +13,7 @@ pub struct Pager {
     // Where each name was found last. It says nothing.
     pub(crate) found: [usize; MOST_CELLS],
     // The page after the last packet.
-    pub(crate) sheet: Sheet,
+    pub(crate) sheet: PageWords,
     pub(crate) publisher: Publisher,
     ghost few: { length names.items ≤ 64 },
     ghost blank: { drop (length names.items) (cells_in sheet) ≡ replicate (64 - length names.items) no_cell },

@@ -18,7 +18,7 @@ use crate::touch::{is_touched, touched_blocks};
 use mib_model::{Name, PcfRow, Steps};
 use mib_tables::{Book, TableSet};
 use param_plan::{BLOCK, Block, Param, ParamRows, Params};
-use param_set::{Made, ParamSources, Plan, note, params_of, same_rows};
+use param_set::{MadeParams, ParamSources, ParamPlan, note, params_of, same_rows};
 use std::alloc::{AllocError, Global};
 use std::sync::Arc;
 use std::sync::ledger::Ledger;
@@ -122,15 +122,15 @@ fn plan_beside<L: Ledger>(
     changed: &Changed,
     sources: &ParamSources<'_>,
     steps: &mut Steps<L>,
-) -> Result<Plan, AllocError>
+) -> Result<ParamPlan, AllocError>
     requires { IsKeptBy changed.now (arc_value plan.now) sources.now }
     ensures plan { IfOk result (λ made. arc_value made.param ≡ now_of sources.now (arc_value plan.now)) }
     ensures is_new { IfOk result (λ made. made.is_new ≡ is_other sources.now (arc_value plan.now)) }
     ensures steps { OnOk result (steps.new ≡ steps.old + one_if (is_other sources.now (arc_value plan.now))) }
 {
     match other_rows(alloc, plan.rows(), changed, sources)? {
-        Some(rows) => Plan::compiled(alloc, rows, steps),
-        None => Plan::shared(plan),
+        Some(rows) => ParamPlan::compiled(alloc, rows, steps),
+        None => ParamPlan::shared(plan),
     }
 }
 
@@ -229,7 +229,7 @@ fn taken_over<L: Ledger>(
     same: TableSet,
     book: &Book,
     steps: &mut Steps<L>,
-) -> Result<Made, AllocError>
+) -> Result<MadeParams, AllocError>
     requires base { base.now ≡ param_slices old.now }
     requires sound { IsSound book.now }
     requires same { AreSameIn same old.now book.now }
@@ -249,7 +249,7 @@ fn taken_over<L: Ledger>(
     let made = blocks_beside(alloc, base, &changed, &sources, steps)?;
     let compiled = made.compiled;
     let params = Params::of_blocks(alloc, made.blocks)?;
-    Ok(Made { params, compiled })
+    Ok(MadeParams { params, compiled })
 }
 
 // Whether all tables that curves are found in are kept.
@@ -273,7 +273,7 @@ fn shared(
     old: &Book,
     same: TableSet,
     book: &Book,
-) -> Result<Made, AllocError>
+) -> Result<MadeParams, AllocError>
     requires base { base.now ≡ param_slices old.now }
     requires sound { IsSound book.now }
     requires same { AreSameIn same old.now book.now }
@@ -285,7 +285,7 @@ fn shared(
 {
     let params = base.copy(alloc)?;
     let compiled = Vec::new(alloc);
-    Ok(Made { params, compiled })
+    Ok(MadeParams { params, compiled })
 }
 
 /// The plans of the parameters of a sound book, as `params_of` gives them, beside those of another book, where tables are
@@ -298,7 +298,7 @@ pub fn params_with<L: Ledger>(
     same: TableSet,
     book: &Book,
     steps: &mut Steps<L>,
-) -> Result<Made, AllocError>
+) -> Result<MadeParams, AllocError>
     requires base { base.now ≡ param_slices old.now }
     requires sound { IsSound book.now }
     requires same { AreSameIn same old.now book.now }

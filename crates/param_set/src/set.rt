@@ -34,18 +34,18 @@ fn same_plan<'a>(base: &'a Params, rows: &ParamRows) -> Option<&'a Arc<Param>>
 
 /// A plan, and whether it was compiled, not shared.
 #[derive(Drop)]
-pub struct Plan {
+pub struct ParamPlan {
     pub param: Arc<Param>,
     pub is_new: bool,
 }
 
-impl Plan {
+impl ParamPlan {
     /// A plan of a base, by handle. An error is want of memory.
-    pub fn shared(plan: &Arc<Param>) -> Result<Plan, AllocError>
+    pub fn shared(plan: &Arc<Param>) -> Result<ParamPlan, AllocError>
         ensures param { IfOk result (λ made. arc_value made.param ≡ arc_value plan.now) }
         ensures is_new { IfOk result (λ made. made.is_new ≡ false) }
     {
-        Ok(Plan {
+        Ok(ParamPlan {
             param: plan.clone()?,
             is_new: false,
         })
@@ -56,13 +56,13 @@ impl Plan {
         alloc: Global,
         rows: ParamRows,
         steps: &mut Steps<L>,
-    ) -> Result<Plan, AllocError>
+    ) -> Result<ParamPlan, AllocError>
         ensures param { IfOk result (λ made. arc_value made.param ≡ slice_of rows) }
         ensures is_new { IfOk result (λ made. made.is_new ≡ true) }
         ensures step { OnOk result (steps.new ≡ steps.old + 1) }
     {
         let param = Param::compile(alloc, rows, steps)?;
-        Ok(Plan {
+        Ok(ParamPlan {
             param: Arc::new(alloc, param)?,
             is_new: true,
         })
@@ -71,20 +71,20 @@ impl Plan {
 
 /// Plans, and the names of those that were compiled, not shared.
 #[derive(Drop)]
-pub struct Plans {
+pub struct ParamPlans {
     pub params: Vec<Arc<Param>>,
     pub compiled: Vec<Name>,
 }
 
 /// The plans of a book's parameters, and the names of those that were compiled, not shared with the base, in order.
 #[derive(Drop)]
-pub struct Made {
+pub struct MadeParams {
     pub params: Params,
     pub compiled: Vec<Name>,
 }
 
 /// Notes the name of a plan where that was compiled. An error is want of memory.
-pub fn note(names: &mut Vec<Name>, plan: &Plan) -> Result<(), AllocError>
+pub fn note(names: &mut Vec<Name>, plan: &ParamPlan) -> Result<(), AllocError>
     ensures { OnOk result (names.new.items ≡ names.old.items ++ name_if plan.now.is_new (arc_value plan.now.param).pcf.name) }
 {
     if plan.is_new {
@@ -99,14 +99,14 @@ fn plan_of<L: Ledger>(
     base: &Params,
     rows: ParamRows,
     steps: &mut Steps<L>,
-) -> Result<Plan, AllocError>
+) -> Result<ParamPlan, AllocError>
     ensures plan { IfOk result (λ plan. arc_value plan.param ≡ slice_of rows) }
     ensures is_new { IfOk result (λ plan. plan.is_new ≡ is_new base.now (slice_of rows)) }
     ensures steps { OnOk result (steps.new ≡ steps.old + length (filter (is_new base.now) (slice_of rows ∷ []))) }
 {
     match same_plan(base, &rows) {
-        Some(plan) => Plan::shared(plan),
-        None => Plan::compiled(alloc, rows, steps),
+        Some(plan) => ParamPlan::shared(plan),
+        None => ParamPlan::compiled(alloc, rows, steps),
     }
 }
 
@@ -117,7 +117,7 @@ fn plans_of<L: Ledger>(
     sources: &ParamSources,
     rows: &[&PcfRow],
     steps: &mut Steps<L>,
-) -> Result<Plans, AllocError>
+) -> Result<ParamPlans, AllocError>
     ensures plans { IfOk result (λ plans. map arc_value plans.params.items ≡ map (slice_for sources.now) (map (λ row. row.now) rows.now)) }
     ensures compiled { IfOk result (λ plans. plans.compiled.items ≡ new_names base.now (map (slice_for sources.now) (map (λ row. row.now) rows.now))) }
     ensures steps { OnOk result (steps.new ≡ steps.old + length (filter (is_new base.now) (map (slice_for sources.now) (map (λ row. row.now) rows.now)))) }
@@ -130,7 +130,7 @@ fn plans_of<L: Ledger>(
         note(&mut compiled, &plan)?;
         params.push(plan.param)?;
     }
-    Ok(Plans { params, compiled })
+    Ok(ParamPlans { params, compiled })
 }
 
 /// The plans of the parameters of a sound book, by name. A plan whose rows the base has too, in the same order, is shared
@@ -141,7 +141,7 @@ pub fn params_of<L: Ledger>(
     base: &Params,
     book: &Book,
     steps: &mut Steps<L>,
-) -> Result<Made, AllocError>
+) -> Result<MadeParams, AllocError>
     requires { IsSound book.now }
     ensures params { IfOk result (λ made. made.params ≡ param_slices book.now) }
     ensures compiled { IfOk result (λ made. made.compiled.items ≡ new_names base.now (param_slices book.now)) }
@@ -153,5 +153,5 @@ pub fn params_of<L: Ledger>(
     let plans = plans_of(alloc, base, &sources, &rows, steps)?;
     let compiled = plans.compiled;
     let params = Params::new(alloc, plans.params)?;
-    Ok(Made { params, compiled })
+    Ok(MadeParams { params, compiled })
 }

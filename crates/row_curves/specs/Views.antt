@@ -4,11 +4,11 @@ use Rattle.dec_num.specs.declared.curve.Point.{Point}
 use Rattle.mib_model.specs.declared.plan.CurveRows.{CurveRows}
 use Rattle.mib_model.specs.declared.plan.CurveRows.TheVariants as rows
 use Rattle.mib_model.specs.Points.{Knot}
-use Rattle.row_curves.specs.declared.curve.Curve.{Curve}
-use Rattle.row_curves.specs.declared.curve.Curve.TheVariants as curve
+use Rattle.row_curves.specs.declared.curve.RowCurve.{RowCurve}
+use Rattle.row_curves.specs.declared.curve.RowCurve.TheVariants as curve
 
 -- the rows of a curve
-abbrev pub curve_as : Curve → CurveRows
+abbrev pub curve_as : RowCurve → CurveRows
 curve_as (curve.Points caf caps) = rows.Points caf.now caps.now
 curve_as (curve.Texts txf txps) = rows.Texts txf.now txps.now
 curve_as (curve.Poly mcf) = rows.Poly mcf.now

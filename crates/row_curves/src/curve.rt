@@ -21,7 +21,7 @@ use std::alloc::{AllocError, Global};
 
 /// The rows of a curve.
 #[derive(Clone, Copy)]
-pub enum Curve<'a> {
+pub enum RowCurve<'a> {
     /// A curve by points, with its points in the order of their file.
     Points { caf: &'a CafRow, caps: &'a [CapRow] },
     /// A curve by status texts, with its ranges in the order of their file.
@@ -31,43 +31,43 @@ pub enum Curve<'a> {
 }
 
 // The curve by points of a name.
-fn points_named<'a>(rows: &'a RowSearches, name: &Name) -> Option<Curve<'a>>
+fn points_named<'a>(rows: &'a RowSearches, name: &Name) -> Option<RowCurve<'a>>
     ensures { option_map curve_as result ≡ Spec.points_named rows.now name.now }
 {
     let caf = rows.curves().point_curve(name)?;
-    Some(Curve::Points {
+    Some(RowCurve::Points {
         caf,
         caps: rows.curves().points(name),
     })
 }
 
 // The curve by texts of a name.
-fn texts_named<'a>(rows: &'a RowSearches, name: &Name) -> Option<Curve<'a>>
+fn texts_named<'a>(rows: &'a RowSearches, name: &Name) -> Option<RowCurve<'a>>
     ensures { option_map curve_as result ≡ Spec.texts_named rows.now name.now }
 {
     let txf = rows.curves().text_curve(name)?;
-    Some(Curve::Texts {
+    Some(RowCurve::Texts {
         txf,
         txps: rows.curves().texts(name),
     })
 }
 
 // The polynomial of a name.
-fn poly_named<'a>(rows: &'a RowSearches, name: &Name) -> Option<Curve<'a>>
+fn poly_named<'a>(rows: &'a RowSearches, name: &Name) -> Option<RowCurve<'a>>
     ensures { option_map curve_as result ≡ Spec.poly_named rows.now name.now }
 {
-    Some(Curve::Poly(rows.curves().polynomial(name)?))
+    Some(RowCurve::Poly(rows.curves().polynomial(name)?))
 }
 
 // The logarithmic curve of a name.
-fn log_named<'a>(rows: &'a RowSearches, name: &Name) -> Option<Curve<'a>>
+fn log_named<'a>(rows: &'a RowSearches, name: &Name) -> Option<RowCurve<'a>>
     ensures { option_map curve_as result ≡ Spec.log_named rows.now name.now }
 {
-    Some(Curve::Log(rows.curves().logarithm(name)?))
+    Some(RowCurve::Log(rows.curves().logarithm(name)?))
 }
 
 // The first of the points, the polynomial and the logarithm of a name.
-fn number_curve<'a>(rows: &'a RowSearches, name: &Name) -> Option<Curve<'a>>
+fn number_curve<'a>(rows: &'a RowSearches, name: &Name) -> Option<RowCurve<'a>>
     ensures { option_map curve_as result ≡ option_or (Spec.points_named rows.now name.now)
         (option_or (Spec.poly_named rows.now name.now) (Spec.log_named rows.now name.now)) }
 {
@@ -84,7 +84,7 @@ fn number_curve<'a>(rows: &'a RowSearches, name: &Name) -> Option<Curve<'a>>
 
 // The curve of a name for a category.
 #[tactic(auto, unfolding(mib_model::specs::Curves::curve_named))]
-fn curve_named<'a>(rows: &'a RowSearches, categ: u8, name: &Name) -> Option<Curve<'a>>
+fn curve_named<'a>(rows: &'a RowSearches, categ: u8, name: &Name) -> Option<RowCurve<'a>>
     ensures { option_map curve_as result ≡ Spec.curve_named rows.now categ name.now }
 {
     match categ {
@@ -118,7 +118,7 @@ fn selected(rows: &RowSearches, row: &PcfRow, memory: &Memory) -> Option<Name>
 
 // The curve that a parameter's values are taken by, if there is one.
 #[tactic(auto, unfolding(mib_model::specs::Curves::curve_of))]
-fn curve_of<'a>(rows: &'a RowSearches, row: &PcfRow, memory: &Memory) -> Option<Curve<'a>>
+fn curve_of<'a>(rows: &'a RowSearches, row: &PcfRow, memory: &Memory) -> Option<RowCurve<'a>>
     ensures { option_map curve_as result ≡ Spec.curve_of rows.now row.now (memory_of memory.now) }
 {
     let name = selected(rows, row, memory)?;
@@ -146,18 +146,18 @@ fn on_polynomial(row: &McfRow, raw: i128) -> Cal<'static>
 
 // What a curve makes of a raw number.
 #[tactic(auto, unfolding(mib_model::specs::Curves::calibration))]
-fn calibration<'a>(alloc: Global, curve: Curve<'a>, raw: i128) -> Result<Cal<'a>, AllocError>
+fn calibration<'a>(alloc: Global, curve: RowCurve<'a>, raw: i128) -> Result<Cal<'a>, AllocError>
     requires low { least_raw ≤ℤ raw }
     requires high { raw ≤ℤ greatest_raw }
     ensures { IfOk result (λ cal. calibrated_as cal ≡ Spec.calibration (curve_as curve.entry) raw) }
 {
     match curve {
-        Curve::Points { caf, .. } if caf.rawfmt == b'R' => Ok(Cal::RealCurve),
-        Curve::Points { caf, caps } => on_points(alloc, caf, caps, raw),
-        Curve::Texts { txf, .. } if txf.rawfmt == b'R' => Ok(Cal::RealCurve),
-        Curve::Texts { txps, .. } => Ok(on_texts(txps, raw)),
-        Curve::Poly(mcf) => Ok(on_polynomial(mcf, raw)),
-        Curve::Log(_) => Ok(Cal::LogCurve),
+        RowCurve::Points { caf, .. } if caf.rawfmt == b'R' => Ok(Cal::RealCurve),
+        RowCurve::Points { caf, caps } => on_points(alloc, caf, caps, raw),
+        RowCurve::Texts { txf, .. } if txf.rawfmt == b'R' => Ok(Cal::RealCurve),
+        RowCurve::Texts { txps, .. } => Ok(on_texts(txps, raw)),
+        RowCurve::Poly(mcf) => Ok(on_polynomial(mcf, raw)),
+        RowCurve::Log(_) => Ok(Cal::LogCurve),
     }
 }
 

@@ -10,4 +10,4 @@ mod line;
 mod points;
 mod texts;
 
-pub use curve::{Curve, calibrated};
+pub use curve::{RowCurve, calibrated};

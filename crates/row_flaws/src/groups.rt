@@ -10,7 +10,7 @@ ghost use Rattle.row_flaws.specs.Structures.{is_same_place, spots_in, passes_spo
 
 use crate::flaw::At;
 use crate::lookups::Lookups;
-use crate::structures::Structure;
+use crate::structures::StructureSpots;
 use crate::types::encoding;
 use mib_model::{Kind, MibCode, MibFault, PcfRow, Sort, VpdRow};
 
@@ -91,7 +91,7 @@ fn needs_number(row: &VpdRow) -> bool
 }
 
 // Whether the group of a row passes the end of its structure, or of a group in which the row stands.
-fn passes_spots(structure: Option<&Structure>, row: &VpdRow) -> bool
+fn passes_spots(structure: Option<&StructureSpots>, row: &VpdRow) -> bool
     requires { RisesByPos (spots_in (option_copied structure)) }
     ensures { result ≡ passes_spots (spots_in (option_copied structure.entry)) row.now }
 {

@@ -13,7 +13,7 @@ ghost use Rattle.row_flaws.specs.Indexes.{first_place};
 ghost use Rattle.row_flaws.specs.Points.{point_eq, point_in};
 
 use crate::points::{PointKey, point_places};
-use crate::structures::{Structure, structures};
+use crate::structures::{StructureSpots, structures};
 use mib_index::{Firsts, Index};
 use mib_model::{CafRow, Name, PcfRow, PidRow, TxfRow};
 use mib_tables::Book;
@@ -29,7 +29,7 @@ pub struct Lookups<'a> {
     packets: Firsts<'a, BySpid<PidRow>>,
     packet_kinds: Firsts<'a, ByPacket>,
     point_places: HashMap<PointKey, usize>,
-    structures: HashMap<u32, Structure>,
+    structures: HashMap<u32, StructureSpots>,
 }
 
 /// By hand, so that whoever lets one go proves one call.
@@ -188,7 +188,7 @@ impl<'a> Lookups<'a> {
     }
 
     /// The rows of a structure by POS, if it has some.
-    pub fn structure(&self, tpsd: u32) -> Option<&Structure>
+    pub fn structure(&self, tpsd: u32) -> Option<&StructureSpots>
         ensures { spots_in (option_copied result) ≡ map spot_of (structure self.now (pos tpsd)) }
     {
         self.structures.get(&tpsd)

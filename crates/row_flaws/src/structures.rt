@@ -17,7 +17,7 @@ pub struct Spot {
 }
 
 /// The rows of a structure by POS. Contracts see the list of them.
-pub struct Structure {
+pub struct StructureSpots {
     spots: Vec<Spot>,
     // for each place, the least end from there on of the groups of the rows before it
     nearest: Vec<Option<usize>>,
@@ -26,9 +26,9 @@ pub struct Structure {
 }
 
 /// By hand, so that whoever lets one go proves one call.
-impl Drop for Structure {
+impl Drop for StructureSpots {
     fn drop(self) {
-        let Structure {
+        let StructureSpots {
             spots: _spots,
             nearest: _nearest,
             ends: _ends,
@@ -36,7 +36,7 @@ impl Drop for Structure {
     }
 }
 
-impl Model for Structure {
+impl Model for StructureSpots {
     ghost use Rattle.std.specs.Prelude.{List};
     ghost use Rattle.row_flaws.specs.declared.structures.Spot.{Spot};
 
@@ -75,11 +75,11 @@ fn is_end_before(bound: usize, end: Option<usize>) -> bool
     }
 }
 
-impl Structure {
-    fn new(alloc: Global) -> Structure
+impl StructureSpots {
+    fn new(alloc: Global) -> StructureSpots
         ensures { result ≡ [] }
     {
-        Structure {
+        StructureSpots {
             spots: Vec::new(alloc),
             nearest: Vec::new(alloc),
             ends: BTreeSet::new(alloc),
@@ -87,10 +87,10 @@ impl Structure {
     }
 
     // The structure with one more row behind the others.
-    fn with(self, spot: Spot) -> Result<Structure, AllocError>
+    fn with(self, spot: Spot) -> Result<StructureSpots, AllocError>
         ensures { IfOk result (λ structure. structure ≡ self ++ spot ∷ []) }
     {
-        let Structure {
+        let StructureSpots {
             mut spots,
             mut nearest,
             mut ends,
@@ -99,7 +99,7 @@ impl Structure {
         nearest.push(nearest_end(&ends, place))?;
         ends.insert(place + usize::from(spot.grpsize))?;
         spots.push(spot)?;
-        Ok(Structure {
+        Ok(StructureSpots {
             spots,
             nearest,
             ends,
@@ -146,21 +146,21 @@ fn sorted_spots(alloc: Global, rows: &[VpdRow]) -> Result<Vec<Spot>, AllocError>
 // Puts a row behind those of its structure.
 fn put_spot(
     alloc: Global,
-    structures: &mut HashMap<u32, Structure>,
+    structures: &mut HashMap<u32, StructureSpots>,
     spot: Spot,
 ) -> Result<(), AllocError>
     ensures { OnOk result ((q : ℕ) → spots_at structures.new q ≡ (if is_in q spot then spots_at structures.old q ++ spot ∷ [] else spots_at structures.old q)) }
 {
     let structure = match structures.remove(&spot.tpsd) {
         Some(structure) => structure,
-        None => Structure::new(alloc),
+        None => StructureSpots::new(alloc),
     };
     structures.insert(spot.tpsd, structure.with(spot)?)?;
     Ok(())
 }
 
 /// The rows of each structure by POS, those of one POS in the order of the file.
-pub fn structures(alloc: Global, rows: &[VpdRow]) -> Result<HashMap<u32, Structure>, AllocError>
+pub fn structures(alloc: Global, rows: &[VpdRow]) -> Result<HashMap<u32, StructureSpots>, AllocError>
     ensures { IfOk result (λ structures. (q : ℕ) → spots_at structures q ≡ sorted_by by_pos (filter (is_in q) (map spot_of rows.now))) }
 {
     let spots = sorted_spots(alloc, rows)?;

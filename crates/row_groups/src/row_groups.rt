@@ -4,7 +4,7 @@ ghost use Rattle.std.specs.HashMap.{get};
 ghost use Rattle.row_groups.specs.Groups.{count_of, rows_of};
 
 use crate::group::Group;
-use first_rows::{By, Seen};
+use first_rows::{By, GhostRows};
 use std::alloc::{AllocError, Global};
 use std::collections::HashMap;
 use std::marker::Model;
@@ -13,7 +13,7 @@ use std::marker::Model;
 #[derive(Drop)]
 pub struct RowGroups<B: By> {
     groups: HashMap<B::Key, Group<B::Row>>,
-    rows: Seen<B::Row>,
+    rows: GhostRows<B::Row>,
 }
 
 impl<B: By> Model for RowGroups<B> {
@@ -101,7 +101,7 @@ impl<B: By> RowGroups<B> {
         let counts = counts::<B>(alloc, rows)?;
         Ok(RowGroups {
             groups: groups::<B>(alloc, &counts, rows)?,
-            rows: Seen::of(alloc, rows)?,
+            rows: GhostRows::of(alloc, rows)?,
         })
     }
 

@@ -13,7 +13,7 @@ use std::alloc::{AllocError, Global};
 use std::marker::Model;
 
 /// The rows of curves and of their selections. Contracts see the tables.
-pub struct CurveRows {
+pub struct CalibrationRows {
     selections: OrderedRows<ByName<CurRow>>,
     point_curves: FirstRows<ByName<CafRow>>,
     points: RowGroups<ByName<CapRow>>,
@@ -24,9 +24,9 @@ pub struct CurveRows {
 }
 
 /// By hand, so that whoever lets one go proves one call.
-impl Drop for CurveRows {
+impl Drop for CalibrationRows {
     fn drop(self) {
-        let CurveRows {
+        let CalibrationRows {
             selections: _selections,
             point_curves: _point_curves,
             points: _points,
@@ -38,7 +38,7 @@ impl Drop for CurveRows {
     }
 }
 
-impl Model for CurveRows {
+impl Model for CalibrationRows {
     ghost use Rattle.row_interpreter.specs.Tables.{CurveTables};
 
     ghost Value = { CurveTables };
@@ -54,7 +54,7 @@ impl Model for CurveRows {
     } };
 }
 
-impl CurveRows {
+impl CalibrationRows {
     /// The rows of cur, caf, cap, txf, txp, mcf and lgf. An error is want of memory.
     pub fn new(
         alloc: Global,
@@ -65,10 +65,10 @@ impl CurveRows {
         txp: &[TxpRow],
         mcf: &[McfRow],
         lgf: &[LgfRow],
-    ) -> Result<CurveRows, AllocError>
+    ) -> Result<CalibrationRows, AllocError>
         ensures { IfOk result (λ rows. rows ≡ record { cur = cur.now; caf = caf.now; cap = cap.now; txf = txf.now; txp = txp.now; mcf = mcf.now; lgf = lgf.now }) }
     {
-        Ok(CurveRows {
+        Ok(CalibrationRows {
             selections: OrderedRows::new(alloc, cur)?,
             point_curves: FirstRows::new(alloc, caf)?,
             points: RowGroups::new(alloc, cap)?,

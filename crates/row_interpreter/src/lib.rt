@@ -22,7 +22,7 @@ mod sample;
 pub use alarm::alarm_step;
 pub use checks::CheckRows;
 pub use class::class_of;
-pub use curves::CurveRows;
+pub use curves::CalibrationRows;
 pub use kept::KeptOf;
 pub use layout::read_places;
 pub use memory::Memory;

@@ -2,7 +2,7 @@ ghost use Rattle.std.specs.Prelude.{◌≡◌, ℕ, Some, filter, IfOk};
 ghost use Rattle.std.specs.Option.{option_eq};
 ghost use Rattle.mib_model.specs.Orders.{sorted_by_number};
 
-use first_rows::Seen;
+use first_rows::GhostRows;
 use row_groups::{By, RowGroups};
 use std::alloc::{AllocError, Global};
 use std::marker::Model;
@@ -19,7 +19,7 @@ pub trait ByPlace: By {
 /// The rows of each key by their places. Contracts see all the rows that it was made of, in the order of their file.
 pub struct OrderedRows<B: ByPlace> {
     groups: RowGroups<B>,
-    rows: Seen<B::Row>,
+    rows: GhostRows<B::Row>,
 }
 
 /// By hand, so that whoever lets one go proves one call.
@@ -60,7 +60,7 @@ impl<B: ByPlace> OrderedRows<B> {
         let sorted = sorted::<B>(alloc, rows)?;
         Ok(OrderedRows {
             groups: RowGroups::new(alloc, &sorted)?,
-            rows: Seen::of(alloc, rows)?,
+            rows: GhostRows::of(alloc, rows)?,
         })
     }
 

@@ -21,7 +21,7 @@ use mib_model::{
 use mib_tables::Book;
 use row_groups::RowGroups;
 use row_interpreter::{
-    CheckRows, CurveRows, OrderedRows, PacketRows, ParameterRows,
+    CheckRows, CalibrationRows, OrderedRows, PacketRows, ParameterRows,
     read_places,
 };
 use row_keys::{BySpid, ByTpsd};
@@ -38,7 +38,7 @@ pub struct RowSearches {
     structures: OrderedRows<ByTpsd>,
     // How many rows the structures have together.
     structure_rows: u32,
-    curves: CurveRows,
+    curves: CalibrationRows,
     checks: CheckRows,
 }
 
@@ -73,7 +73,7 @@ impl Model for RowSearches {
 }
 
 // The curves of a book.
-fn curve_rows(alloc: Global, book: &Book) -> Result<CurveRows, AllocError>
+fn curve_rows(alloc: Global, book: &Book) -> Result<CalibrationRows, AllocError>
     ensures { IfOk result (λ rows. rows ≡ record {
       cur = book.now.cur;
       caf = book.now.caf;
@@ -84,7 +84,7 @@ fn curve_rows(alloc: Global, book: &Book) -> Result<CurveRows, AllocError>
       lgf = book.now.lgf;
     }) }
 {
-    CurveRows::new(
+    CalibrationRows::new(
         alloc,
         book.cur(),
         book.caf(),
@@ -232,7 +232,7 @@ impl RowSearches {
     }
 
     /// The rows of curves.
-    pub fn curves(&self) -> &CurveRows
+    pub fn curves(&self) -> &CalibrationRows
         ensures { result.now ≡ record {
           cur = self.now.cur;
           caf = self.now.caf;

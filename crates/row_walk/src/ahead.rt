@@ -17,11 +17,11 @@ pub(crate) struct Rounds<'a> {
 
 /// The rows that are still to walk, those that come first on top. Contracts see them one after the other.
 #[derive(Drop)]
-pub(crate) struct Ahead<'a> {
+pub(crate) struct RowsAhead<'a> {
     rounds: Vec<Rounds<'a>>,
 }
 
-impl<'a> Model for Ahead<'a> {
+impl<'a> Model for RowsAhead<'a> {
     ghost use Rattle.std.specs.Prelude.{List};
     ghost use Rattle.std.specs.List.{All};
     ghost use Rattle.mib_model.specs.declared.rows.VpdRow.{VpdRow};
@@ -34,12 +34,12 @@ impl<'a> Model for Ahead<'a> {
     ghost invariant = { λ ahead. All IsRounds ahead.rounds.items };
 }
 
-impl<'a> Ahead<'a> {
+impl<'a> RowsAhead<'a> {
     /// No rows.
-    pub fn new(alloc: Global) -> Ahead<'a>
+    pub fn new(alloc: Global) -> RowsAhead<'a>
         ensures { result ≡ [] }
     {
-        Ahead {
+        RowsAhead {
             rounds: Vec::new(alloc),
         }
     }

@@ -8,7 +8,7 @@ ghost use Rattle.row_interpreter.specs.Readings.{IsOf};
 ghost use Rattle.row_searches.specs.Nesting.{AreNested};
 ghost use Rattle.row_walk.specs.Walks.{led, with_rows};
 
-use crate::ahead::Ahead;
+use crate::ahead::RowsAhead;
 use crate::subject::{moved_by, times, typed_subject, value_at};
 use mib_model::{Ended, MOST_VALUES, PcfRow, Shape, Value, VpdRow};
 use row_searches::RowSearches;
@@ -18,7 +18,7 @@ use std::marker::Model;
 /// A walk: the rows that are still to walk, the bit that it stands at, the last PIDREF value, and the values so far.
 #[derive(Drop)]
 struct Walk<'a> {
-    todo: Ahead<'a>,
+    todo: RowsAhead<'a>,
     cursor: i128,
     last: i128,
     values: Vec<Value>,
@@ -185,7 +185,7 @@ impl<'a> Walk<'a> {
 fn start(alloc: Global, rows: &RowSearches, tpsd: i128, dfhsize: u8) -> Result<Walk<'_>, AllocError>
     ensures { IfOk result (λ walk. walk ≡ Spec.walk_start rows.now tpsd dfhsize) }
 {
-    let mut todo = Ahead::new(alloc);
+    let mut todo = RowsAhead::new(alloc);
     todo.add(rows.structure(tpsd), 1)?;
     Ok(Walk {
         todo,

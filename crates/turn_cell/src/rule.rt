@@ -61,9 +61,9 @@ impl<S: Machine> Play<Slot<Box<S>, Snapshot<S::Entry>>, View<S::State, S::Event,
 }
 
 /// Passes the turn, and gives the slot back.
-pub struct Pass;
+pub struct PassTurn;
 
-impl<S, C, E, A> Play<S, View<C, E, A>> for Pass {
+impl<S, C, E, A> Play<S, View<C, E, A>> for PassTurn {
     ghost then = { λ st m found n. n ≡ (idle m.0, rest m.1) };
 }
 

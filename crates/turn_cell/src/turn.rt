@@ -5,7 +5,7 @@ ghost use Rattle.histories.specs.History.{move, moves_of, IsLegal, IsOfSeatsBelo
 ghost use Rattle.turn_cell.specs.Views.{AreListed, handed, holdings_below, kept, with_move};
 
 use crate::machine::Machine;
-use crate::rule::{About, Both, Draw, Look, Make, Orderly, Pass, Settle, Share};
+use crate::rule::{About, Both, Draw, Look, Make, Orderly, PassTurn, Settle, Share};
 use crate::slot::Slot;
 use crate::view::View;
 use atomic_table::{Refused, Table, TableRule};
@@ -243,6 +243,6 @@ impl<S: Machine + Drop> Turn<S> {
             Slot::Home(_) => unreachable!(),
             Slot::Out => unreachable!(),
         }
-        shared.fetch_add::<Pass>(seat, SERVING, 1);
+        shared.fetch_add::<PassTurn>(seat, SERVING, 1);
     }
 }

@@ -1,5 +1,5 @@
 use Rattle.packet_run.proofs.Common.{◌∙◌, ap, arc_value, on_err, on_ok, packet_in, refl, stamped_as, sym}
-use Rattle.decode_session.specs.declared.cell.Cell.{Cell}
+use Rattle.decode_session.specs.declared.cell.PacketCell.{PacketCell}
 use Rattle.packet_run.proofs.FeedFacts.{comes_still, of_use}
 use Rattle.packet_run.proofs.KeepsFacts.{keeps_on, keeps_refl, keeps_trans}
 use Rattle.packet_run.proofs.PipingFacts.{piping_offer, stopped_more}
@@ -10,7 +10,7 @@ returns-in-Some-clause-piping g c from stamped shown comes number pp =
     let tables = g.P.Structures.tables in let h = c.hand_over.ensures in let here = of_use {s = stamped_as c.args.read shown} c.in-Some.ensures.0 comes in
     record {
       piping = piping_offer (stamped_as c.args.read shown) h.put.0 h.keeps h.put.1 h.done h.read c.requires.counts.0 number (record {
-        number = ap (λ (c : Cell). c.number) h.put.2;
+        number = ap (λ (c : PacketCell). c.number) h.put.2;
         packet = ap packet_in h.put.2;
         edition = ap (λ h. tables (arc_value h)) h.put.3 ∙ ap tables c.in-Some.ensures.1 ∙ sym here.shown;
       }) here pp;

@@ -1,5 +1,5 @@
 use Rattle.std.proofs.Common.{◌≡◌, ◌++◌, ◌∷◌, [], List, ℕ, ap, arith, length, length-append}
-use Rattle.line_sheets.specs.declared.sheet.Event.{Event}
+use Rattle.line_sheets.specs.declared.sheet.SheetEvent.{SheetEvent}
 use Rattle.line_sheets.proofs.LyingFacts.{events_many, push-held, push-view}
 use Rattle.line_sheets.proofs.sheet.Sheet.push.Goals as goal
 
@@ -28,9 +28,9 @@ pub invariant_of-self : goal.invariant_of-self
 invariant_of-self c =
     let sheet = c.self.inside in
     let inv = c.self.invariant in
-    let e : Event = record { at = length c.bytes.result.now; seat = c.args.seat; deed = c.args.deed } in
+    let e : SheetEvent = record { at = length c.bytes.result.now; seat = c.args.seat; deed = c.args.deed } in
     let many = events_many sheet.text sheet.events.items sheet.raws.items sheet.counts.items c.args.self.now c.self.view_is in
-    let long : length c.push_reserved.new.self.items ≡ length (sheet.events.items ++ e ∷ []) = ap (λ (l : List Event). length l) c.push_reserved.ensures.items in
+    let long : length c.push_reserved.new.self.items ≡ length (sheet.events.items ++ e ∷ []) = ap (λ (l : List SheetEvent). length l) c.push_reserved.ensures.items in
     let more = length-append sheet.events.items (e ∷ []) in (
       push-held sheet.text sheet.events.items c.push_reserved.new.self.items sheet.raws.items c.note_raw.new.raws.items sheet.counts.items c.note_count.new.counts.items inv.0
           (length c.bytes.result.now) c.args.seat c.args.deed c.args.raw c.args.number (ap (λ (l : List ℕ). length l) c.bytes.ensures) c.push_reserved.ensures.items c.note_raw.ensures.items c.note_count.ensures.items,

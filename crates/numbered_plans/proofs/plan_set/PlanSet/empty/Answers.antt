@@ -5,5 +5,5 @@ use Rattle.numbered_plans.proofs.plan_set.PlanSet.empty.Goals as goal
 
 pub invariant_of-result : goal.invariant_of-result
 invariant_of-result g c = λ number.
-    let rows = λ (db : Database). g.P.Numbered.rows_at db number in
-    (λ i. plan_at (c.in_ok-new.ensures.ok i).map number) ∙ c.none.ensures number ∙ sym (g.met.P.Numbered.none_first number) ∙ ap rows (sym (c.of.ensures ∙ c.empty.ensures))
+    let rows = λ (db : Database). g.P.NumberedPlan.rows_at db number in
+    (λ i. plan_at (c.in_ok-new.ensures.ok i).map number) ∙ c.none.ensures number ∙ sym (g.met.P.NumberedPlan.none_first number) ∙ ap rows (sym (c.of.ensures ∙ c.empty.ensures))

@@ -13,4 +13,4 @@ returns g c =
     c.get.ensures
     ∙ (λ i. plan_at (c.deref.ensures i).map (key i))
     ∙ c.self.invariant number
-    ∙ ap (λ (db : Database). g.P.Numbered.rows_at db number) c.self.view_is
+    ∙ ap (λ (db : Database). g.P.NumberedPlan.rows_at db number) c.self.view_is

@@ -1,6 +1,6 @@
 use Rattle.std.proofs.Common.{◌≡◌, ◌+◌, length, arith}
 use Rattle.row_flaws.proofs.SweepFacts.{swept-more}
-use Rattle.row_flaws.proofs.structures.Structure.with.Goals as goal
+use Rattle.row_flaws.proofs.structures.StructureSpots.with.Goals as goal
 
 pub invariant_of-result : goal.invariant_of-result
 invariant_of-result c =

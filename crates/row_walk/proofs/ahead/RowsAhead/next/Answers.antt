@@ -5,7 +5,7 @@ use Rattle.mib_model.specs.declared.rows.VpdRow.{VpdRow}
 use Rattle.row_walk.proofs.AheadFacts.{last-rounds, next-row, one-more}
 use Rattle.row_walk.specs.declared.ahead.Rounds.{Rounds}
 use Rattle.row_walk.specs.Stacked.{IsRounds, rows_ahead}
-use Rattle.row_walk.proofs.ahead.Ahead.next.Goals as goal
+use Rattle.row_walk.proofs.ahead.RowsAhead.next.Goals as goal
 
 pub returns-clause-some : goal.returns-clause-some
 returns-clause-some c =
