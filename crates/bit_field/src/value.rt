@@ -1,7 +1,7 @@
 // The value at a place of a packet.
 ghost use Rattle.std.specs.Prelude.{◌≡◌, ◌<◌, ◌≤◌, ◌+◌, ◌*◌, ◌/◌, ◌^◌, length, Some, None, true, if◌then◌else◌};
 ghost use Rattle.mib_model.specs.Bits as Spec;
-ghost use Rattle.mib_model.specs.Bits.{bits, little_bits};
+ghost use Rattle.mib_model.specs.Bits.{little_bits};
 ghost use Rattle.mib_model.specs.Fixed.{value_at};
 ghost use Rattle.bit_field.specs.Numbers.{has_number};
 
