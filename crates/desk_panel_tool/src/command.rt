@@ -8,9 +8,7 @@ ghost use Rattle.tool_objects.specs.Objects.{shelf, sink};
 ghost use Rattle.tool_words.specs.Panels.{panel_in};
 
 use crate::panel::panel;
-use edition::Edition;
-use edition_register::Closed;
-use fold_state::BoardRoom;
+use live_session::Status;
 use panel_session::Station;
 use run_model::Code;
 use std::alloc::Global;
@@ -18,23 +16,6 @@ use std::sync::Wait;
 use std::thread::Threads;
 use tm_io::{Gate, Shelf, Sink};
 use tool_words::{WordsFault, panel_request_in};
-
-/// How a call of a panel ended. One whose run opened hands out its register, closed; contracts see its history.
-#[derive(Drop)]
-pub struct Status {
-    pub code: Code,
-    pub closed: Option<Closed<Edition, BoardRoom>>,
-}
-
-impl Status {
-    /// The status of a call that opened no run.
-    pub(crate) fn unopened(code: Code) -> Status
-        ensures code { result.code ≡ code }
-        ensures closed { result.closed ≡ None }
-    {
-        Status { code, closed: None }
-    }
-}
 
 /// Does what the words ask for, which stand behind the program's name: `panel DIR FEED DESK1 ..` reads tables from `tables` and decodes the packets of
 /// `feed` to `out`, by as many workers as `--workers` says, while the lines of each named desk edit tables and put editions to use, with replies to

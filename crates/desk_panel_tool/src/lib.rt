@@ -9,8 +9,9 @@ mod inputs;
 mod laws;
 mod panel;
 
-pub use command::{Status, panel_tool};
+pub use command::panel_tool;
 pub use laws::{
     a_missing_desk_is_refused, a_missing_feed_is_refused, bad_tables_are_refused,
     paneling_is_complete,
 };
+pub use live_session::Status;

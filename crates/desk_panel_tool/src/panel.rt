@@ -8,8 +8,8 @@ ghost use Rattle.mib_model.specs.declared.database.Database.{Database};
 ghost use Rattle.tool_objects.specs.Objects.{shelf, sink};
 ghost use Rattle.tool_words.specs.Panels.{words_by};
 
-use crate::command::Status;
 use crate::inputs::open_inputs;
+use live_session::Status;
 use packet_run::MOST_WORKERS;
 use panel_session::{Station, panel_run};
 use run_model::Code;

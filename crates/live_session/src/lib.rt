@@ -12,9 +12,11 @@ mod host;
 mod live;
 mod opening;
 mod sides;
+mod status;
 
 pub use code::{code_of_end, merged};
 pub use host::Host;
 pub use live::{Lived, Watched, live_run};
 pub use opening::{LiveRun, at_first};
 pub use sides::{IntakeSide, run_intake};
+pub use status::Status;

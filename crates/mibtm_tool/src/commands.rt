@@ -17,33 +17,13 @@ use crate::check::check;
 use crate::decode::decode;
 use crate::drill::drill;
 use crate::live::{LiveRequest, live};
-use edition::Edition;
-use edition_register::Closed;
-use fold_state::BoardRoom;
-use live_session::Host;
+use live_session::{Host, Status};
 use run_model::{Code, Input};
 use std::alloc::Global;
 use std::sync::Wait;
 use std::thread::Threads;
 use tm_io::{Gate, Shelf, Sink};
 use tool_words::{ToolRequest, WordsFault, request_in};
-
-/// How a call of the tool ended. A live run that opened hands out its register, closed; contracts see its history.
-#[derive(Drop)]
-pub struct Status {
-    pub code: Code,
-    pub closed: Option<Closed<Edition, BoardRoom>>,
-}
-
-impl Status {
-    /// The status of a call that opened no live run.
-    pub(crate) fn unopened(code: Code) -> Status
-        ensures code { result.code ≡ code }
-        ensures closed { result.closed ≡ None }
-    {
-        Status { code, closed: None }
-    }
-}
 
 /// Does what the words ask for, which stand behind the program's name. `check DIR` reads tables from `tables` and writes
 /// their summary to `out`; `decode DIR FEED` reads packets from `feed` too, and writes

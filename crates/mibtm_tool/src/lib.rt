@@ -17,6 +17,7 @@ mod live;
 mod print;
 
 pub use commands::{
-    Status, a_missing_feed_is_refused, a_script_up_to_its_go_decides, bad_tables_are_refused,
+    a_missing_feed_is_refused, a_script_up_to_its_go_decides, bad_tables_are_refused,
     checking_is_complete, decoding_is_complete, drilling_is_complete, living_is_complete, tool,
 };
+pub use live_session::Status;

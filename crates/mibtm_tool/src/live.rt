@@ -5,10 +5,9 @@ ghost use Rattle.mibtm_tool.specs.Live.{LivedBeside};
 ghost use Rattle.mibtm_tool.specs.Statement.{LivedBy, TellsItsEnd, names, shelves};
 ghost use Rattle.tool_objects.specs.Objects.{shelf, sink};
 
-use crate::commands::Status;
 use edition::Edition;
 use folder_edition::{folder_edition, let_go};
-use live_session::{Host, Lived, live_run};
+use live_session::{Host, Lived, Status, live_run};
 use packet_run::MOST_WORKERS;
 use run_model::{Code, Input};
 use std::sync::Wait;

@@ -134,23 +134,6 @@ impl<P: NumberedPlan> PlanSet<P> {
         PlanSet::compared(alloc, base, old, book, steps)
     }
 
-    /// As `beside`, where no tables are known to be the same.
-    pub fn new<L: Ledger>(
-        alloc: Global,
-        base: &PlanSet<P>,
-        old: &Book,
-        book: &Book,
-        steps: &mut Steps<L>,
-    ) -> Result<MadeSet<P>, AllocError>
-        requires { base.now ≡ old.now }
-        ensures set { IfOk result (λ made. made.set ≡ book.now) }
-        ensures compiled { IfOk result (λ made. made.compiled.items ≡ new_numbers P.same P.rows_at P.numbers base.now book.now) }
-        ensures few { IfOk result (λ made. length made.compiled.items ≤ HELD_MOST) }
-        ensures steps { OnOk result (steps.new ≡ steps.old + length (new_numbers P.same P.rows_at P.numbers base.now book.now)) }
-    {
-        PlanSet::beside(alloc, base, old, TableSet::NONE, book, steps)
-    }
-
     /// The plan of a number, which others may share.
     #[inline]
     pub fn handle(&self, number: i128) -> Option<&Arc<P>>

@@ -5,7 +5,7 @@ ghost use Rattle.mib_model.specs.Soundness.{IsSound};
 use crate::books::{book_of, name, packet, parameter, place};
 use mib_keys::sound;
 use mib_model::Steps;
-use mib_tables::Book;
+use mib_tables::{Book, TableSet};
 use numbered_plans::LayoutSet;
 use std::alloc::{AllocError, Global};
 use std::marker::Brand;
@@ -47,7 +47,7 @@ fn set_of<L: Ledger, R: Abort>(
     requires sound { IsSound book.now }
     ensures { IfOk result (λ set. set ≡ book.now) }
 {
-    let made = LayoutSet::new(alloc, base, old, book, steps)?;
+    let made = LayoutSet::beside(alloc, base, old, TableSet::NONE, book, steps)?;
     assert!(rt; made.compiled.as_slice() == compiled);
     Ok(made.set)
 }

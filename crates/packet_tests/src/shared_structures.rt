@@ -3,7 +3,7 @@ ghost use Rattle.std.specs.Prelude.{◌≡◌, IfOk};
 
 use crate::books::{book_of, name, parameter, structure_row};
 use mib_model::Steps;
-use mib_tables::Book;
+use mib_tables::{Book, TableSet};
 use numbered_plans::{Deduced, StructureSet};
 use std::alloc::{AllocError, Global};
 use std::marker::Brand;
@@ -35,7 +35,7 @@ fn set_of<L: Ledger, R: Abort>(
     requires { base.now ≡ old.now }
     ensures { IfOk result (λ set. set ≡ book.now) }
 {
-    let made = StructureSet::new(alloc, base, old, book, steps)?;
+    let made = StructureSet::beside(alloc, base, old, TableSet::NONE, book, steps)?;
     assert!(rt; made.compiled.as_slice() == compiled);
     Ok(made.set)
 }

@@ -4,10 +4,10 @@ ghost use Rattle.std.specs.List.{list_any};
 ghost use Rattle.mib_keys.specs.Kept.{AreSameIn};
 ghost use Rattle.param_changes.specs.Changed.{AreChanged, Notes, has_name, takes_any};
 
-use mib_index::Named;
 use mib_model::{CurRow, Name};
 use mib_tables::{Book, TableSet};
 use param_plan::ParamRows;
+use row_keys::Named;
 use row_sameness::{Same, same_row};
 use std::alloc::{AllocError, Global};
 

@@ -15,9 +15,9 @@ fn number_of(number: Option<u32>) -> Option<i128>
 
 /// Measured parameters that aren't deduced, by the numbers that deduced ones name.
 #[derive(Drop)]
-pub struct ByNumber;
+pub struct ByPid;
 
-impl By for ByNumber {
+impl By for ByPid {
     ghost use Rattle.row_interpreter.specs.Keys.{number_key};
 
     type Row = PcfRow;

@@ -5,7 +5,7 @@ ghost use Rattle.std.specs.Ordering.{int_eq};
 ghost use Rattle.mib_model.specs.Parameters as Spec;
 ghost use Rattle.mib_model.specs.Structures.{is_deduced};
 
-use crate::keys::ByNumber;
+use crate::keys::ByPid;
 use bit_field::shape_of;
 use first_rows::FirstRows;
 use mib_model::{Endian, Name, PcfRow, Shape};
@@ -16,7 +16,7 @@ use std::marker::Model;
 /// The parameters, by their names and by the numbers that deduced ones name. Contracts see the table.
 pub struct ParameterRows {
     named: FirstRows<ByName<PcfRow>>,
-    numbered: FirstRows<ByNumber>,
+    numbered: FirstRows<ByPid>,
 }
 
 /// By hand, so that whoever lets one go proves one call.

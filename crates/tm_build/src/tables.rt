@@ -7,7 +7,7 @@ ghost use Rattle.build_rules.specs.Building.{criterion_of};
 
 use first_rows::FirstRows;
 use mib_model::{PcfRow, PicRow, PidRow, PlfRow, Steps};
-use mib_tables::Book;
+use mib_tables::{Book, TableSet};
 use numbered_plans::{Deduced, StructureSet};
 use row_groups::RowGroups;
 use row_keys::{ByName, BySpid};
@@ -62,10 +62,11 @@ fn compile<L: Ledger>(alloc: Global, book: &Book, blank: Blank) -> Result<Struct
     ensures { IfOk result (λ set. set ≡ book.now) }
 {
     let none = StructureSet::empty(alloc)?;
-    let made = StructureSet::new(
+    let made = StructureSet::beside(
         alloc,
         &none,
         &Book::empty(alloc),
+        TableSet::NONE,
         book,
         &mut Steps::<L>::new(blank),
     )?;
