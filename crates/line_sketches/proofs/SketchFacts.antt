@@ -25,8 +25,8 @@ ends-within start (e ∷ ends) end all = let rest = ends-within e.end ends end a
 -- one more end, behind the others
 pub ends-more : (start : ℕ) (ends : List LineEnd) (end : ℕ) (last : LineEnd) → AreEnds start ends end → end ≤ last.end → last.end ≤ end + VALUE_ROOM
     → AreEnds start (ends ++ last ∷ []) last.end
-ends-more start [] end last all after near = (omega (arith, all, after), omega (arith, all, near), refl)
-ends-more start (e ∷ ends) end last all after near = (all.0, all.1, ends-more e.end ends end last all.2 after near)
+ends-more start [] end last all after short = (omega (arith, all, after), omega (arith, all, short), refl)
+ends-more start (e ∷ ends) end last all after short = (all.0, all.1, ends-more e.end ends end last all.2 after short)
 
 -- one more line, behind the others
 pub lines-more : (text line : List ℕ) (numbers : List Eng) (start : ℕ) (ends : List LineEnd) (last : LineEnd) → AreEnds start ends (length text)
@@ -95,9 +95,9 @@ behind-long old new added = ap (λ (octets : List ℕ). length octets) added ∙
 module _ (old new : List ℕ) (numbers : List Eng) (ends : List LineEnd) (m : Mark) (last : LineEnd) (all : AreEnds 0 ends (length old)) (are : AreNoted numbers ends)
     (added : new ≡ old ++ behind old new) (here : last.end ≡ length new) (noted : last.noted ≡ noted_as (length numbers) m) where
   pub noted-ends : length new ≤ length old + VALUE_ROOM → AreEnds 0 (ends ++ last ∷ []) (length new)
-  noted-ends near =
+  noted-ends short =
       let long = behind-long old new added in
-      subst (λ (n : ℕ). AreEnds 0 (ends ++ last ∷ []) n) here (ends-more 0 ends (length old) last all (omega (arith, here, long)) (omega (arith, here, near)))
+      subst (λ (n : ℕ). AreEnds 0 (ends ++ last ∷ []) n) here (ends-more 0 ends (length old) last all (omega (arith, here, long)) (omega (arith, here, short)))
 
   pub noted-numbers : AreNoted (numbers ++ numbers_of m) (ends ++ last ∷ [])
   noted-numbers =
@@ -123,14 +123,14 @@ line-at text numbers start (x ∷ ends) (suc k) e d below = line-at text numbers
 -- a line begins before it ends, isn't longer than a value's line may be, and ends before the last one
 pub record IsBound (start end last : ℕ) : Type 0 where
   pub order : start ≤ end
-  pub near : end ≤ start + VALUE_ROOM
+  pub short : end ≤ start + VALUE_ROOM
   pub within : end ≤ last
 
 -- where a line begins and ends
 pub line-bounds : (start : ℕ) (ends : List LineEnd) (last k : ℕ) (e : LineEnd) → AreEnds start ends last → k < length ends
     → IsBound (start_from start ends k) (get_or ends k e).end last
 line-bounds start [] last k e all below = absurd (omega (arith, below))
-line-bounds start (x ∷ ends) last zero e all below = record { order = all.0; near = all.1; within = ends-within x.end ends last all.2 }
+line-bounds start (x ∷ ends) last zero e all below = record { order = all.0; short = all.1; within = ends-within x.end ends last all.2 }
 line-bounds start (x ∷ ends) last (suc k) e all below = line-bounds x.end ends last k e all.2 (omega (arith, below))
 
 -- a line begins where the one before ends
@@ -147,10 +147,10 @@ part-same text start end order =
 
 -- how long a part is at most
 pub part-long : (text : List ℕ) (start end : ℕ) → start ≤ end → end ≤ start + VALUE_ROOM → length (drop start (take end text)) ≤ VALUE_ROOM
-part-long text start end order near =
+part-long text start end order short =
     let front : length (take end text) ≡ min end (length text) = length-take end text in
     let long : length (drop start (take end text)) ≡ length (take end text) - start = length-drop start (take end text) in
-    omega (arith, front, long, near, order)
+    omega (arith, front, long, short, order)
 
 -- what a sketch has of a line: its mark and its end among the ends, and where it begins
 module _ (text octets : List ℕ) (numbers : List Eng) (items ends : List LineEnd) (lines : List MarkedLine) (k : ℕ) (seen : lines_in text numbers 0 items ≡ lines) (ended : ends ≡ items)
@@ -171,7 +171,7 @@ module _ (text octets : List ℕ) (numbers : List Eng) (items ends : List LineEn
         let bound = line-bounds 0 ends (length text) k e here within-ends in
         let end : e.end ≡ (get_or ends k e).end = ap (λ (x : LineEnd). x.end) is in
         let long : length octets ≡ length text = ap (λ (t : List ℕ). length t) same in
-        record { order = omega (arith, bound.order, begins, end); near = omega (arith, bound.near, begins, end); within = omega (arith, bound.within, end, long) }
+        record { order = omega (arith, bound.order, begins, end); short = omega (arith, bound.short, begins, end); within = omega (arith, bound.within, end, long) }
 
     -- it is that part of the text
     pub line-is : (m : Mark) → m ≡ mark_of numbers e.noted → (line : List ℕ) → line ≡ drop start (take e.end octets) → (d : MarkedLine) → ◌≡◌ {A = MarkedLine} (m, line) (get_or lines k d)

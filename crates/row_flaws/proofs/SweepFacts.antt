@@ -62,7 +62,7 @@ told-behind spots ends noted (Some end) found size = go (nat_lt end (length spot
 
 -- one more row behind the others
 more-swept : (spots : List Spot) (nearest : List (Option ℕ)) (ends more : BTreeSet ℕ) (found : Option ℕ) (spot : Spot) → IsSwept spots nearest ends → IsNearest ends (length spots) found → Updates nat_cmp ends more (length spots + spot.grpsize) true → IsSwept (spots ++ spot ∷ []) (nearest ++ found ∷ []) more
-more-swept spots nearest ends more found spot swept near added = record {
+more-swept spots nearest ends more found spot swept closest added = record {
   all = let a = length-append nearest (found ∷ []) in let b = length-append spots (spot ∷ []) in let c = swept.all in omega (arith, a, b, c);
   told = told;
   noted = noted;
@@ -80,7 +80,7 @@ more-swept spots nearest ends more found spot swept near added = record {
     at_last : (size : ℕ) → is_end_before (length spots + size) (get_or (nearest ++ found ∷ []) (length spots) None) ≡ passes_some (spots ++ spot ∷ []) (length spots) size
     at_last size =
         ap (is_end_before (length spots + size)) (ap (λ i. get_or (nearest ++ found ∷ []) i None) (sym swept.all) ∙ get_or-append_seam nearest found [] None) ∙
-        (told-behind spots ends swept.noted found near size ∙ ap (λ xs. list_any (passes (length spots) size) (enumerate_from 0 xs)) (sym (take-append_seam spots (spot ∷ []))))
+        (told-behind spots ends swept.noted found closest size ∙ ap (λ xs. list_any (passes (length spots) size) (enumerate_from 0 xs)) (sym (take-append_seam spots (spot ∷ []))))
 
   noted : (end : ℕ) → contains nat_cmp more end ≡ list_any (ends_at end) (enumerate_from 0 (spots ++ spot ∷ []))
   noted end =
@@ -94,5 +94,5 @@ more-swept spots nearest ends more found spot swept near added = record {
         flip false false = refl
 
 pub swept-more : (spots : List Spot) (nearest : List (Option ℕ)) (ends more : BTreeSet ℕ) (found : Option ℕ) (spot : Spot) (place end : ℕ) → place ≡ length spots → end ≡ length spots + spot.grpsize → IsSwept spots nearest ends → IsNearest ends place found → Updates nat_cmp ends more end true → IsSwept (spots ++ spot ∷ []) (nearest ++ found ∷ []) more
-swept-more spots nearest ends more found spot place end behind is swept near added =
-    more-swept spots nearest ends more found spot swept (subst (λ i. IsNearest ends i found) behind near) (subst (λ i. Updates nat_cmp ends more i true) is added)
+swept-more spots nearest ends more found spot place end behind is swept closest added =
+    more-swept spots nearest ends more found spot swept (subst (λ i. IsNearest ends i found) behind closest) (subst (λ i. Updates nat_cmp ends more i true) is added)

@@ -14,13 +14,13 @@ loop-at-preserved c =
     let n = c.loop-at.at - 1 in
     let points : List Point = c.args.points.now in
     let z : Point = record { x = pos 0; y = record { count = pos 0 } } in
-    let near : suc n ≡ c.loop-at.at = omega (arith, c.loop-at.auto.at) in
+    let here : suc n ≡ c.loop-at.at = omega (arith, c.loop-at.auto.at) in
     let more : c.loop-at.at + 1 - 1 ≡ c.loop-at.at = omega arith in
-    let next = neighbours-next (knots_at points) n (knot_at z) (omega (arith, near, knots-long points, c.loop-at-test.true)) in
-    let second : get_or (knots_at points) (suc n) (knot_at z) ≡ knot_at (get_or points c.loop-at.at z) = knot-there points (suc n) z ∙ ap (λ (k : ℕ). knot_at (get_or points k z)) near in
+    let next = neighbours-next (knots_at points) n (knot_at z) (omega (arith, here, knots-long points, c.loop-at-test.true)) in
+    let second : get_or (knots_at points) (suc n) (knot_at z) ≡ knot_at (get_or points c.loop-at.at z) = knot-there points (suc n) z ∙ ap (λ (k : ℕ). knot_at (get_or points k z)) here in
     let first = knot-there points n z in
     let all : neighbours (drop n (knots_at points)) ≡ pair_at (get_or points n z, get_or points c.loop-at.at z) ∷ neighbours (drop c.loop-at.at (knots_at points)) =
-    next ∙ (λ i. (first i, second i) ∷ neighbours (drop (near i) (knots_at points))) in
+    next ∙ (λ i. (first i, second i) ∷ neighbours (drop (here i) (knots_at points))) in
     let so : taken_of raw (option_map pair_at c.loop-at.found) (neighbours (drop n (knots_at points))) ≡ pair_for raw (neighbours (knots_at points)) = c.loop-at.invariant in
     ap (λ (k : ℕ). taken_of raw (option_map pair_at c.taken-found.result) (neighbours (drop k (knots_at points)))) more
     ∙ (c.taken-found.ensures (neighbours (drop c.loop-at.at (knots_at points))) ∙ (ap (taken_of raw (option_map pair_at c.loop-at.found)) (sym all) ∙ so))

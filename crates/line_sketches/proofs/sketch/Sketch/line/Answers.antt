@@ -39,5 +39,5 @@ returns c =
     record {
       line = line-is sketch.text.items octets sketch.numbers.items sketch.ends.items ends c.args.self.now c.args.k c.self.view_is c.deref-ends.ensures.value c.requires c.deref-text.ensures.value
           c.start_of.result c.end_at-noted.result c.end_at-noted.ensures c.start_of.ensures c.mark_at-mark.result marked c.part.result.now c.part.ensures;
-      room = subst (λ (octets : List ℕ). length octets ≤ VALUE_ROOM) (sym c.part.ensures) (part-long octets c.start_of.result c.end_at-noted.result.end bound.order bound.near);
+      room = subst (λ (octets : List ℕ). length octets ≤ VALUE_ROOM) (sym c.part.ensures) (part-long octets c.start_of.result c.end_at-noted.result.end bound.order bound.short);
     }
