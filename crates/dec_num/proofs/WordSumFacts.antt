@@ -5,7 +5,7 @@ use Rattle.std.specs.List.{suffix_len}
 use Rattle.std.proofs.lemmas.List.{length-take-le}
 use Rattle.mib_model.specs.declared.number.Dec.{Dec}
 use Rattle.mib_model.specs.Polynomials.{is_zero, to_count, scale_of, polynomial}
-use Rattle.dec_num.specs.declared.fast.WordPoly.{WordPoly}
+use Rattle.dec_num.specs.declared.fast.poly.WordPoly.{WordPoly}
 use Rattle.dec_num.specs.Narrow.{narrow_result, or_over}
 use Rattle.dec_num.specs.Sums.{without_zeros, sum_behind, sum_of, AreScaled}
 use Rattle.dec_num.specs.WordSums.{word_sum, AreWords}

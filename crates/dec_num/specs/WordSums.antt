@@ -1,6 +1,6 @@
 -- Polynomials whose coefficients are numbers of 64 bits. [This profile.]
 use Rattle.std.specs.Prelude.{◌≡◌, ℤ, pos, List, take, Option, Some, None}
-use Rattle.dec_num.specs.declared.fast.WordPoly.{WordPoly}
+use Rattle.dec_num.specs.declared.fast.poly.WordPoly.{WordPoly}
 use Rattle.dec_num.specs.Sums.{sum_behind, without_zeros}
 
 -- coefficients of 64 bits, where there are any, are coefficients at one scale

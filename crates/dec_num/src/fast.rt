@@ -5,18 +5,11 @@ ghost use Rattle.dec_num.specs.Narrow.{narrow_result};
 ghost use Rattle.dec_num.specs.Sums.{without_zeros, advanced, sum_behind};
 ghost use Rattle.dec_num.specs.WordSums.{word_sum, AreWords};
 
+pub(crate) mod poly;
+
+use crate::fast::poly::WordPoly;
 use crate::polynomial::up_to_degree;
 use crate::rounding::small_power;
-
-/// Coefficients that are all numbers of 64 bits: that of the power 0, and `count` of those of the powers from 1 on, up to the
-/// last that is not 0.
-#[derive(Clone, Copy)]
-pub(crate) struct WordPoly {
-    pub first: i64,
-    pub rest: [i64; 4],
-    pub count: u8,
-    ghost few: { count ≤ 4 },
-}
 
 // The next power, and the sum with the term of its coefficient, where all are numbers of 64 bits.
 #[inline(always)]

@@ -10,7 +10,7 @@ ghost use Rattle.dec_num.specs.Sums.{without_zeros, advanced, sum_behind, sum_of
 ghost use Rattle.mib_model.specs.declared.limits.TheConstants.{STEP_BOUND};
 
 use crate::fast;
-use crate::fast::WordPoly;
+use crate::fast::poly::WordPoly;
 use crate::rounding::scaled_down;
 use crate::steps::{outcome, product, scaled_up, step, sum};
 use mib_model::{Dec, Eng, Over};
