@@ -64,7 +64,8 @@ pub fn open_inputs<T: Shelf, F: Shelf, D: Shelf, P: Shelf>(
     page: &mut P,
 ) -> Result<(Edition, Vec<Name>), BoardCode>
     ensures few { IfOk result (λ opened. length opened.1.items ≤ MOST_CELLS) }
-    ensures opened { IfOk result (λ opened. AreOpened opened.0 opened.1.items (words_by request.now) (shelf tables.old tables.new T.holds T.left T.faults T.missed)
+    ensures opened { IfOk result (λ opened. AreOpened opened.0 opened.1.items (words_by request.now)
+        (shelf tables.old tables.new T.holds T.left T.faults T.missed)
         (shelf feed.old feed.new F.holds F.left F.faults F.missed)
         (shelf desk.old desk.new D.holds D.left D.faults D.missed) (shelf page.old page.new P.holds P.left P.faults P.missed)) }
     ensures refused { IfErr result (λ code. AreRefused code (words_by request.now) (shelf tables.old tables.new T.holds T.left T.faults T.missed)

@@ -15,7 +15,8 @@ use Rattle.packet_sheets.specs.Stretches.{no_stretch}
 pub record IsJob (db : Database) (job : DrawingJob) : Type 0 where
   pub are_packets : All IsPacket job.stretch.packets
   pub few : job.drawn ≤ length job.stretch.packets
-  pub sheet : 0 < job.drawn → IsSheetFor (asked_in (param_slices db)) db (plan_names (param_slices db)) (stamped_from db job.number (take job.drawn job.stretch.packets)) job.sheet
+  pub sheet : 0 < job.drawn → IsSheetFor (asked_in (param_slices db)) db (plan_names (param_slices db)) (stamped_from db job.number
+      (take job.drawn job.stretch.packets)) job.sheet
 
 -- a job has no packets yet
 pub record IsUnused (job : DrawingJob) : Type 0 where

@@ -42,7 +42,8 @@ abbrev pub PrintsPart : Database → ℕ → List (List ℕ) → Memory → Opti
 PrintsPart db number packets memory before now = AppendsPrefix before now (batch_text 1 db memory (stamped_from db number packets))
 
 -- packets were read up to the one of the next number, so that it ended so, and printed
-abbrev pub PrintsNext : Filled → Database → Option (List ℕ) → ℕ → ℕ → Option (List ℕ) → Option (List ℕ) → Memory → Memory → Option (List ℕ) → Option (List ℕ) → Type 0
+abbrev pub PrintsNext : Filled → Database → Option (List ℕ) → ℕ → ℕ → Option (List ℕ) → Option (List ℕ) → Memory → Memory → Option (List ℕ)
+    → Option (List ℕ) → Type 0
 PrintsNext f db start number next old new memory after before now =
     (packets : List (List ℕ)) × Reads f start number next packets old new × Prints db number packets memory after before now
 

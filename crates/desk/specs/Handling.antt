@@ -30,7 +30,8 @@ IsDone several request run = Follows (way_of several run.old request) run.calls 
 
 -- at the desk of a seat, one of several or a single one, a line went the way of its request, or want of memory refused it; the seat's moves grew by
 -- the entries that were made
-pub record HandlesLineAt (several : Bool) (seat : ℕ) (line : List ℕ) (old : DeskState) (before after : RegisterHistory) (given : Option DeskReply) (new : DeskState) : Type 0 where
+pub record HandlesLineAt (several : Bool) (seat : ℕ) (line : List ℕ) (old : DeskState) (before after : RegisterHistory) (given : Option DeskReply)
+    (new : DeskState) : Type 0 where
   pub calls : Calls
   pub own : after ≡ before ++ moves_at seat calls
   pub is_line : IsLine several (run_with line old calls given new)
@@ -40,7 +41,8 @@ abbrev pub HandlesLine : List ℕ → DeskState → RegisterHistory → Register
 HandlesLine line old before after given new = HandlesLineAt false 1 line old before after (option_map Plain given) new
 
 -- at the desk of a seat a request went its way, or want of memory refused it; the seat's moves grew by the entries that were made
-pub record HandlesAt (several : Bool) (seat : ℕ) (request : Request) (old : DeskState) (before after : RegisterHistory) (given : Option DeskReply) (new : DeskState) : Type 0 where
+pub record HandlesAt (several : Bool) (seat : ℕ) (request : Request) (old : DeskState) (before after : RegisterHistory) (given : Option DeskReply)
+    (new : DeskState) : Type 0 where
   pub calls : Calls
   pub own : after ≡ before ++ moves_at seat calls
   pub is_done : IsDone several request (run_with [] old calls given new)

@@ -32,7 +32,8 @@ fn turn<S: Shelf>(files: &mut S, name: &str, missing: Code, fault: Code) -> Resu
 fn turn_desks<D: Shelf, R: Sink>(names: &[&str], desks: &mut [Station<D, R>]) -> Result<(), Code>
     requires { length desks.old ≡ length names.now }
     ensures all { OnOk result (AreTurned (texts names.now) (stations desks.old desks.new D.holds D.left D.faults D.missed R.written R.handed R.faults)) }
-    ensures first { IfErr result (λ code. AreNotTurned code (texts names.now) (stations desks.old desks.new D.holds D.left D.faults D.missed R.written R.handed R.faults)) }
+    ensures first { IfErr result (λ code. AreNotTurned code (texts names.now)
+        (stations desks.old desks.new D.holds D.left D.faults D.missed R.written R.handed R.faults)) }
 {
     match names {
         [name, names @ ..] => {

@@ -147,7 +147,8 @@ pub fn build_tool<T: Shelf, D: Shelf, O: Sink>(
 ) -> BuildCode
     // Wrong words are answered before any object is called.
     ensures misuse { IfErr (Words.inputs_in (map string_bytes words.now)) (λ misuse. result ≡ BuildCode.Usage misuse) }
-    ensures uncalled { IfErr (Words.inputs_in (map string_bytes words.now)) (λ misuse. (tables.new ≡ tables.old) × (asks.new ≡ asks.old) × (out.new ≡ out.old)) }
+    ensures uncalled { IfErr (Words.inputs_in (map string_bytes words.now)) (λ misuse.
+        (tables.new ≡ tables.old) × (asks.new ≡ asks.old) × (out.new ≡ out.old)) }
 
     ensures builds { IfInputs (Words.inputs_in (map string_bytes words.now)) (λ names. Built result names
         (shelf tables.old tables.new T.holds T.left T.faults T.missed)

@@ -28,7 +28,8 @@ module _ {P : Type 0} {plans : Structures.Ghosts P} (tables : P → Database) wh
   -- the same tables
   pub record ComesBehind (rows : P → Database) (in_use : InUse P plans) (edition : ℕ) (shown : Database) (start : Option (Start P Slots)) : Type 0 where
     pub same : edition ≡ in_use.edition → shown ≡ tables (arc_value in_use.handle)
-    pub begins : MatchOption start (◌≡◌ {A = ℕ × Database} (edition, shown) (in_use.edition, tables (arc_value in_use.handle))) (λ start. IsStart rows is_made_for shown start)
+    pub begins : MatchOption start (◌≡◌ {A = ℕ × Database} (edition, shown) (in_use.edition, tables (arc_value in_use.handle)))
+        (λ start. IsStart rows is_made_for shown start)
 
   -- its edition is in use: what is kept is carried over, and the line of the edition stands behind a text, where it wasn't the one in use
   pub record IsTurned (old new : InUse P plans) (number : ℕ) (db : Database) (text longer : List ℕ) : Type 0 where

@@ -54,7 +54,8 @@ fn finish_drawn<P: Plans>(
     requires inside { All (λ v. is_inside packet.now v.at v.shape.width ≡ true) (take half.now.used values.now) }
     requires room { length lines.old ≤ TEXT_BEFORE }
     ensures names { board.new.names ≡ board.old.names }
-    ensures step { IsHalf (P.tables plans.now) packet.now half.now values.now → AreShown (P.tables plans.now) packet.now (take half.now.used values.now) sketch.now
+    ensures step { IsHalf (P.tables plans.now) packet.now half.now values.now
+        → AreShown (P.tables plans.now) packet.now (take half.now.used values.now) sketch.now
         → board.old.names ≡ plan_names (param_slices (P.tables plans.now)) → (c : Course) (s : StampedPacket)
         → ComesTo c s number packet.now (P.tables plans.now) (memory_of board.old) → HasStepped c s (memory_of board.new) lines.old lines.new }
 {

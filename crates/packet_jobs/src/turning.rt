@@ -27,7 +27,8 @@ fn begin<P: Plans + Drop>(
     requires room { length lines.old + LINE_MOST ≤ LINES_ROOM }
     ensures edition { in_use.new.edition ≡ edition }
     ensures handle { in_use.new.handle ≡ start.handle }
-    ensures memory { memory_of in_use.new.board ≡ carry (memory_of in_use.old.board) (P.tables (arc_value in_use.old.handle)) (P.tables (arc_value start.handle)) }
+    ensures memory { memory_of in_use.new.board ≡ carry (memory_of in_use.old.board) (P.tables (arc_value in_use.old.handle))
+        (P.tables (arc_value start.handle)) }
     ensures text { lines.new ≡ lines.old ++ edition_text edition }
     ensures room { length lines.new ≤ length lines.old + NOTE_ROOM }
 {

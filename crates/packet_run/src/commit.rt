@@ -66,9 +66,11 @@ fn commit_next<P: Plans + Drop, O: Sink, W: Watch, R: Wait>(
     ensures goes_on { GoesOn pipeline.old pipeline.new }
     ensures keeps { Keeps P.tables pipeline.old pipeline.new }
     ensures in_use { StaysInUse in_use.old in_use.new }
-    ensures piping { OnOk result ((from : From W) (stamped : List StampedPacket) → Piping P.tables W.stands from stamped pipeline.old in_use.old watch.old (O.written out.old)
+    ensures piping { OnOk result ((from : From W) (stamped : List StampedPacket)
+        → Piping P.tables W.stands from stamped pipeline.old in_use.old watch.old (O.written out.old)
         → Piping P.tables W.stands from stamped pipeline.new in_use.new watch.new (O.written out.new)) }
-    ensures stopped { OnErr result ((from : From W) (stamped : List StampedPacket) → Piping P.tables W.stands from stamped pipeline.old in_use.old watch.old (O.written out.old)
+    ensures stopped { OnErr result ((from : From W) (stamped : List StampedPacket)
+        → Piping P.tables W.stands from stamped pipeline.old in_use.old watch.old (O.written out.old)
         → Stopped P.tables W.stands from stamped pipeline.new watch.new (O.written out.new)) }
     ensures cause { HasCause (O.faults out.old) (O.faults out.new) result }
 {
@@ -102,9 +104,11 @@ pub(crate) fn commit_to<P: Plans + Drop, O: Sink, W: Watch, R: Wait>(
     ensures goes_on { GoesOn pipeline.old pipeline.new }
     ensures keeps { Keeps P.tables pipeline.old pipeline.new }
     ensures in_use { StaysInUse in_use.old in_use.new }
-    ensures piping { OnOk result ((from : From W) (stamped : List StampedPacket) → Piping P.tables W.stands from stamped pipeline.old in_use.old watch.old (O.written out.old)
+    ensures piping { OnOk result ((from : From W) (stamped : List StampedPacket)
+        → Piping P.tables W.stands from stamped pipeline.old in_use.old watch.old (O.written out.old)
         → Piping P.tables W.stands from stamped pipeline.new in_use.new watch.new (O.written out.new)) }
-    ensures stopped { OnErr result ((from : From W) (stamped : List StampedPacket) → Piping P.tables W.stands from stamped pipeline.old in_use.old watch.old (O.written out.old)
+    ensures stopped { OnErr result ((from : From W) (stamped : List StampedPacket)
+        → Piping P.tables W.stands from stamped pipeline.old in_use.old watch.old (O.written out.old)
         → Stopped P.tables W.stands from stamped pipeline.new watch.new (O.written out.new)) }
     ensures cause { HasCause (O.faults out.old) (O.faults out.new) result }
 {

@@ -79,13 +79,16 @@ fn make_way<P: Plans + Drop, S: Source, O: Sink, W: Watch, R: Wait>(
     ensures passes { IsOf crew.now.jobs pipeline.new.first × IsOf crew.now.results pipeline.new.second }
     ensures next { OnOk result (next_of pipeline.new.window ≡ pipeline.new.done + 1) }
     ensures room { OnOk result (pipeline.new.read < pipeline.new.done + MOST_AHEAD) }
-    ensures handed { OnOk result ((O.handed out.new ≡ O.written out.new) × (pipeline.new.read ≤ pipeline.new.done) ⊎ IfSome (S.left (source_of feed.now)) BeginsWithPacket) }
+    ensures handed { OnOk result ((O.handed out.new ≡ O.written out.new) × (pipeline.new.read ≤ pipeline.new.done)
+        ⊎ IfSome (S.left (source_of feed.now)) BeginsWithPacket) }
     ensures goes_on { GoesOn pipeline.old pipeline.new }
     ensures keeps { Keeps P.tables pipeline.old pipeline.new }
     ensures in_use { StaysInUse in_use.old in_use.new }
-    ensures piping { OnOk result ((from : From W) (stamped : List StampedPacket) → Piping P.tables W.stands from stamped pipeline.old in_use.old watch.old (O.written out.old)
+    ensures piping { OnOk result ((from : From W) (stamped : List StampedPacket)
+        → Piping P.tables W.stands from stamped pipeline.old in_use.old watch.old (O.written out.old)
         → Piping P.tables W.stands from stamped pipeline.new in_use.new watch.new (O.written out.new)) }
-    ensures stopped { OnErr result ((from : From W) (stamped : List StampedPacket) → Piping P.tables W.stands from stamped pipeline.old in_use.old watch.old (O.written out.old)
+    ensures stopped { OnErr result ((from : From W) (stamped : List StampedPacket)
+        → Piping P.tables W.stands from stamped pipeline.old in_use.old watch.old (O.written out.old)
         → Stopped P.tables W.stands from stamped pipeline.new watch.new (O.written out.new)) }
     ensures cause { HasCause (O.faults out.old) (O.faults out.new) result }
 {
@@ -225,10 +228,12 @@ pub(crate) fn run_feed<P: Plans + Rows + Drop, S: Source, O: Sink, W: Watch, R: 
     ensures passes { HasPasses intake.now.crew.now pipeline.new }
     ensures counts { (result ≢ Until.OutFault → next_of pipeline.new.window ≡ pipeline.new.done + 1) × (pipeline.new.done ≤ pipeline.new.read) }
     ensures keeps { Keeps P.Structures.tables pipeline.old pipeline.new }
-    ensures fed { (from : From W) → from.first ≡ first_of intake.now.register.now → Piping P.Structures.tables W.stands from [] pipeline.old in_use.old watch.old (O.written out.old)
+    ensures fed { (from : From W) → from.first ≡ first_of intake.now.register.now
+        → Piping P.Structures.tables W.stands from [] pipeline.old in_use.old watch.old (O.written out.old)
         → Fed P.Structures.tables W.stands result from (own_moves seat.new) pipeline.new in_use.new watch.new
         (S.left (source_of feed.old)) (S.left (source_of feed.new)) (O.written out.new) }
-    ensures causes { HasUntilCause result (S.faults (source_of feed.old)) (S.faults (source_of feed.new)) × HasWriteCause result (O.faults out.old) (O.faults out.new) }
+    ensures causes { HasUntilCause result (S.faults (source_of feed.old)) (S.faults (source_of feed.new))
+        × HasWriteCause result (O.faults out.old) (O.faults out.new) }
     ensures kept { SourceStays S.holds S.missed S.borrow (source_of feed.old) (source_of feed.new) }
 {
     let Intake {

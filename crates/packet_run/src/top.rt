@@ -55,7 +55,8 @@ fn drive_feed<P: Plans + Rows + Drop, S: Source, O: Sink, W: Watch, R: Wait, G>(
     ensures passes { HasPasses intake.now.crew.now pipeline.new }
     ensures home { SharesStay pipeline.old pipeline.new × (vec_len pipeline.new.rooms ≡ ROOMS) }
     ensures drove { Drove P.Structures.tables W.stands result (begun (first_of intake.now.register.now) watch.old (O.written out.old)) (own_moves seat.new)
-        (S.faults (source_of feed.old)) (S.faults (source_of feed.new)) (S.left (source_of feed.old)) (S.left (source_of feed.new)) pipeline.new watch.new (O.written out.new) }
+        (S.faults (source_of feed.old)) (S.faults (source_of feed.new)) (S.left (source_of feed.old)) (S.left
+            (source_of feed.new)) pipeline.new watch.new (O.written out.new) }
     ensures out { HasOutCause result (O.faults out.old) (O.faults out.new) }
     ensures handed { result ≢ Err (RunFault.Print Stop.Out) → O.handed out.new ≡ O.written out.new }
     ensures kept { SourceStays S.holds S.missed S.borrow (source_of feed.old) (source_of feed.new) }
@@ -176,7 +177,8 @@ pub fn run_packets<
     requires board { (is_made_for (first_of register.now) board ≡ true) × (memory_of board ≡ empty_memory) }
     requires fresh { IsFresh stock.old × (rooms_out stock.old ≡ 0) }
     ensures seat { IsSeat 0 register.now seat.new × StartsWith (seen_by seat.new) (seen_by seat.old) }
-    ensures runs { Runs W.stands result (begun (first_of register.now) watch.old (O.written out.old)) (own_moves seat.new) (F.faults feed.old) (F.faults feed.new)
+    ensures runs { Runs W.stands result (begun (first_of register.now) watch.old (O.written out.old)) (own_moves seat.new) (F.faults feed.old)
+        (F.faults feed.new)
         (F.left feed.old) (F.left feed.new) watch.new (O.written out.new) }
     ensures out { HasOutCause result (O.faults out.old) (O.faults out.new) }
     ensures handed { result ≢ Err (RunFault.Print Stop.Out) → O.handed out.new ≡ O.written out.new }

@@ -57,7 +57,8 @@ impl<'a> Walk<'a> {
         raw: i128,
     ) -> Result<Option<Ended>, AllocError>
         requires { AreNested (row.now ∷ rest.now) }
-        ensures step { IfOk result (λ ended. Spec.after_value rows.now row.now (rest.now ++ self.old.todo) raw (with_rows rest.now self.old) ≡ led ended self.new) }
+        ensures step { IfOk result (λ ended. Spec.after_value rows.now row.now (rest.now ++ self.old.todo) raw (with_rows rest.now self.old)
+            ≡ led ended self.new) }
         ensures cursor { self.new.cursor ≡ self.old.cursor }
         ensures values { self.new.values ≡ self.old.values }
     {
@@ -113,7 +114,8 @@ impl<'a> Walk<'a> {
         requires reach { nat_abs self.old.cursor < 2 ^ 120 }
         requires few { length self.old.values ≤ most_values }
         requires all { All (IsOf packet.now) self.old.values }
-        ensures step { IfOk result (λ ended. Spec.try_value rows.now packet.now row.now (rest.now ++ self.old.todo) self.old (parameter.now, shape) ≡ led ended self.new) }
+        ensures step { IfOk result (λ ended. Spec.try_value rows.now packet.now row.now (rest.now ++ self.old.todo) self.old (parameter.now, shape)
+            ≡ led ended self.new) }
         ensures reach { IfOk result (λ _. nat_abs self.new.cursor ≤ nat_abs self.old.cursor + 2 ^ 32) }
         ensures few { IfOk result (λ _. length self.new.values ≤ most_values) }
         ensures all { IfOk result (λ _. All (IsOf packet.now) self.new.values) }

@@ -45,5 +45,6 @@ GivesOrLacksMemory (Err fault) packet into = fault ≡ Memory
 -- where nothing is wrong with what is asked for a call gives the packet, or memory is wanting
 abbrev pub BuildsWhatIsRight : Type 0
 BuildsWhatIsRight =
-    (db : Database) (spid count : ℕ) (items : List Item) (packet : List ℕ) (result : Result ℕ BuildFault) (into : List ℕ) → built db spid count items ≡ Ok packet
+    (db : Database) (spid count : ℕ) (items : List Item) (packet : List ℕ) (result : Result ℕ BuildFault) (into : List ℕ)
+        → built db spid count items ≡ Ok packet
     → Builds result (built db spid count items) into → GivesOrLacksMemory result packet into
