@@ -1,2 +1,2 @@
-pub mod AheadFacts
+pub mod ToWalkFacts
 pub mod WalkFacts

@@ -5,7 +5,7 @@
 //! rests on `row_searches` for the rows and on `bit_field` for the bits of values.
 #![tactic(auto)]
 
-mod ahead;
+mod to_walk;
 mod subject;
 mod walk;
 

@@ -8,7 +8,7 @@ ghost use Rattle.row_interpreter.specs.Readings.{IsOf};
 ghost use Rattle.row_searches.specs.Nesting.{AreNested};
 ghost use Rattle.row_walk.specs.Walks.{led, with_rows};
 
-use crate::ahead::RowsAhead;
+use crate::to_walk::RowsToWalk;
 use crate::subject::{moved_by, times, typed_subject, value_at};
 use mib_model::{Ended, MOST_VALUES, PcfRow, Shape, Value, VpdRow};
 use row_searches::RowSearches;
@@ -18,7 +18,7 @@ use std::marker::Model;
 /// A walk: the rows that are still to walk, the bit that it stands at, the last PIDREF value, and the values so far.
 #[derive(Drop)]
 struct Walk<'a> {
-    todo: RowsAhead<'a>,
+    todo: RowsToWalk<'a>,
     cursor: i128,
     last: i128,
     values: Vec<Value>,
@@ -187,7 +187,7 @@ impl<'a> Walk<'a> {
 fn start(alloc: Global, rows: &RowSearches, tpsd: i128, dfhsize: u8) -> Result<Walk<'_>, AllocError>
     ensures { IfOk result (λ walk. walk ≡ Spec.walk_start rows.now tpsd dfhsize) }
 {
-    let mut todo = RowsAhead::new(alloc);
+    let mut todo = RowsToWalk::new(alloc);
     todo.add(rows.structure(tpsd), 1)?;
     Ok(Walk {
         todo,

@@ -17,29 +17,29 @@ pub(crate) struct Rounds<'a> {
 
 /// The rows that are still to walk, those that come first on top. Contracts see them one after the other.
 #[derive(Drop)]
-pub(crate) struct RowsAhead<'a> {
+pub(crate) struct RowsToWalk<'a> {
     rounds: Vec<Rounds<'a>>,
 }
 
-impl<'a> Model for RowsAhead<'a> {
+impl<'a> Model for RowsToWalk<'a> {
     ghost use Rattle.std.specs.Prelude.{List};
     ghost use Rattle.std.specs.List.{All};
     ghost use Rattle.mib_model.specs.declared.rows.VpdRow.{VpdRow};
-    ghost use Rattle.row_walk.specs.Stacked.{IsRounds, rows_ahead};
+    ghost use Rattle.row_walk.specs.Stacked.{IsRounds, rows_to_walk};
 
     ghost Value = { List VpdRow };
 
-    ghost view = { λ ahead. rows_ahead ahead.rounds.items };
+    ghost view = { λ all. rows_to_walk all.rounds.items };
 
-    ghost invariant = { λ ahead. All IsRounds ahead.rounds.items };
+    ghost invariant = { λ all. All IsRounds all.rounds.items };
 }
 
-impl<'a> RowsAhead<'a> {
+impl<'a> RowsToWalk<'a> {
     /// No rows.
-    pub fn new(alloc: Global) -> RowsAhead<'a>
+    pub fn new(alloc: Global) -> RowsToWalk<'a>
         ensures { result ≡ [] }
     {
-        RowsAhead {
+        RowsToWalk {
             rounds: Vec::new(alloc),
         }
     }
@@ -82,7 +82,7 @@ impl<'a> RowsAhead<'a> {
         self.add(group, times)
     }
 
-    /// The next row, and the rows that stand behind it in its structure, up to the end of its group. They aren't ahead any more.
+    /// The next row, and the rows that stand behind it in its structure, up to the end of its group. They aren't to be walked any more.
     /// An error is want of memory.
     pub fn next(&mut self) -> Result<Option<(VpdRow, &'a [VpdRow])>, AllocError>
         ensures none { result ≡ Ok None → self.old ≡ [] }

@@ -1,7 +1,7 @@
 use Rattle.std.proofs.Common.{◌≡◌, arith, length}
 use Rattle.std.proofs.lemmas.Grind.{common_steps}
-use Rattle.row_walk.proofs.AheadFacts.{no-rounds, no-rows}
-use Rattle.row_walk.proofs.ahead.RowsAhead.add.Goals as goal
+use Rattle.row_walk.proofs.ToWalkFacts.{no-rounds, no-rows}
+use Rattle.row_walk.proofs.to_walk.RowsToWalk.add.Goals as goal
 
 pub returns-then-is_empty : goal.returns-then-is_empty
 returns-then-is_empty c =

@@ -1,8 +1,8 @@
 use Rattle.std.proofs.Common.{◌≡◌, ◌≤◌, ℕ, List, arith, drop, length, subst, sym, take}
 use Rattle.mib_model.specs.declared.rows.VpdRow.{VpdRow}
 use Rattle.row_searches.specs.Nesting.{AreNested}
-use Rattle.row_walk.proofs.AheadFacts.{holds-few, nested-drop, nested-take}
-use Rattle.row_walk.proofs.ahead.RowsAhead.add_group.Goals as goal
+use Rattle.row_walk.proofs.ToWalkFacts.{holds-few, nested-drop, nested-take}
+use Rattle.row_walk.proofs.to_walk.RowsToWalk.add_group.Goals as goal
 
 pub split_at-requires : goal.split_at-requires
 split_at-requires c = let few = holds-few c.args.size c.args.rows.now c.requires.holds in omega (arith, few, c.from.ensures)

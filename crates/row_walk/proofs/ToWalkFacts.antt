@@ -7,8 +7,8 @@ use Rattle.std.specs.List.{All, repeat}
 use Rattle.mib_model.specs.declared.rows.VpdRow.{VpdRow}
 use Rattle.mib_model.specs.Structures.{group_repeated}
 use Rattle.row_searches.specs.Nesting.{AreNested, Holds}
-use Rattle.row_walk.specs.Stacked.{IsRounds, rows_ahead}
-use Rattle.row_walk.specs.declared.ahead.Rounds.{Rounds}
+use Rattle.row_walk.specs.Stacked.{IsRounds, rows_to_walk}
+use Rattle.row_walk.specs.declared.to_walk.Rounds.{Rounds}
 
 -- ---- rows that are walked several times
 
@@ -32,7 +32,7 @@ pub last-rounds : (rounds : List Rounds) (r : Rounds) → All IsRounds (rounds +
 last-rounds rounds r all = subst IsRounds (at-end rounds r) (All-get_or IsRounds (rounds ++ r ∷ []) (length rounds) r (omega (arith, length-append rounds (r ∷ []))) all)
 
 -- rounds on top come first
-pub one-more : (rounds : List Rounds) (r : Rounds) → rows_ahead (rounds ++ r ∷ []) ≡ repeat r.times r.rows.now ++ rows_ahead rounds
+pub one-more : (rounds : List Rounds) (r : Rounds) → rows_to_walk (rounds ++ r ∷ []) ≡ repeat r.times r.rows.now ++ rows_to_walk rounds
 one-more rounds r = fold-append (λ (behind : List VpdRow) (r : Rounds). repeat r.times r.rows.now ++ behind) [] rounds (r ∷ [])
 
 -- rows that are walked once
