@@ -5,8 +5,8 @@
 //! rests on `row_searches` for the rows and on `bit_field` for the bits of values.
 #![tactic(auto)]
 
-mod to_walk;
 mod subject;
+mod to_walk;
 mod walk;
 
 pub use walk::structure_values;
