@@ -47,7 +47,7 @@ asked_of [] = None
 asked_of (spid ∷ []) = None
 asked_of (spid ∷ count ∷ words) =
     option_and_then (λ s. option_and_then (λ c. option_map (λ items. record { spid = s; count = c; items = items }) (items_in words))
-        (count_in count)) (number_in spid)
+    (count_in count)) (number_in spid)
 
 -- what a line asks for that isn't too long, if anything
 unfoldable pub asked_in : List ℕ → Option Asked

@@ -54,7 +54,7 @@ pub fn finish<P: Plans>(
     ensures names { board.new.names ≡ board.old.names }
     ensures step { (asked : List ℕ → Bool) (m : Memory) (c : Course) (s : StampedPacket)
         → AreDemandsOf asked (param_slices (P.tables plans.now)) demands.now → AreAlike asked m (memory_of board.old)
-            → ComesTo c s number packet.now (P.tables plans.now) m
+        → ComesTo c s number packet.now (P.tables plans.now) m
         → HasSteppedFor asked c s (memory_of board.new) out.old out.new }
     ensures room { length out.new + LINE_MOST ≤ LINES_ROOM }
 {

@@ -9,7 +9,10 @@ use std::alloc::{AllocError, Global};
 use std::sync::Arc;
 
 /// Rows of tpcf by SPID. An error is want of memory.
-pub fn titles_of(alloc: Global, rows: &[TpcfRow]) -> Result<Arc<FirstRows<BySpid<TpcfRow>>>, AllocError>
+pub fn titles_of(
+    alloc: Global,
+    rows: &[TpcfRow],
+) -> Result<Arc<FirstRows<BySpid<TpcfRow>>>, AllocError>
     ensures { IfOk result (λ titles. arc_value titles ≡ rows.now) }
 {
     Ok(Arc::new(alloc, FirstRows::with_numbers(alloc, rows)?)?)

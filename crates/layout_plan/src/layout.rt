@@ -52,7 +52,11 @@ fn shape_by(item: Option<&TypeItem>) -> Option<Shape>
 }
 
 // Adds the occurrences of a row, if its parameter has values.
-fn add_row(spans: &mut Vec<Span>, row: &PlfRow, types: &FirstRows<ByName<TypeItem>>) -> Result<(), AllocError>
+fn add_row(
+    spans: &mut Vec<Span>,
+    row: &PlfRow,
+    types: &FirstRows<ByName<TypeItem>>,
+) -> Result<(), AllocError>
     ensures { OnOk result (spans_places spans.new.items ≡ spans_places spans.old.items
         ++ occurrences row.now (option_and_then item_encoding (item_named types.now row.now.name))) }
 {

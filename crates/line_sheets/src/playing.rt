@@ -11,7 +11,7 @@ ghost use Rattle.mib_model.specs.declared.database.Database.{Database};
 ghost use Rattle.record_text.specs.declared.lines.TheConstants.{END_ROOM, LINES_ROOM, LINE_MOST, NOTE_ROOM};
 
 use crate::reading::{Reading, SheetWork};
-use crate::sheet::{SheetEvent, Sheet};
+use crate::sheet::{Sheet, SheetEvent};
 use fold_state::Board;
 use mib_model::Eng;
 use param_plan::Params;

@@ -101,7 +101,11 @@ pub fn finish_job<P: Plans + Drop>(job: &Job<P>, in_use: &mut InUse<P>, lines: &
 }
 
 /// Decodes a packet by the edition in use, and appends its record, without the line of its edition.
-pub fn finish_alone<P: Plans + Drop>(cell: &mut PacketCell, in_use: &mut InUse<P>, lines: &mut Lines)
+pub fn finish_alone<P: Plans + Drop>(
+    cell: &mut PacketCell,
+    in_use: &mut InUse<P>,
+    lines: &mut Lines,
+)
     requires room { length lines.old ≤ TEXT_BEFORE }
     ensures edition { in_use.new.edition ≡ in_use.old.edition }
     ensures handle { in_use.new.handle ≡ in_use.old.handle }

@@ -27,7 +27,7 @@ use crate::pipeline::{keep_room, offer};
 use crate::reading::{StampedCell, read_stamped};
 use crate::until::Until;
 use crate::watch::Watch;
-use decode_session::{PacketCell, Filled, MOST_PACKETS, Unread};
+use decode_session::{Filled, MOST_PACKETS, PacketCell, Unread};
 use edition_plans::Plans;
 use edition_register::{Editions, Start};
 use fold_state::BoardRoom;

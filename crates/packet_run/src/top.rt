@@ -56,7 +56,7 @@ fn drive_feed<P: Plans + Rows + Drop, S: Source, O: Sink, W: Watch, R: Wait, G>(
     ensures home { SharesStay pipeline.old pipeline.new × (vec_len pipeline.new.rooms ≡ ROOMS) }
     ensures drove { Drove P.Structures.tables W.stands result (begun (first_of intake.now.register.now) watch.old (O.written out.old)) (own_moves seat.new)
         (S.faults (source_of feed.old)) (S.faults (source_of feed.new)) (S.left (source_of feed.old)) (S.left
-            (source_of feed.new)) pipeline.new watch.new (O.written out.new) }
+        (source_of feed.new)) pipeline.new watch.new (O.written out.new) }
     ensures out { HasOutCause result (O.faults out.old) (O.faults out.new) }
     ensures handed { result ≢ Err (RunFault.Print Stop.Out) → O.handed out.new ≡ O.written out.new }
     ensures kept { SourceStays S.holds S.missed S.borrow (source_of feed.old) (source_of feed.new) }

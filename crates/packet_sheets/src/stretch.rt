@@ -49,7 +49,7 @@ impl Model for Stretch {
     ghost invariant = { λ stretch. AreEnds 0 stretch.ends.items (length stretch.octets.items)
         × All IsPacket (packets_in stretch.octets.items 0 stretch.ends.items)
         × (length stretch.octets.items ≤ OCTETS_ROOM) × (vec_len stretch.octets ≡ length stretch.octets.items)
-            × (vec_len stretch.ends ≡ length stretch.ends.items)
+        × (vec_len stretch.ends ≡ length stretch.ends.items)
         × (vec_len stretch.ends ≤ PACKETS_MOST) × (OCTETS_ROOM ≤ vec_capacity stretch.octets) × (PACKETS_MOST ≤ vec_capacity stretch.ends)
         × All (λ packet. length packet ≤ PACKET_SIZE) (packets_in stretch.octets.items 0 stretch.ends.items) };
 }

@@ -10,7 +10,12 @@ use mib_model::Name;
 use page_board::{PageWords, lay_cell};
 
 /// Lays the cells of names, each at its place. A name is looked for first where it was found last.
-pub fn lay_cells(sheet: &mut PageWords, names: &[Name], found: &mut [usize; MOST_CELLS], board: &Board)
+pub fn lay_cells(
+    sheet: &mut PageWords,
+    names: &[Name],
+    found: &mut [usize; MOST_CELLS],
+    board: &Board,
+)
     requires { length names.now ≤ 64 }
     ensures cells { cells_in sheet.new ≡ map (cell_of (memory_of board.now)) names.now ++ drop (length names.now) (cells_in sheet.old) }
     ensures number { slice_index sheet.new 0 ≡ slice_index sheet.old 0 }

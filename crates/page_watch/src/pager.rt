@@ -4,7 +4,7 @@ ghost use Rattle.page_board.specs.Sheets.{cells_in};
 
 use display_pages::MOST_CELLS;
 use mib_model::Name;
-use page_board::{Publisher, PageWords};
+use page_board::{PageWords, Publisher};
 
 /// What is told of packets and publishes the pages of its names.
 #[derive(Drop)]

@@ -10,4 +10,4 @@ use Rattle.param_changes.specs.Changed.{has_name}
 abbrev pub Touches : List ℕ → List ParamSlice → List (List ℕ) → Type 0
 Touches touched slices names =
     (name : List ℕ) (at : ℕ) → has_name names name ≡ true → position (λ slice. bytes_eq slice.pcf.name name) slices ≡ Some at
-        → list_any (λ n. nat_eq n (at / BLOCK)) touched ≡ true
+    → list_any (λ n. nat_eq n (at / BLOCK)) touched ≡ true

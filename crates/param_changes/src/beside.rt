@@ -18,7 +18,7 @@ use crate::touch::{is_touched, touched_blocks};
 use mib_model::{Name, PcfRow, Steps};
 use mib_tables::{Book, TableSet};
 use param_plan::{BLOCK, Block, Param, ParamRows, Params};
-use param_set::{MadeParams, ParamSources, ParamPlan, note, params_of, same_rows};
+use param_set::{MadeParams, ParamPlan, ParamSources, note, params_of, same_rows};
 use std::alloc::{AllocError, Global};
 use std::sync::Arc;
 use std::sync::ledger::Ledger;

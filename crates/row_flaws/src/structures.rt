@@ -160,7 +160,10 @@ fn put_spot(
 }
 
 /// The rows of each structure by POS, those of one POS in the order of the file.
-pub fn structures(alloc: Global, rows: &[VpdRow]) -> Result<HashMap<u32, StructureSpots>, AllocError>
+pub fn structures(
+    alloc: Global,
+    rows: &[VpdRow],
+) -> Result<HashMap<u32, StructureSpots>, AllocError>
     ensures { IfOk result (λ structures. (q : ℕ) → spots_at structures q ≡ sorted_by by_pos (filter (is_in q) (map spot_of rows.now))) }
 {
     let spots = sorted_spots(alloc, rows)?;

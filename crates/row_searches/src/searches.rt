@@ -16,13 +16,13 @@ ghost use Rattle.row_interpreter.specs.Readings.{IsOf};
 ghost use Rattle.row_searches.specs.Nesting.{AreNested};
 
 use mib_model::{
-    CurRow, Ended, Found, Header, MOST_VALUES, Name, OcfRow, OcpRow, PcfRow, PlfRow, Text, Value, VpdRow,
+    CurRow, Ended, Found, Header, MOST_VALUES, Name, OcfRow, OcpRow, PcfRow, PlfRow, Text, Value,
+    VpdRow,
 };
 use mib_tables::Book;
 use row_groups::RowGroups;
 use row_interpreter::{
-    CheckRows, CalibrationRows, OrderedRows, PacketRows, ParameterRows,
-    read_places,
+    CalibrationRows, CheckRows, OrderedRows, PacketRows, ParameterRows, read_places,
 };
 use row_keys::{BySpid, ByTpsd};
 use std::alloc::{AllocError, Global};

@@ -8,8 +8,8 @@ ghost use Rattle.row_interpreter.specs.Readings.{IsOf};
 ghost use Rattle.row_searches.specs.Nesting.{AreNested};
 ghost use Rattle.row_walk.specs.Walks.{led, with_rows};
 
-use crate::to_walk::RowsToWalk;
 use crate::subject::{moved_by, times, typed_subject, value_at};
+use crate::to_walk::RowsToWalk;
 use mib_model::{Ended, MOST_VALUES, PcfRow, Shape, Value, VpdRow};
 use row_searches::RowSearches;
 use std::alloc::{AllocError, Global};

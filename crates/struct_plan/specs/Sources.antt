@@ -84,10 +84,10 @@ walked_by db source (suc steps) w = on_move (λ on. walked_by db source steps on
 abbrev pub PacketIsSource : Type 0
 PacketIsSource =
     (db : Database) (packet : List ℕ) (steps : ℕ) (w : Walking)
-        → walked_by db (of_packet packet) steps w ≡ option_map (λ e. (e.0, Ended e.1)) (walked db packet steps w)
+    → walked_by db (of_packet packet) steps w ≡ option_map (λ e. (e.0, Ended e.1)) (walked db packet steps w)
 
 -- each walk over a sound database ends within the limit
 abbrev pub WalksEnd : Type 0
 WalksEnd =
     (db : Database) → IsSound db → (source : Source) (tpsd : ℤ) (dfhsize : ℕ)
-        → (e : Walked) × (walked_by db source (walk_limit db) (walk_start db tpsd dfhsize) ≡ Some e)
+    → (e : Walked) × (walked_by db source (walk_limit db) (walk_start db tpsd dfhsize) ≡ Some e)

@@ -80,7 +80,7 @@ fn give<S: Structures, N: Numbers>(
     ensures given { (end : Walked) (row : VpdRow) (rest : List VpdRow) (t : Option Typed) →
         Spec.field_at (S.tables all.now) course.old.last subject ≡ option_map field_of t →
         Moves (S.tables all.now) (N.source numbers.now) end (on_subject_by (S.tables all.now) (N.source numbers.now) row rest (walking
-            (row ∷ rest) course.old (taken values.old)) t) →
+        (row ∷ rest) course.old (taken values.old)) t) →
         Given (S.tables all.now) (N.source numbers.now) end row rest course.new (taken values.new) result }
     ensures groups { OnOk result (kept values.new stack.new ≡ take (most_values - values.new.used) (kept values.old stack.old)) }
     ensures within { OnOk result (IsWithin values.new stack.new) }

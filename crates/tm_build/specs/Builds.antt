@@ -46,5 +46,5 @@ GivesOrLacksMemory (Err fault) packet into = fault ≡ Memory
 abbrev pub BuildsWhatIsRight : Type 0
 BuildsWhatIsRight =
     (db : Database) (spid count : ℕ) (items : List Item) (packet : List ℕ) (result : Result ℕ BuildFault) (into : List ℕ)
-        → built db spid count items ≡ Ok packet
+    → built db spid count items ≡ Ok packet
     → Builds result (built db spid count items) into → GivesOrLacksMemory result packet into
