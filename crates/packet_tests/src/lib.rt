@@ -10,8 +10,6 @@ mod fields;
 #[cfg(test)]
 mod records;
 #[cfg(test)]
-mod shared_layouts;
-#[cfg(test)]
 mod shared_parameters;
 #[cfg(test)]
-mod shared_structures;
+mod shared_sets;
