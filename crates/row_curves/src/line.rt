@@ -39,7 +39,7 @@ fn product(a: i128, b: i128) -> Option<i128>
 }
 
 // How far a raw number is from an x, times a rise, where that is below the bound of steps.
-#[tactic(auto, using(dec_num::proofs::ScalingFacts::far_products))]
+#[tactic(auto, using(dec_num::proofs::ScalingFacts::wide_products))]
 fn climb(rise: i128, x: i128, raw: i128) -> Option<i128>
     ensures value { result ≡ narrow ((raw -ℤ x) *ℤ rise) }
     ensures within { IfSome result (λ z. nat_abs z < STEP_BOUND) }
