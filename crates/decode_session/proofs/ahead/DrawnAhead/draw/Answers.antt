@@ -1,7 +1,7 @@
 use Rattle.std.proofs.Common.{◌≡◌, length, ap, sym, subst, arith}
 use Rattle.decode_session.specs.Ahead.{Come, packets_from, packets_of}
 use Rattle.decode_session.proofs.AheadFacts.{came_back, come-hand, dealt-first}
-use Rattle.decode_session.proofs.ahead.Ahead.draw.Goals as goal
+use Rattle.decode_session.proofs.ahead.DrawnAhead.draw.Goals as goal
 use Rattle.packet_feed.specs.Feed.{source_of}
 
 pub returns-clause-come : goal.returns-clause-come

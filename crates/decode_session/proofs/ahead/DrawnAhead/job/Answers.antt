@@ -1,6 +1,6 @@
 use Rattle.std.proofs.Common.{◌<◌, length, arith}
 use Rattle.decode_session.proofs.AheadFacts.{found-come, found-job}
-use Rattle.decode_session.proofs.ahead.Ahead.job.Goals as goal
+use Rattle.decode_session.proofs.ahead.DrawnAhead.job.Goals as goal
 
 pub returns-then-job-gt0-clause-job : goal.returns-then-job-gt0-clause-job
 returns-then-job-gt0-clause-job c = λ db dealt.

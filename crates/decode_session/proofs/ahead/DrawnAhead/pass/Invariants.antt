@@ -1,5 +1,5 @@
 use Rattle.std.proofs.Common.{◌≡◌, ◌-◌, vec_len}
-use Rattle.decode_session.proofs.ahead.Ahead.pass.Given as goal
+use Rattle.decode_session.proofs.ahead.DrawnAhead.pass.Given as goal
 
 abbrev pub invariant-loop-self : goal.invariant-loop-self
 invariant-loop-self l = l.self.jobs ≡ l.initial.self.jobs
