@@ -1,4 +1,4 @@
-// Writing the engineering values of a packet takes GAIN-line_text-count: one whose count fits 64 bits is written by its digits, without arithmetic of 128 bits.
+// A value on a line takes 401 instead of 558 instructions: one whose count fits 64 bits is written by its digits, without arithmetic of 128 bits.
 ghost use Rattle.std.specs.Prelude.{◌≡◌, ◌≤◌, ◌<◌, ◌+◌, ◌-◌, ◌*◌, ◌^◌, ◌++◌, ◌&&◌, length, take, pos, nat_abs, nat_le, int_lt, IfSome, OnSome};
 ghost use Rattle.mib_model.specs.Counts.{count_text};
 ghost use Rattle.line_text.specs.DigitTexts.{behind_text, minus_text, digits_text};

