@@ -6,5 +6,5 @@ pub mod Cells
 pub mod Batches
 pub mod Finishing
 pub mod Turns
-pub mod DrawnAhead
+pub mod Ahead
 pub mod Stocks

@@ -1,4 +1,4 @@
-pub mod NumberedPlan
+pub mod Numbered
 pub mod Layouts
 pub mod Kept
 pub mod Structures
