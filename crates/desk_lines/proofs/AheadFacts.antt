@@ -10,7 +10,7 @@ use Rattle.std.specs.List.{slice_split, last_or}
 use Rattle.std.specs.Io.KnownBytes.{Consumes, IsAtEnd}
 use Rattle.mib_model.specs.Lines.{is_feed}
 use Rattle.run_model.specs.Script.{most_script, most_lines, whole_pieces, last_piece, script, reaches_limit}
-use Rattle.desk_lines.specs.Ahead.{Reading, reading_start, is_filled, lines_behind, still, meets_limit, HasNoFeed}
+use Rattle.desk_lines.specs.ToCome.{Reading, reading_start, is_filled, lines_behind, still, meets_limit, HasNoFeed}
 use Rattle.desk_lines.specs.Gives.{TakesLine, NoneComes}
 
 -- ---- pieces

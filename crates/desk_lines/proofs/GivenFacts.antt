@@ -6,7 +6,7 @@ use Rattle.std.proofs.lemmas.List.{length-take-le, nil_from_length}
 use Rattle.std.proofs.lemmas.List.Elements.{All-head, All-tail}
 use Rattle.std.proofs.lemmas.List.Splits.{length-slice_split}
 use Rattle.std.proofs.lemmas.List.Sums.{sum_by-append, sum_by-cons}
-use Rattle.desk_lines.specs.Ahead.{HasNoFeed, Reading, still}
+use Rattle.desk_lines.specs.ToCome.{HasNoFeed, Reading, still}
 use Rattle.desk_lines.specs.Given.{IsUpTo, lines_given}
 use Rattle.desk_lines.specs.Gives.{IsTakenFor, TakesLine}
 use Rattle.desk_lines.proofs.AheadFacts.{still-end}

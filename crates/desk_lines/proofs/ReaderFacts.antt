@@ -12,8 +12,8 @@ use Rattle.desk_lines.specs.declared.next_line.NextLine.{NextLine}
 use Rattle.desk_lines.specs.declared.next_line.NextLine.TheVariants as next_line
 use Rattle.desk_lines.specs.declared.piece.ScriptPiece.{ScriptPiece}
 use Rattle.desk_lines.specs.declared.piece.PieceEnd.TheVariants as end
-use Rattle.desk_lines.specs.Ahead.{Reading}
-use Rattle.desk_lines.specs.Gives.{Gives, HasNextCause, TakesLine, line_of}
+use Rattle.desk_lines.specs.ToCome.{Reading}
+use Rattle.desk_lines.specs.Gives.{Gives, HasLimit, HasNextCause, TakesLine, line_of}
 use Rattle.desk_lines.specs.Pieces.{TakesPiece, Ends}
 use Rattle.desk_lines.proofs.AheadFacts.{line-feed, line-last, none-end, none-lines, none-octets}
 
@@ -37,6 +37,13 @@ pub cause-line : (n before now : ℕ) → now ≡ before → HasNextCause (line_
 cause-line n before now same = elim (cases_Bool (nat_le 4097 n)) [
   | inl long ↦ rw long same
   | inr not ↦ rw not same
+]
+
+-- a line is no limit
+pub limited-line : (n : ℕ) (answer : NextLine) (now : Reading) → answer ≡ line_of n → HasLimit answer now
+limited-line n answer now told = elim (cases_Bool (nat_le 4097 n)) [
+  | inl long ↦ rw (told, long) tt
+  | inr not ↦ rw (told, not) tt
 ]
 
 -- a piece ended with an LF
@@ -87,6 +94,14 @@ gives-room lines taken further piece old new buffer fits t is sum =
       record { part = t.part; no_feed = t.no_feed; consumed = ends.1; counted = refl },
       none-octets lines taken old new t.part t.no_feed (omega (arith, fits, ends.0)) ends.1,
     )
+
+-- so all are read
+pub limited-room : (taken further : ℕ) (piece : ScriptPiece) (old new : Option (List ℕ)) (buffer : List ℕ)
+    → taken ≤ most_script → TakesPiece piece (most_script - taken) old new buffer → piece.end ≡ end.Room → further ≡ taken + piece.octets
+    → further ≡ most_script
+limited-room taken further piece old new buffer fits t is sum =
+    let ends : Ends end.Room t.part (most_script - taken) old new = subst (λ e. Ends e t.part (most_script - taken) old new) is t.ends in
+    omega (arith, sum, t.count, ends.0, fits)
 
 -- as many lines were taken as are taken of a script
 pub gives-limit : (lines taken : ℕ) (old : Option (List ℕ)) (buffer : List ℕ) → lines ≡ most_lines

@@ -1,10 +1,10 @@
 -- What a reader gives of a script: its lines, and then its end or its limit. [This profile.]
-use Rattle.std.specs.Prelude.{◌≡◌, ◌⊎◌, ℕ, ◌+◌, ◌<◌, ◌≤◌, Bool, true, false, List, [], ◌∷◌, ◌++◌, length, take, Option, IfSome, nat_le, if◌then◌else◌}
+use Rattle.std.specs.Prelude.{◌≡◌, ◌⊎◌, ℕ, ◌+◌, ◌<◌, ◌≤◌, Bool, true, false, List, [], ◌∷◌, ◌++◌, length, take, Option, IfSome, nat_le, ⊤, if◌then◌else◌}
 use Rattle.std.specs.Io.KnownBytes.{Consumes, IsAtEnd}
 use Rattle.tm_io.specs.Causes.{Rose}
 use Rattle.desk_lines.specs.declared.next_line.NextLine.{NextLine}
 use Rattle.desk_lines.specs.declared.next_line.NextLine.TheVariants as next_line
-use Rattle.desk_lines.specs.Ahead.{Reading, still, meets_limit, HasNoFeed}
+use Rattle.desk_lines.specs.ToCome.{Reading, IsAtLimit, still, meets_limit, HasNoFeed}
 
 -- the answer for a line of so many octets
 abbrev pub line_of : ℕ → NextLine
@@ -45,6 +45,14 @@ Gives next_line.TooLong was now old new buffer = (line : List ℕ) × (4096 < le
 Gives next_line.End was now old new buffer = Consumes old new [] × IsAtEnd new × (now ≡ was) × IfSome old (NoneComes false was)
 Gives next_line.Limit was now old new buffer = TakesPart was now old new × IfSome old (NoneComes true was)
 Gives next_line.Failed was now old new buffer = TakesPart was now old new
+
+-- the answer is the limit only where as much was read as is taken
+abbrev pub HasLimit : NextLine → Reading → Type 0
+HasLimit next_line.Limit now = IsAtLimit now
+HasLimit next_line.Failed now = ⊤
+HasLimit (next_line.Line count) now = ⊤
+HasLimit next_line.TooLong now = ⊤
+HasLimit next_line.End now = ⊤
 
 -- the count of faults rose where the answer is a failure, and stays as it was where it is another
 abbrev pub HasNextCause : NextLine → ℕ → ℕ → Type 0

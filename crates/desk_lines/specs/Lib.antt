@@ -1,4 +1,4 @@
-pub mod Ahead
+pub mod ToCome
 pub mod Pieces
 pub mod Reader
 pub mod Gives

@@ -5,7 +5,7 @@ use Rattle.tm_io.specs.Causes.{Rose}
 use Rattle.desk_lines.specs.declared.piece.ScriptPiece.{ScriptPiece}
 use Rattle.desk_lines.specs.declared.piece.PieceEnd.{PieceEnd}
 use Rattle.desk_lines.specs.declared.piece.PieceEnd.TheVariants as end
-use Rattle.desk_lines.specs.Ahead.{HasNoFeed}
+use Rattle.desk_lines.specs.ToCome.{HasNoFeed}
 
 -- the next octet was taken, or none is left; where the source fails, none was taken
 abbrev pub TakesOctet : {F : Type 0} → Result (Option ℕ) F → Option (List ℕ) → Option (List ℕ) → Type 0

@@ -1,7 +1,7 @@
 -- What contracts see of a reader. [This profile.]
 use Rattle.desk_lines.specs.declared.reader.DeskReader.{DeskReader}
 use Rattle.desk_lines.specs.declared.reader.Bookmark.{Bookmark}
-use Rattle.desk_lines.specs.Ahead.{Reading}
+use Rattle.desk_lines.specs.ToCome.{Reading}
 
 -- the source of a reader
 abbrev pub source_of : {S : Type 0} → DeskReader S → S

@@ -1,7 +1,7 @@
 ghost use Rattle.std.specs.Prelude.{◌≡◌, ◌<◌, ℕ, Bool, List, length, take};
 ghost use Rattle.run_model.specs.DeskLines.{request_of};
 ghost use Rattle.run_model.specs.Script.{script, reaches_limit};
-ghost use Rattle.desk_lines.specs.Ahead.{meets_limit, reading_start, still};
+ghost use Rattle.desk_lines.specs.ToCome.{meets_limit, reading_start, still};
 
 /// At the start all lines of the script are still to come.
 pub fn still_at_start()

@@ -23,7 +23,7 @@ pub struct Bookmark {
 
 impl Bookmark {
     ghost use Rattle.desk_lines.specs.Reader.{read_to};
-    ghost use Rattle.desk_lines.specs.Ahead.{reading_start};
+    ghost use Rattle.desk_lines.specs.ToCome.{reading_start};
 
     /// Where a script begins.
     pub fn start() -> Bookmark
@@ -58,7 +58,7 @@ fn line_of(octets: u32) -> NextLine
 
 impl<S> DeskReader<S> {
     ghost use Rattle.desk_lines.specs.Reader.{read_to, reading_of, source_of};
-    ghost use Rattle.desk_lines.specs.Ahead.{reading_start};
+    ghost use Rattle.desk_lines.specs.ToCome.{reading_start};
 
     /// The lines of the script that this source has from where it stands.
     pub fn new(source: S) -> DeskReader<S>
@@ -93,7 +93,7 @@ impl<S> DeskReader<S> {
 
 impl<S: Source> DeskReader<S> {
     ghost use Rattle.desk_lines.specs.Reader.{reading_of, source_of};
-    ghost use Rattle.desk_lines.specs.Gives.{Gives, HasNextCause};
+    ghost use Rattle.desk_lines.specs.Gives.{Gives, HasLimit, HasNextCause};
     ghost use Rattle.desk_lines.specs.declared.reader.TheConstants.{LINE_ROOM};
     ghost use Rattle.run_model.specs.Script.{most_lines};
 
@@ -102,6 +102,7 @@ impl<S: Source> DeskReader<S> {
     pub fn next(&mut self, into: &mut [u8]) -> NextLine
         requires { length into.old ≡ LINE_ROOM }
         ensures gives { Gives result (reading_of self.old) (reading_of self.new) (S.left (source_of self.old)) (S.left (source_of self.new)) into.new }
+        ensures limited { HasLimit result (reading_of self.new) }
         ensures unread { (reading_of self.old).lines ≡ most_lines → self.new ≡ self.old }
         ensures cause { HasNextCause result (S.faults (source_of self.old)) (S.faults (source_of self.new)) }
         ensures holds { S.holds (source_of self.new) ≡ S.holds (source_of self.old) }

@@ -1,5 +1,5 @@
 -- A desk's whole script: the lines up to the first `go`, and then the others.
-use Rattle.std.proofs.Common.{◌≡◌, ℕ, ◌==◌, Bool, true, false, List, [], ◌++◌, length, drop, Option, Some, None, refl, sym, ap, ◌∙◌, subst, append_assoc, append-nil, length-append, arith, inl, inr}
+use Rattle.std.proofs.Common.{◌≡◌, ◌⊎◌, ℕ, ◌+◌, ◌==◌, ◌≤◌, Bool, true, false, List, [], ◌++◌, length, drop, Option, Some, None, refl, sym, ap, ◌∙◌, subst, append_assoc, append-nil, length-append, arith, inl, inr}
 use Rattle.std.specs.Prelude.{IfSome}
 use Rattle.std.specs.Io.KnownBytes.{Appends, Consumes}
 use Rattle.std.proofs.KnownBytes.{Appends-trans, Consumes-trans}
@@ -7,7 +7,7 @@ use Rattle.std.proofs.lemmas.List.Elements.{filter-append}
 use Rattle.std.proofs.Math.Seq.{drop-append_seam, drop-length}
 use Rattle.decode_session.proofs.FinishFacts.{part-behind}
 use Rattle.desk.specs.Handling.{moves_at}
-use Rattle.desk_lines.specs.Ahead.{Reading, reading_start, still, meets_limit}
+use Rattle.desk_lines.specs.ToCome.{Reading, IsAtLimit, reading_start, still, meets_limit}
 use Rattle.desk_lines.proofs.AheadFacts.{still-start, limit-start}
 use Rattle.desk_lines.proofs.GivenFacts.{given-append, upto-both}
 use Rattle.histories.specs.History.{StartsWith, moves_of}
@@ -23,7 +23,7 @@ use Rattle.run_model.specs.Desk.{DeskReply, desk_start}
 use Rattle.run_model.specs.DeskRuns.{Calls, IsDesk, prelude}
 use Rattle.run_model.specs.RegisterHistories.{RegisterHistory}
 use Rattle.run_model.specs.Replies.{desk_text}
-use Rattle.run_model.specs.Script.{script, reaches_limit}
+use Rattle.run_model.specs.Script.{most_lines, most_script, script, reaches_limit}
 
 -- what goes on from a history goes on from its front
 pub starts-more : (initial old new : RegisterHistory) → StartsWith old initial → StartsWith new old → StartsWith new initial
@@ -63,6 +63,17 @@ module _ (was : Reading) (unread : was ≡ reading_start) where
   limit-of-start : (octets : List ℕ) → meets_limit was octets ≡ reaches_limit octets
   limit-of-start octets = ap (λ r. meets_limit r octets) unread ∙ limit-start octets
 
+  -- as many lines and octets were read as there are
+  all-lines : (now : Reading) (lines : ℕ) → now.lines ≡ was.lines + lines → now.lines ≡ lines
+  all-lines now lines is = let none = ap (λ r. r.lines) unread in omega (arith, is, none)
+
+  all-octets : (now : Reading) (octets : ℕ) → now.octets ≡ was.octets + octets → now.octets ≡ octets
+  all-octets now octets is = let none = ap (λ r. r.octets) unread in omega (arith, is, none)
+
+  limit-by : (now : Reading) (lines octets : ℕ) → now.lines ≡ was.lines + lines → now.octets ≡ was.octets + octets → IsAtLimit now → (lines ≡ most_lines) ⊎ (octets ≡ most_script)
+  limit-by now lines octets many long (inl all) = inl (sym (all-lines now lines many) ∙ all)
+  limit-by now lines octets many long (inr all) = inr (sym (all-octets now octets long) ∙ all)
+
   script-both : (mid : Reading) (left place : Known) (given : List ℕ) (first more others : List (List ℕ)) → Consumes left place given → IfSome left (λ l. IfSome place (λ b. still was l ≡ first ++ still mid b)) → IfSome place (λ l. still mid l ≡ more ++ others)
       → IfSome left (λ octets. script octets ≡ (first ++ more) ++ others)
   script-both mid None place given first more others taken ahead rest = tt
@@ -94,6 +105,8 @@ module _ (number : Option ℕ) (e : DeskEnd) (first : Database) (all front seen 
       let s1 = middle.held.state in let s2 = after.held.state in
       let w0 = before.held.written in let w1 = middle.held.written in let w2 = after.held.written in
       let early : middle.held.own ≡ moves_at (seat_of number) w.calls = w.own ∙ ap (λ l. l ++ moves_at (seat_of number) w.calls) unused in
+      let lines : after.read.lines ≡ before.read.lines + length (w.handled ++ r.handled) = omega (arith, w.lines, r.lines, length-append w.handled r.handled) in
+      let octets : after.read.octets ≡ before.read.octets + length (w.given ++ r.given) = omega (arith, w.octets, r.octets, length-append w.given r.given) in
       let front_is : prelude (is_several number) (w.handled ++ r.handled) ≡ w.handled = p.is_prelude r.handled in (
         (
           w.calls ++ r.calls,
@@ -106,6 +119,9 @@ module _ (number : Option ℕ) (e : DeskEnd) (first : Database) (all front seen 
             of_script = script-both before.read unread middle.read before.left middle.left w.given w.handled r.handled r.others w.consumed w.ahead r.parted;
             all = r.all;
             whole = omega (arith, given-append w.given r.given, w.whole, r.whole, length-append w.handled r.handled);
+            few = subst (λ n. n ≤ most_lines) (all-lines before.read unread after.read (length (w.handled ++ r.handled)) lines) r.within.0;
+            short = subst (λ n. n ≤ most_script) (all-octets before.read unread after.read (length (w.given ++ r.given)) octets) r.within.1;
+            limited = λ is. limit-by before.read unread after.read (length (w.handled ++ r.handled)) (length (w.given ++ r.given)) lines octets (r.limited is);
             no_more = upto-both middle.read before.left middle.left after.left w.given r.given w.handled r.handled r.others w.consumed r.consumed r.parted w.upto r.no_more;
             early = w.calls;
             late = r.calls;
@@ -150,6 +166,9 @@ module _ (number : Option ℕ) (e : DeskEnd) (first : Database) (all front seen 
             of_script = script-one before.read unread before.left r.handled r.others r.parted;
             all = r.all;
             whole = r.whole;
+            few = subst (λ n. n ≤ most_lines) (all-lines before.read unread after.read (length r.handled) r.lines) r.within.0;
+            short = subst (λ n. n ≤ most_script) (all-octets before.read unread after.read (length r.given) r.octets) r.within.1;
+            limited = λ is. limit-by before.read unread after.read (length r.handled) (length r.given) r.lines r.octets (r.limited is);
             no_more = r.no_more;
             early = r.calls;
             late = [];

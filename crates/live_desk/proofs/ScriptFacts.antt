@@ -8,7 +8,7 @@ use Rattle.std.proofs.lemmas.Bool.{false≢true}
 use Rattle.std.proofs.lemmas.List.Elements.{All-nil}
 use Rattle.tm_io.specs.Octets.{AppendsPrefix, WritesUnless}
 use Rattle.decode_session.proofs.FinishFacts.{part-longer, part-behind}
-use Rattle.desk_lines.specs.Ahead.{Reading, still, meets_limit}
+use Rattle.desk_lines.specs.ToCome.{Reading, IsWithin, still, meets_limit}
 use Rattle.desk_lines.specs.Given.{lines_given}
 use Rattle.desk_lines.specs.Gives.{TakesPart, NoneComes}
 use Rattle.desk_lines.proofs.AheadFacts.{ahead-more, ahead-none, limit-more, limit-none}
@@ -42,6 +42,8 @@ works-start number s = (
     given = [];
     consumed = Consumes-nil s.left;
     whole = let none = given-none [] (All-nil (λ octet. is_feed octet ≡ false)) in omega (arith, none);
+    lines = omega arith;
+    octets = omega arith;
     upto = upto-none s.left;
     ahead = ahead-none s.read s.left;
     limit = limit-none s.read s.left;
@@ -53,6 +55,9 @@ works-start number s = (
 -- the text of the reply to a line
 abbrev reply_of : Option ℕ → Option DeskReply → List ℕ
 reply_of number given = desk_text number (option_to_list given)
+
+pub line-counted : (number : Option ℕ) (failed go : Bool) (before after : Standing) → HandlesNext number failed go before after → after.read.lines ≡ before.read.lines + 1
+line-counted number failed go before after h = ap (λ r. r.lines) h.takes.counted
 
 module _ (number : Option ℕ) (failed go : Bool) (before middle after : Standing) (text : List ℕ) (w : Works number text before middle) (h : HandlesNext number failed go middle after) where
   works-more : (m : Works number (text ++ reply_of number h.replied.given) before after) × (m.handled ≡ w.handled ++ h.line ∷ [])
@@ -70,6 +75,8 @@ module _ (number : Option ℕ) (failed go : Bool) (before middle after : Standin
           given = w.given ++ h.takes.taken;
           consumed = Consumes-trans before.left middle.left after.left w.given h.takes.taken w.consumed h.takes.consumed;
           whole = omega (arith, given-append w.given h.takes.taken, w.whole, given-line h.line h.takes.taken after.left h.takes.no_feed h.takes.is_taken, length-append w.handled (h.line ∷ []));
+          lines = let n = line-counted number failed go middle after h in omega (arith, n, w.lines, length-append w.handled (h.line ∷ []));
+          octets = let n = ap (λ r. r.octets) h.takes.counted in omega (arith, n, w.octets, length-append w.given h.takes.taken);
           upto = upto-more middle.read after.read before.left middle.left after.left w.given h.line w.handled w.consumed h.takes w.upto;
           ahead = ahead-more before.read middle.read after.read before.left middle.left after.left w.given w.handled h.line w.consumed w.ahead h.takes.first;
           limit = limit-more before.read middle.read after.read before.left middle.left after.left w.given w.consumed w.limit h.takes.limit;
@@ -80,6 +87,25 @@ module _ (number : Option ℕ) (failed go : Bool) (before middle after : Standin
       )
 
 -- ---- a script that ended
+
+-- the end by the limit is no other
+is_limit : DeskEnd → Bool
+is_limit end.Limit = true
+is_limit end.Done = false
+is_limit end.DeskFault = false
+is_limit end.ReplyFault = false
+
+done-unlimited : end.Done ≡ end.Limit → ⊥
+unfolding is_limit
+done-unlimited is = false≢true (ap is_limit is)
+
+fault-unlimited : end.DeskFault ≡ end.Limit → ⊥
+unfolding is_limit
+fault-unlimited is = false≢true (ap is_limit is)
+
+reply-unlimited : end.ReplyFault ≡ end.Limit → ⊥
+unfolding is_limit
+reply-unlimited is = false≢true (ap is_limit is)
 
 -- there is one reply at most
 one-reply : (given : Option DeskReply) → length (option_to_list given) ≤ 1
@@ -134,7 +160,7 @@ tail-known : (number : Option ℕ) (e : DeskEnd) (was : Reading) (left : Known) 
 tail-known number e was None limit met = tt
 tail-known number e was (Some l) limit met = ap (tail_at number e) (sym met)
 
-module _ (number : Option ℕ) (before middle after : Standing) (text : List ℕ) (w : Works number text before middle) (printed : Appends before.held.written middle.held.written text) where
+module _ (number : Option ℕ) (before middle after : Standing) (text : List ℕ) (w : Works number text before middle) (printed : Appends before.held.written middle.held.written text) (within : IsWithin after.read) where
   -- what was written at each of the three
   abbrev w0 : Known
   w0 = before.held.written
@@ -164,10 +190,16 @@ module _ (number : Option ℕ) (before middle after : Standing) (text : List ℕ
   whole-part : (p : TakesPart middle.read after.read middle.left after.left) → lines_given (w.given ++ p.part) ≤ length w.handled
   whole-part p = omega (arith, given-append w.given p.part, given-none p.part p.no_feed, w.whole)
 
+  lines-part : (p : TakesPart middle.read after.read middle.left after.left) → after.read.lines ≡ before.read.lines + length w.handled
+  lines-part p = ap (λ r. r.lines) p.counted ∙ w.lines
+
+  octets-part : (p : TakesPart middle.read after.read middle.left after.left) → after.read.octets ≡ before.read.octets + length (w.given ++ p.part)
+  octets-part p = let n = ap (λ r. r.octets) p.counted in omega (arith, n, w.octets, length-append w.given p.part)
+
   -- none is to come
-  stops : (e : DeskEnd) (failed limit : Bool) (tail : List ℕ) → IsHandled e [] → IsTail number e (tail_at number e limit) → (s : Stops failed limit tail middle after) → WritesUnless (is_reply_fault e) w0 w2 (desk_text number w.replies ++ tail_at number e limit)
+  stops : (e : DeskEnd) (failed limit : Bool) (tail : List ℕ) → IsHandled e [] → IsTail number e (tail_at number e limit) → (e ≡ end.Limit → limit ≡ true) → (s : Stops failed limit tail middle after) → WritesUnless (is_reply_fault e) w0 w2 (desk_text number w.replies ++ tail_at number e limit)
       → (is_reply_fault e ≡ true → FailsAt number w.replies [] (tail_at number e limit) w0 w2) → Ended-as e w.handled
-  stops e failed limit tail all by s told fails = (
+  stops e failed limit tail all by met s told fails = (
     record {
       handled = w.handled;
       others = [];
@@ -178,6 +210,10 @@ module _ (number : Option ℕ) (before middle after : Standing) (text : List ℕ
       given = w.given ++ s.takes.part;
       consumed = taken-part s.takes;
       whole = whole-part s.takes;
+      lines = lines-part s.takes;
+      octets = octets-part s.takes;
+      within = within;
+      limited = λ is. s.limited (met is);
       no_more = upto-part before.left middle.left after.left w.given s.takes.part w.handled w.consumed s.takes.consumed w.upto;
       parted = parted-none before.read middle.read before.left middle.left w.given w.handled limit w.consumed w.ahead s.none;
       all = all;
@@ -191,13 +227,13 @@ module _ (number : Option ℕ) (before middle after : Standing) (text : List ℕ
   )
 
   ends-done : Stops false false [] middle after → Ended-as end.Done w.handled
-  ends-done s = stops end.Done false false [] refl refl s (Appends-trans w0 w1 w2 (desk_text number w.replies) [] wrote s.told) (λ is. absurd (false≢true is))
+  ends-done s = stops end.Done false false [] refl refl (λ is. absurd (done-unlimited is)) s (Appends-trans w0 w1 w2 (desk_text number w.replies) [] wrote s.told) (λ is. absurd (false≢true is))
 
   ends-limit : Stops false true (limit_line_at number) middle after → Ended-as end.Limit w.handled
-  ends-limit s = stops end.Limit false true (limit_line_at number) refl refl s (Appends-trans w0 w1 w2 (desk_text number w.replies) (limit_line_at number) wrote s.told) (λ is. absurd (false≢true is))
+  ends-limit s = stops end.Limit false true (limit_line_at number) refl refl (λ is. refl) s (Appends-trans w0 w1 w2 (desk_text number w.replies) (limit_line_at number) wrote s.told) (λ is. absurd (false≢true is))
 
   ends-unlimited : Stops true true (limit_line_at number) middle after → Ended-as end.ReplyFault w.handled
-  ends-unlimited s = stops end.ReplyFault true true (limit_line_at number) tt (inr refl) s (part-behind (desk_text number w.replies) (limit_line_at number) w0 w1 w2 wrote s.told)
+  ends-unlimited s = stops end.ReplyFault true true (limit_line_at number) tt (inr refl) (λ is. refl) s (part-behind (desk_text number w.replies) (limit_line_at number) w0 w1 w2 wrote s.told)
       (λ is. (w.replies, [], w1, wrote, inr (refl, refl, refl, s.told)))
 
   -- the desk failed
@@ -213,6 +249,10 @@ module _ (number : Option ℕ) (before middle after : Standing) (text : List ℕ
       given = w.given ++ f.takes.part;
       consumed = taken-part f.takes;
       whole = whole-part f.takes;
+      lines = lines-part f.takes;
+      octets = octets-part f.takes;
+      within = within;
+      limited = λ is. absurd (fault-unlimited is);
       no_more = upto-part before.left middle.left after.left w.given f.takes.part w.handled w.consumed f.takes.consumed w.upto;
       parted = parted-ahead before.read middle.read before.left middle.left w.given w.handled w.consumed w.ahead;
       all = tt;
@@ -243,6 +283,10 @@ module _ (number : Option ℕ) (before middle after : Standing) (text : List ℕ
           given = m.given;
           consumed = m.consumed;
           whole = m.whole;
+          lines = m.lines;
+          octets = m.octets;
+          within = within;
+          limited = λ is. absurd (reply-unlimited is);
           no_more = m.upto;
           parted = parted-ahead before.read after.read before.left after.left m.given m.handled m.consumed m.ahead;
           all = tt;
@@ -285,9 +329,6 @@ all-go several handled on = ap (prelude several) (sym (append-nil handled)) ∙ 
 
 -- ---- a desk that works
 
-pub line-counted : (number : Option ℕ) (failed go : Bool) (before after : Standing) → HandlesNext number failed go before after → after.read.lines ≡ before.read.lines + 1
-line-counted number failed go before after h = ap (λ r. r.lines) h.takes.counted
-
 pub working-start : (number : Option ℕ) (until_go : Bool) (s : Standing) → Working number until_go s s
 working-start number until_go s =
     let start = works-start number s in
@@ -324,18 +365,18 @@ module _ (number : Option ℕ) (until_go : Bool) (before middle after : Standing
   early-same : (e : DeskEnd) → (r : Ends number e before after) × (r.handled ≡ w.works.handled) → EndsEarly number until_go e before after
   early-same e r = record { ends = r.0; is_prelude = λ until. subst (λ ls. prelude (is_several number) ls ≡ ls) (sym r.1) (all-go (is_several number) w.works.handled (w.no_go until)) }
 
-  early-line : (go : Bool) (h : HandlesNext number true go middle after) → EndsEarly number until_go end.ReplyFault before after
-  early-line go h =
-      let r = ends-unreplied number before middle after w.text w.works w.printed go h in
+  early-line : IsWithin after.read → (go : Bool) (h : HandlesNext number true go middle after) → EndsEarly number until_go end.ReplyFault before after
+  early-line within go h =
+      let r = ends-unreplied number before middle after w.text w.works w.printed within go h in
       record { ends = r.0; is_prelude = λ until. subst (λ ls. prelude (is_several number) ls ≡ ls) (sym r.1) (goes-by (is_several number) w.works.handled h.line go h.replied.is_go (w.no_go until) go refl) }
 
-  early-fault : Comes number (came.Ended end.ReplyFault) middle after → EndsEarly number until_go end.ReplyFault before after
-  early-fault (inl (go, h)) = early-line go h
-  early-fault (inr s) = early-same end.ReplyFault (ends-unlimited number before middle after w.text w.works w.printed s)
+  early-fault : IsWithin after.read → Comes number (came.Ended end.ReplyFault) middle after → EndsEarly number until_go end.ReplyFault before after
+  early-fault within (inl (go, h)) = early-line within go h
+  early-fault within (inr s) = early-same end.ReplyFault (ends-unlimited number before middle after w.text w.works w.printed within s)
 
   -- the end
-  pub working-ends : (e : DeskEnd) → Comes number (came.Ended e) middle after → EndsEarly number until_go e before after
-  working-ends end.Done comes = early-same end.Done (ends-done number before middle after w.text w.works w.printed comes)
-  working-ends end.Limit comes = early-same end.Limit (ends-limit number before middle after w.text w.works w.printed comes)
-  working-ends end.DeskFault comes = early-same end.DeskFault (ends-fault number before middle after w.text w.works w.printed comes)
-  working-ends end.ReplyFault comes = early-fault comes
+  pub working-ends : (e : DeskEnd) → IsWithin after.read → Comes number (came.Ended e) middle after → EndsEarly number until_go e before after
+  working-ends end.Done within comes = early-same end.Done (ends-done number before middle after w.text w.works w.printed within comes)
+  working-ends end.Limit within comes = early-same end.Limit (ends-limit number before middle after w.text w.works w.printed within comes)
+  working-ends end.DeskFault within comes = early-same end.DeskFault (ends-fault number before middle after w.text w.works w.printed within comes)
+  working-ends end.ReplyFault within comes = early-fault within comes

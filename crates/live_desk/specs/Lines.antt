@@ -4,6 +4,7 @@ use Rattle.std.specs.Option.{option_to_list}
 use Rattle.std.specs.Io.KnownBytes.{Appends}
 use Rattle.tm_io.specs.Octets.{AppendsPrefix, WritesUnless}
 use Rattle.desk.specs.Handling.{HandlesLineAt}
+use Rattle.desk_lines.specs.ToCome.{IsAtLimit}
 use Rattle.desk_lines.specs.Gives.{TakesLine, TakesPart, NoneComes}
 use Rattle.tm_io.specs.Causes.{RisesWhere}
 use Rattle.live_desk.specs.declared.desk_end.DeskEnd.{DeskEnd}
@@ -46,6 +47,7 @@ Answers number (came.Ended other) line before after = ⊥
 pub record Stops (failed limit : Bool) (text : List ℕ) (before after : Standing) : Type 0 where
   pub takes : TakesPart before.read after.read before.left after.left
   pub none : IfSome before.left (NoneComes limit before.read)
+  pub limited : limit ≡ true → IsAtLimit after.read
   pub same : after.held.state ≡ before.held.state
   pub own : after.held.own ≡ before.held.own
   pub told : WritesUnless failed before.held.written after.held.written text

@@ -1,8 +1,8 @@
 -- What a desk does with its script. [This profile.]
-use Rattle.std.specs.Prelude.{◌≡◌, ◌⊎◌, ℕ, ◌≤◌, Bool, true, false, List, [], ◌++◌, length, drop, Option, Some, None, IfSome, ⊤, if◌then◌else◌}
+use Rattle.std.specs.Prelude.{◌≡◌, ◌⊎◌, ℕ, ◌+◌, ◌≤◌, Bool, true, false, List, [], ◌++◌, length, drop, Option, Some, None, IfSome, ⊤, if◌then◌else◌}
 use Rattle.std.specs.Io.KnownBytes.{Appends, Consumes}
 use Rattle.tm_io.specs.Octets.{AppendsPrefix, WritesUnless}
-use Rattle.desk_lines.specs.Ahead.{still, meets_limit}
+use Rattle.desk_lines.specs.ToCome.{IsAtLimit, IsWithin, still, meets_limit}
 use Rattle.desk_lines.specs.Given.{IsUpTo, lines_given}
 use Rattle.desk.specs.Handling.{moves_at}
 use Rattle.histories.specs.History.{StartsWith, moves_of}
@@ -17,7 +17,7 @@ use Rattle.run_model.specs.Desk.{DeskReply, DeskState, desk_start}
 use Rattle.run_model.specs.DeskRuns.{Calls, IsDesk, prelude}
 use Rattle.run_model.specs.RegisterHistories.{RegisterHistory}
 use Rattle.run_model.specs.Replies.{desk_text}
-use Rattle.run_model.specs.Script.{script, reaches_limit}
+use Rattle.run_model.specs.Script.{most_lines, most_script, script, reaches_limit}
 
 -- ---- lines of a script
 
@@ -31,6 +31,8 @@ pub record Works (number : Option ℕ) (text : List ℕ) (before after : Standin
   pub given : List ℕ
   pub consumed : Consumes before.left after.left given
   pub whole : lines_given given ≤ length handled
+  pub lines : after.read.lines ≡ before.read.lines + length handled
+  pub octets : after.read.octets ≡ before.read.octets + length given
   pub upto : IfSome before.left (λ l. IsUpTo given after.left handled)
   pub ahead : IfSome before.left (λ l. IfSome after.left (λ b. still before.read l ≡ handled ++ still after.read b))
   pub limit : IfSome before.left (λ l. IfSome after.left (λ b. meets_limit before.read l ≡ meets_limit after.read b))
@@ -73,6 +75,10 @@ pub record Ends (number : Option ℕ) (e : DeskEnd) (before after : Standing) : 
   pub given : List ℕ
   pub consumed : Consumes before.left after.left given
   pub whole : lines_given given ≤ length handled
+  pub lines : after.read.lines ≡ before.read.lines + length handled
+  pub octets : after.read.octets ≡ before.read.octets + length given
+  pub within : IsWithin after.read
+  pub limited : e ≡ end.Limit → IsAtLimit after.read
   pub no_more : IfSome before.left (λ l. IsUpTo given after.left handled)
   pub parted : IfSome before.left (λ l. still before.read l ≡ handled ++ others)
   pub all : IsHandled e others
@@ -137,6 +143,9 @@ pub record DeskedAt (number : Option ℕ) (e : DeskEnd) (first : Database) (entr
   pub of_script : IfSome left (λ octets. script octets ≡ handled ++ others)
   pub all : IsHandled e others
   pub whole : lines_given given ≤ length handled
+  pub few : length handled ≤ most_lines
+  pub short : length given ≤ most_script
+  pub limited : e ≡ end.Limit → (length handled ≡ most_lines) ⊎ (length given ≡ most_script)
   pub early : Calls
   pub late : Calls
   pub early_replies : List DeskReply

@@ -1,7 +1,7 @@
 -- Where a desk stands before and behind lines. [This profile.]
 use Rattle.std.specs.Prelude.{ℕ, List, Option}
 use Rattle.desk_lines.specs.declared.reader.DeskReader.{DeskReader}
-use Rattle.desk_lines.specs.Ahead.{Reading}
+use Rattle.desk_lines.specs.ToCome.{Reading}
 use Rattle.desk_lines.specs.Reader.{reading_of, source_of}
 use Rattle.run_model.specs.declared.register.Answer.{Answer}
 use Rattle.run_model.specs.declared.register.Entry.{Entry}

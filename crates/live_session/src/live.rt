@@ -1,7 +1,7 @@
 //! A live run.
 ghost use Rattle.std.specs.Prelude.{◌≡◌, ◌≢◌, ◌≤◌, ◌*◌, IfOk, None, OnErr, Some, false, length};
 ghost use Rattle.desk.specs.State.{desk_of, editions_of};
-ghost use Rattle.desk_lines.specs.Ahead.{reading_start};
+ghost use Rattle.desk_lines.specs.ToCome.{reading_start};
 ghost use Rattle.desk_lines.specs.Reader.{reading_of, source_of};
 ghost use Rattle.edition_register.specs.Seats.{IsSeat, first_of, history_of, shown_in};
 ghost use Rattle.histories.specs.History.{StartsWith};

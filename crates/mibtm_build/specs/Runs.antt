@@ -6,7 +6,7 @@ use Rattle.tm_io.specs.Octets.{AppendsPrefix, WritesUnless}
 use Rattle.mib_model.specs.declared.database.Database.{Database}
 use Rattle.run_model.specs.Script.{script, reaches_limit}
 use Rattle.desk_lines.specs.declared.reader.DeskReader.{DeskReader}
-use Rattle.desk_lines.specs.Ahead.{Reading, still, meets_limit}
+use Rattle.desk_lines.specs.ToCome.{Reading, still, meets_limit}
 use Rattle.desk_lines.specs.Given.{IsUpTo, lines_given}
 use Rattle.desk_lines.specs.Gives.{TakesLine, TakesPart, NoneComes}
 use Rattle.desk_lines.specs.Reader.{reading_of, source_of}

@@ -1,7 +1,7 @@
 // The lines that ask for packets, one after the other.
 ghost use Rattle.std.specs.Prelude.{◌≡◌, ◌+◌, length};
 ghost use Rattle.build_rules.specs.Building.{octets_most};
-ghost use Rattle.desk_lines.specs.Ahead.{reading_start};
+ghost use Rattle.desk_lines.specs.ToCome.{reading_start};
 ghost use Rattle.desk_lines.specs.Reader.{reading_of, source_of};
 ghost use Rattle.desk_lines.specs.declared.reader.TheConstants.{LINE_ROOM};
 ghost use Rattle.mibtm_build.specs.Runs.{Comes, Handles, HasAsksCause, HasOutCause, Ran, is_asks_fault, is_out_fault, standing_of};

@@ -1,7 +1,7 @@
 -- What a desk of a panel did in a whole run.
 use Rattle.std.proofs.Common.{◌≡◌, ◌∙◌, ℕ, false, [], ◌∷◌, map, Some, None, refl, sym, ap, subst}
 use Rattle.desk.specs.Handling.{moves_at}
-use Rattle.desk_lines.specs.Ahead.{reading_start}
+use Rattle.desk_lines.specs.ToCome.{reading_start}
 use Rattle.histories.specs.History.{StartsWith, calls_of, moves_of}
 use Rattle.live_desk.specs.declared.desk_end.DeskEnd.{DeskEnd}
 use Rattle.live_desk.specs.DeskEnds.{is_desk_fault, is_reply_fault}

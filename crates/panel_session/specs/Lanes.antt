@@ -1,6 +1,6 @@
 -- Where each desk of a panel stands before and behind a part of a run. [This profile.]
 use Rattle.std.specs.Prelude.{◌≡◌, ℕ, suc, ◌≤◌, ◌*◌, Bool, false, List, [], ◌∷◌, length, Option, Some, None}
-use Rattle.desk_lines.specs.Ahead.{Reading}
+use Rattle.desk_lines.specs.ToCome.{Reading}
 use Rattle.desk_lines.specs.Reader.{read_to}
 use Rattle.histories.specs.History.{StartsWith}
 use Rattle.live_desk.specs.declared.desk_end.DeskEnd.{DeskEnd}

@@ -1,7 +1,7 @@
 -- What is known of a run of a panel that was opened. [This profile.]
 use Rattle.std.specs.Prelude.{◌≡◌, ◌≤◌, ℕ, [], length, map, vec_capacity, None}
 use Rattle.std.specs.List.{AllByRecursion}
-use Rattle.desk_lines.specs.Ahead.{reading_start}
+use Rattle.desk_lines.specs.ToCome.{reading_start}
 use Rattle.desk_lines.specs.Reader.{read_to}
 use Rattle.edition_register.specs.Panels.{AreDesksFrom}
 use Rattle.edition_register.specs.Seats.{IsSeat, first_of}

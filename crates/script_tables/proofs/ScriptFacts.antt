@@ -1,7 +1,7 @@
 -- Lines that are followed, one after the other.
 use Rattle.std.proofs.Common.{◌≡◌, ◌∙◌, ℕ, ◌+◌, ◌<◌, Bool, true, false, List, [], ◌∷◌, fold, length, take, Option, Some, None, IfSome, IsSomeAnd, refl, sym, ap, subst}
 use Rattle.std.specs.Io.KnownBytes.{Consumes}
-use Rattle.desk_lines.specs.Ahead.{Reading, reading_start, still}
+use Rattle.desk_lines.specs.ToCome.{Reading, reading_start, still}
 use Rattle.desk_lines.specs.Gives.{TakesLine}
 use Rattle.mib_model.specs.declared.database.Database.{Database}
 use Rattle.run_model.specs.DeskLines.{Request, request_of}

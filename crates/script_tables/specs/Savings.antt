@@ -6,7 +6,7 @@ use Rattle.mib_model.specs.Database.{no_rows}
 use Rattle.run_model.specs.DeskLines.{Request}
 use Rattle.run_model.specs.DeskWays.{way_of}
 use Rattle.tm_audit.specs.Saved.{Desked, after_line, led}
-use Rattle.desk_lines.specs.Ahead.{Reading, still}
+use Rattle.desk_lines.specs.ToCome.{Reading, still}
 use Rattle.script_tables.specs.declared.script.ScriptFault.{ScriptFault}
 use Rattle.script_tables.specs.declared.script.ScriptFault.TheVariants as faults
 use Rattle.tm_io.specs.Causes.{HasRisen}

@@ -50,4 +50,4 @@ returns-in-Ended-clause-worked g c =
     let before = standing_of g.O.Operator.state g.D.Source.left g.P.Sink.written c.args.reader.now c.args.operator.now c.args.seat.now c.args.replies.now in
     let middle = standing_of g.O.Operator.state g.D.Source.left g.P.Sink.written c.loop-go.reader c.loop-go.operator c.loop-go.seat c.loop-go.replies in
     let after = standing_of g.O.Operator.state g.D.Source.left g.P.Sink.written c.next_line.new.reader c.next_line.new.operator c.next_line.new.seat c.next_line.new.replies in
-    working-ends (number_if g.O.Operator.several c.args.place.now.desk) c.args.until_go before middle after c.loop-go.invariant.working c.in-Ended.end c.in-Ended.ensures.comes
+    working-ends (number_if g.O.Operator.several c.args.place.now.desk) c.args.until_go before middle after c.loop-go.invariant.working c.in-Ended.end (c.next_line.new.reader.few, c.next_line.new.reader.short) c.in-Ended.ensures.comes

@@ -1,5 +1,5 @@
 use Rattle.std.proofs.Common.{◌≡◌, ◌∙◌, ◌+◌, refl, ap, subst, sym, arith}
-use Rattle.desk_lines.specs.Ahead.{Reading}
+use Rattle.desk_lines.specs.ToCome.{Reading}
 use Rattle.mib_model.specs.declared.database.Database.{Database}
 use Rattle.mibtm_build.proofs.RunFacts.{goes-more, goes-start, ran}
 use Rattle.mibtm_build.specs.Runs.{Goes, Ran, standing_of}

@@ -1,5 +1,5 @@
-use Rattle.std.proofs.Common.{◌∙◌, refl, arith}
-use Rattle.desk_lines.proofs.ReaderFacts.{gives-feed, gives-last, gives-end, gives-room, gives-limit}
+use Rattle.std.proofs.Common.{◌∙◌, refl, arith, inl, inr}
+use Rattle.desk_lines.proofs.ReaderFacts.{gives-feed, gives-last, gives-end, gives-room, gives-limit, limited-line, limited-room}
 use Rattle.desk_lines.proofs.reader.DeskReader.next.Goals as goal
 
 pub returns-then-self-eq-MOST_LINES-clause-gives : goal.returns-then-self-eq-MOST_LINES-clause-gives
@@ -23,3 +23,16 @@ returns-in-Source-2-clause-gives g c =
 pub returns-in-Room-clause-gives : goal.returns-in-Room-clause-gives
 returns-in-Room-clause-gives g c =
     gives-room c.args.self.now.lines c.args.self.now.octets _ c.take_piece-piece.result _ _ c.take_piece-piece.new.into c.args.self.now.short c.take_piece-piece.ensures.piece c.in-Room.is refl
+
+pub returns-then-self-eq-MOST_LINES-clause-limited : goal.returns-then-self-eq-MOST_LINES-clause-limited
+returns-then-self-eq-MOST_LINES-clause-limited g c = inl c.if-self-eq-MOST_LINES.true
+
+pub returns-in-Feed-clause-limited : goal.returns-in-Feed-clause-limited
+returns-in-Feed-clause-limited g c = limited-line c.take_piece-piece.result.octets c.line_of.result _ c.line_of.ensures
+
+pub returns-in-Source-2-clause-limited : goal.returns-in-Source-2-clause-limited
+returns-in-Source-2-clause-limited g c = limited-line c.take_piece-piece.result.octets c.line_of-in-Source-2.result _ c.line_of-in-Source-2.ensures
+
+pub returns-in-Room-clause-limited : goal.returns-in-Room-clause-limited
+returns-in-Room-clause-limited g c =
+    inr (limited-room c.args.self.now.octets _ c.take_piece-piece.result _ _ c.take_piece-piece.new.into c.args.self.now.short c.take_piece-piece.ensures.piece c.in-Room.is refl)

@@ -1,5 +1,5 @@
 -- What is still to come of a script that was read in part. [This profile.]
-use Rattle.std.specs.Prelude.{◌≡◌, ℕ, ◌+◌, ◌-◌, Bool, false, List, ◌++◌, length, take, nat_le, ◌==◌, ◌||◌, if◌then◌else◌}
+use Rattle.std.specs.Prelude.{◌≡◌, ◌⊎◌, ℕ, ◌≤◌, ◌+◌, ◌-◌, Bool, false, List, ◌++◌, length, take, nat_le, ◌==◌, ◌||◌, if◌then◌else◌}
 use Rattle.std.specs.List.{All}
 use Rattle.mib_model.specs.Lines.{is_feed}
 use Rattle.run_model.specs.Script.{most_script, most_lines, whole_pieces, last_piece, rest_line}
@@ -16,6 +16,14 @@ reading_start = record { lines = 0; octets = 0 }
 -- whether what was taken and what is left make as many octets as are taken of a script
 abbrev pub is_filled : ℕ → List ℕ → Bool
 is_filled taken left = nat_le most_script (taken + length left)
+
+-- no more was read than is taken of a script
+abbrev pub IsWithin : Reading → Type 0
+IsWithin read = (read.lines ≤ most_lines) × (read.octets ≤ most_script)
+
+-- as many lines or as many octets were read as are taken of a script
+abbrev pub IsAtLimit : Reading → Type 0
+IsAtLimit read = (read.lines ≡ most_lines) ⊎ (read.octets ≡ most_script)
 
 -- the lines of what is left behind so many octets
 abbrev pub lines_behind : ℕ → List ℕ → List (List ℕ)
