@@ -9,7 +9,7 @@ use Rattle.std.proofs.lemmas.List.Sums.{sum_by-append, sum_by-cons}
 use Rattle.desk_lines.specs.ToCome.{HasNoFeed, Reading, still}
 use Rattle.desk_lines.specs.Given.{IsUpTo, lines_given}
 use Rattle.desk_lines.specs.Gives.{IsTakenFor, TakesLine}
-use Rattle.desk_lines.proofs.AheadFacts.{still-end}
+use Rattle.desk_lines.proofs.ToComeFacts.{still-end}
 use Rattle.mib_model.specs.Lines.{is_feed}
 
 -- ---- lines that were given whole

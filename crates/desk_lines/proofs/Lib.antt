@@ -1,7 +1,7 @@
 pub mod CutFacts
 pub mod WordFacts
 pub mod LongFacts
-pub mod AheadFacts
+pub mod ToComeFacts
 pub mod GivenFacts
 pub mod PieceFacts
 pub mod ReaderFacts

@@ -15,7 +15,7 @@ use Rattle.desk_lines.specs.declared.piece.PieceEnd.TheVariants as end
 use Rattle.desk_lines.specs.ToCome.{Reading}
 use Rattle.desk_lines.specs.Gives.{Gives, HasLimit, HasNextCause, TakesLine, line_of}
 use Rattle.desk_lines.specs.Pieces.{TakesPiece, Ends}
-use Rattle.desk_lines.proofs.AheadFacts.{line-feed, line-last, none-end, none-lines, none-octets}
+use Rattle.desk_lines.proofs.ToComeFacts.{line-feed, line-last, none-end, none-lines, none-octets}
 
 -- the line that was taken stands in the buffer
 gives-line : (piece : ScriptPiece) (room : ℕ) (was now : Reading) (old new : Option (List ℕ)) (buffer : List ℕ) → length buffer ≡ 4097 → (t : TakesPiece piece room old new buffer)

@@ -1,4 +1,4 @@
-// Saves GAIN-first_rows of looking rows up: most rows stand at places that the numbers of their keys give, where they are found without a probe of the map.
+// With lone rows of pid, a packet of two values takes 764 instead of 959 instructions: most rows stand where the numbers of their keys say, without a probe.
 ghost use Rattle.std.specs.Prelude.{◌≡◌, ◌⊎◌, IfOk, IfSome};
 ghost use Rattle.first_rows.specs.ByNumbers.{AreFree, IsAtHand};
 

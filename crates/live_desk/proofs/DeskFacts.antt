@@ -8,7 +8,7 @@ use Rattle.std.proofs.Math.Seq.{drop-append_seam, drop-length}
 use Rattle.decode_session.proofs.FinishFacts.{part-behind}
 use Rattle.desk.specs.Handling.{moves_at}
 use Rattle.desk_lines.specs.ToCome.{Reading, IsAtLimit, reading_start, still, meets_limit}
-use Rattle.desk_lines.proofs.AheadFacts.{still-start, limit-start}
+use Rattle.desk_lines.proofs.ToComeFacts.{still-start, limit-start}
 use Rattle.desk_lines.proofs.GivenFacts.{given-append, upto-both}
 use Rattle.histories.specs.History.{StartsWith, moves_of}
 use Rattle.tm_io.specs.Octets.{WritesUnless}

@@ -11,7 +11,7 @@ use Rattle.decode_session.proofs.FinishFacts.{part-longer, part-behind}
 use Rattle.desk_lines.specs.ToCome.{Reading, IsWithin, still, meets_limit}
 use Rattle.desk_lines.specs.Given.{lines_given}
 use Rattle.desk_lines.specs.Gives.{TakesPart, NoneComes}
-use Rattle.desk_lines.proofs.AheadFacts.{ahead-more, ahead-none, limit-more, limit-none}
+use Rattle.desk_lines.proofs.ToComeFacts.{ahead-more, ahead-none, limit-more, limit-none}
 use Rattle.desk_lines.proofs.GivenFacts.{given-append, given-line, given-none, upto-more, upto-none, upto-part}
 use Rattle.live_desk.specs.declared.desk_end.DeskEnd.{DeskEnd}
 use Rattle.live_desk.specs.declared.desk_end.DeskEnd.TheVariants as end

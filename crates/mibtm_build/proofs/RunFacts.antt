@@ -11,7 +11,7 @@ use Rattle.tm_io.specs.Octets.{AppendsPrefix, WritesUnless}
 use Rattle.build_rules.specs.declared.fault.BuildFault.{BuildFault}
 use Rattle.build_rules.specs.Asks.{Answered, answer_to, answered, asked_in, behind_answer}
 use Rattle.desk_lines.specs.ToCome.{Reading, meets_limit, reading_start, still}
-use Rattle.desk_lines.proofs.AheadFacts.{ahead-more, ahead-none, limit-more, limit-none, limit-start, still-start}
+use Rattle.desk_lines.proofs.ToComeFacts.{ahead-more, ahead-none, limit-more, limit-none, limit-start, still-start}
 use Rattle.desk_lines.proofs.GivenFacts.{given-append, given-line, given-none, upto-more, upto-none, upto-part}
 use Rattle.desk_lines.specs.Given.{IsUpTo, lines_given}
 use Rattle.desk_lines.specs.Gives.{NoneComes, TakesLine, TakesPart}

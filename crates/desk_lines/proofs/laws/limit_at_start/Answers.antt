@@ -1,4 +1,4 @@
-use Rattle.desk_lines.proofs.AheadFacts.{limit-start}
+use Rattle.desk_lines.proofs.ToComeFacts.{limit-start}
 use Rattle.desk_lines.proofs.laws.limit_at_start.Goals as goal
 
 pub returns : goal.returns
