@@ -1,4 +1,4 @@
-// With rows that stand where numbers say, a packet of two values takes 764 instead of 959 instructions: the only row of pid of an APID is compared, not looked up.
+// With rows that stand where numbers say, a packet of two values takes 764 instead of 959 instructions: an only row of an APID is compared, not looked up.
 ghost use Rattle.std.specs.Prelude.{◌≡◌, ◌==◌, ◌&&◌, IfSome, Some, None, false, if◌then◌else◌};
 ghost use Rattle.std.specs.List.{find};
 ghost use Rattle.std.specs.Option.{option_copied};
