@@ -1,7 +1,7 @@
 use Rattle.std.proofs.Common.{◌≡◌, ◌∙◌, map, sym}
 use Rattle.mib_model.specs.Plans.{type_item}
 use Rattle.numbered_plans.proofs.LayoutFacts.{layouts-alike}
-use Rattle.numbered_plans.proofs.layouts.LayoutNumbered.are_alike.Goals as goal
+use Rattle.numbered_plans.proofs.layouts.LayoutNumberedPlan.are_alike.Goals as goal
 
 pub returns-then-are_placed_alike : goal.returns-then-are_placed_alike
 returns-then-are_placed_alike c = λ holds spid.

@@ -1,7 +1,7 @@
 use Rattle.std.proofs.Common.{◌≡◌, ◌∙◌, map, sym}
 use Rattle.mib_model.specs.Plans.{type_item}
 use Rattle.numbered_plans.proofs.StructureFacts.{structures-alike}
-use Rattle.numbered_plans.proofs.structures.StructureNumbered.are_alike.Goals as goal
+use Rattle.numbered_plans.proofs.structures.StructureNumberedPlan.are_alike.Goals as goal
 
 pub returns-then-are_same : goal.returns-then-are_same
 returns-then-are_same c = λ holds tpsd.
