@@ -117,7 +117,9 @@ fn write_each<P: Plans, O: Sink>(
             board,
             lines,
         );
-        write_all(out, lines.bytes())?;
+        let Ok(()) = write_all(out, lines.bytes()) else {
+            return Err(Failed);
+        };
     }
     Ok(())
 }

@@ -104,7 +104,9 @@ pub(crate) fn do_alone<P: Plans + Rows + Drop, O: Sink, W: Watch, R: Wait>(
         watch,
     );
     keep_room(&mut pipeline.rooms, cell.into_room());
-    printed?;
+    let Ok(()) = printed else {
+        return Err(Failed);
+    };
     pass_by(pipeline);
     pipeline.done += 1;
     Ok(())

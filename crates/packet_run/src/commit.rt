@@ -79,7 +79,9 @@ fn commit_next<P: Plans + Drop, O: Sink, W: Watch, R: Wait>(
     };
     let printed = print_result(rt, &task, in_use, &mut pipeline.lines, out, watch);
     free(&mut pipeline.rooms, task);
-    printed?;
+    let Ok(()) = printed else {
+        return Err(Failed);
+    };
     pipeline.done += 1;
     Ok(true)
 }

@@ -29,7 +29,9 @@ pub(crate) fn write_record<P: Plans + Drop, O: Sink, W: Watch, R: Wait>(
     ensures untold { OnErr result (watch.new ≡ watch.old) }
     ensures cause { HasCause (O.faults out.old) (O.faults out.new) result }
 {
-    write_all(out, lines.bytes())?;
+    let Ok(()) = write_all(out, lines.bytes()) else {
+        return Err(Failed);
+    };
     watch.committed(
         rt,
         number,

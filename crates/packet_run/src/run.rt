@@ -97,7 +97,9 @@ fn make_way<P: Plans + Drop, S: Source, O: Sink, W: Watch, R: Wait>(
         let least = read.saturating_sub(MOST_AHEAD - 1);
         return commit_to(rt, crew, pipeline, in_use, least, out, watch);
     }
-    commit_to(rt, crew, pipeline, in_use, read, out, watch)?;
+    let Ok(()) = commit_to(rt, crew, pipeline, in_use, read, out, watch) else {
+        return Err(Failed);
+    };
     come_to_rest(rt, out, watch)
 }
 

@@ -77,7 +77,9 @@ fn pack(
     if octets > OCTETS_MOST {
         return Err(BuildFault::Long);
     }
-    add_length(writes, octets)?;
+    let Ok(()) = add_length(writes, octets) else {
+        return Err(BuildFault::Memory);
+    };
     let size = octets as usize;
     match write_all(writes, &mut into[..size], &mut room[..size]) {
         Some(bit) => Err(BuildFault::Clash { bit }),

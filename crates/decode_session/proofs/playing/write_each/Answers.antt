@@ -30,13 +30,13 @@ loop-k-preserved g c =
             still,
             prints-more db c.args.job.now.number packets k _ c.packet.result.now m middle after c.add_record.new.lines _ _ _ below (omega arith) (c.packet.ensures.packet [])
                 first (subst (λ (l : List ℕ). Finishes 1 db (stamped_first db (c.args.job.now.number + k, c.packet.result.now)) l c.add_record.new.lines middle after) c.clear.ensures next)
-                (subst (Appends (g.O.Sink.written c.loop-k.out) (g.O.Sink.written c.write_all.new.out)) c.bytes.ensures c.in_ok-write_all.ensures.all),
+                (subst (Appends (g.O.Sink.written c.loop-k.out) (g.O.Sink.written c.write_all.new.out)) c.bytes.ensures c.in-Ok.ensures.all),
           );
-      cause = c.in_ok-write_all.ensures.cause.ok ∙ c.loop-k.invariant.cause;
+      cause = c.in-Ok.ensures.cause.ok ∙ c.loop-k.invariant.cause;
     }
 
-pub returns-in_err-write_all-clause-part : goal.returns-in_err-write_all-clause-part
-returns-in_err-write_all-clause-part g c = λ m serves.
+pub returns-in_default-clause-part : goal.returns-in_default-clause-part
+returns-in_default-clause-part g c = λ m serves.
     let db = g.P.Structures.tables c.args.plans.now in
     let packets = c.args.job.now.stretch.packets in
     let k = c.loop-k.k in
@@ -45,7 +45,7 @@ returns-in_err-write_all-clause-part g c = λ m serves.
     let (after, still, next) = c.add_record.ensures.finishes middle serves' in
     prints-stopped db c.args.job.now.number packets k _ c.packet.result.now m middle after c.add_record.new.lines _ _ _ below (omega arith) (c.packet.ensures.packet [])
     first (subst (λ (l : List ℕ). Finishes 1 db (stamped_first db (c.args.job.now.number + k, c.packet.result.now)) l c.add_record.new.lines middle after) c.clear.ensures next) c.args.count c.loop-k-test.true
-    (subst (AppendsPrefix (g.O.Sink.written c.loop-k.out) (g.O.Sink.written c.write_all.new.out)) c.bytes.ensures c.in_err-write_all.ensures.part)
+    (subst (AppendsPrefix (g.O.Sink.written c.loop-k.out) (g.O.Sink.written c.write_all.new.out)) c.bytes.ensures c.in_default.ensures.part)
 
 pub returns-clause-done : goal.returns-clause-done
 returns-clause-done g c =

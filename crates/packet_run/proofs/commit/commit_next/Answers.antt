@@ -9,14 +9,14 @@ returns-in_default-clause-keeps g c = keeps_less refl refl (less_unchanged c.in_
 pub returns-in_default-clause-piping : goal.returns-in_default-clause-piping
 returns-in_default-clause-piping g c from stamped pp = piping_keeps (keeps_less refl refl (less_unchanged c.in_default.ensures.after)) refl refl refl pp
 
-pub returns-in_err-printed-clause-keeps : goal.returns-in_err-printed-clause-keeps
-returns-in_err-printed-clause-keeps g c = keeps_less refl refl (less_advanced c.in-Some.ensures.after)
+pub returns-in_default-printed-clause-keeps : goal.returns-in_default-printed-clause-keeps
+returns-in_default-printed-clause-keeps g c = keeps_less refl refl (less_advanced c.in-Some.ensures.after)
 
-pub returns-in_err-printed-clause-stopped : goal.returns-in_err-printed-clause-stopped
-returns-in_err-printed-clause-stopped g c from stamped pp =
+pub returns-in_default-printed-clause-stopped : goal.returns-in_default-printed-clause-stopped
+returns-in_default-printed-clause-stopped g c from stamped pp =
     stopped_commit c.in-Some.task c.in-Some.ensures.taken c.requires.next c.requires.some
     (keeps_less refl refl (less_advanced c.in-Some.ensures.after)) refl refl refl
-    c.in_err-printed.ensures.untold c.in_err-printed.ensures.part pp
+    c.in_default-printed.ensures.untold c.in_default-printed.ensures.part pp
 
 pub returns-clause-keeps : goal.returns-clause-keeps
 returns-clause-keeps g c = keeps_less refl refl (less_advanced c.in-Some.ensures.after)
@@ -25,4 +25,4 @@ pub returns-clause-piping : goal.returns-clause-piping
 returns-clause-piping g c from stamped pp =
     piping_commit c.in-Some.task c.in-Some.ensures.taken c.requires.next c.requires.some
     (keeps_less refl refl (less_advanced c.in-Some.ensures.after)) refl refl refl
-    c.print_result-printed.ensures.in_use c.in_ok-printed.ensures.printed pp
+    c.print_result-printed.ensures.in_use c.in-Ok.ensures.printed pp
