@@ -29,13 +29,13 @@ const MANY_OCTETS: usize = 16_384;
 const LARGE_PACKET: usize = 64;
 
 /// The jobs of a run by several workers.
-const MOST_JOBS: usize = 16;
+const MOST_JOBS: usize = 30;
 
 /// Their packets.
-const MOST_DEALT: u64 = 1_024;
+const MOST_DEALT: u64 = 1_920;
 
-// Deals the packets that octets begin with, numbered from a number on, and tells the number behind them.
-fn deal(number: u64, octets: &[u8], jobs: &mut [DrawingJob]) -> u64
+// Deals the packets that octets begin with, numbered from a number on, to all jobs but the first, so many, and tells the number behind them.
+fn deal(number: u64, octets: &[u8], jobs: &mut [DrawingJob], idle: usize) -> u64
     requires some { 0 < length jobs.old }
     requires few { length jobs.old ≤ MOST_JOBS }
     requires low { number + MOST_DEALT ≤ most_packets }
@@ -43,18 +43,22 @@ fn deal(number: u64, octets: &[u8], jobs: &mut [DrawingJob]) -> u64
     ensures jobs { (db : Database) → AreJobs db number jobs.new }
     ensures octets { BeginsWith (packets_of jobs.new) octets.now }
 {
-    let share = octets.len() / jobs.len();
+    let share = octets.len() / jobs.len().saturating_sub(idle).max(1);
+    let mut idle_left = idle;
     let mut left = octets;
     let mut next = number;
     for job in jobs.iter_mut() {
-        let taken = job.take(next, left, share);
+        let part = if idle_left > 0 { 0 } else { share };
+        idle_left = idle_left.saturating_sub(1);
+        let taken = job.take(next, left, part);
         left = &left[taken..];
         next += job.stretch.len() as u64;
     }
     next
 }
 
-// Deals the packets that octets begin with, numbered from a number on, has them drawn, and tells the number behind them.
+// Deals the packets that octets begin with, numbered from a number on, has them drawn, and tells the number behind them. The caller's own share is of
+// idle jobs, since a thread often begins on the processor of the one that begins it, and would wait until that rests.
 fn draw_jobs<P: Plans + Sync, R: Threads + Sync>(
     rt: &R,
     plans: &P,
@@ -74,13 +78,15 @@ fn draw_jobs<P: Plans + Sync, R: Threads + Sync>(
     ensures jobs { AreJobs (P.tables plans.now) number jobs.new }
     ensures octets { BeginsWith (packets_of jobs.new) octets.now }
 {
-    let end = deal(number, octets, jobs);
+    let threads = workers.saturating_add(1);
+    let idle = jobs.len().div_ceil(usize::from(threads));
+    let end = deal(number, octets, jobs, idle);
     let drawing = Drawing {
         plans,
         demands,
         tools,
     };
-    run_batch(rt, &drawing, jobs, workers);
+    run_batch(rt, &drawing, jobs, threads);
     end
 }
 

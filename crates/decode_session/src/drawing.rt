@@ -79,6 +79,9 @@ impl<P: Plans + Sync> Work for Drawing<'_, P> {
 
     #[tactic(auto, using(crate::proofs::AheadFacts::drawn_same))]
     fn work(&self, job: &mut DrawingJob) {
+        if job.stretch.len() == 0 {
+            return;
+        }
         let Some(mut tool) = free_tool(self.tools) else {
             return;
         };
