@@ -8,13 +8,12 @@ use Rattle.mib_model.specs.Soundness.{IsSound, first_flaw}
 use Rattle.mib_model.specs.Touched.{touched}
 use Rattle.desk.specs.declared.saving.Ready.{Ready}
 
--- each handle is of these tables, for which so many plans were compiled
+-- a handle is of these tables, for which so many plans were compiled
 pub record IsReady (tables : Database) (plans : ℕ) (ready : Ready) : Type 0 where
-  pub payload : arc_value ready.payload ≡ tables
-  pub base : arc_value ready.base ≡ tables
+  pub edition : arc_value ready.edition ≡ tables
   pub count : ready.plans ≡ plans
 
--- the handles are of a sound draft, for which the plans were compiled that it touches of a base
+-- the handle is of a sound draft, for which the plans were compiled that it touches of a base
 abbrev pub IsReadyFor : Database → Database → Ready → Type 0
 IsReadyFor base draft ready = IsSound draft × IsReady draft (length (touched base draft)) ready
 

@@ -9,7 +9,7 @@ ghost use Rattle.run_model.specs.DeskLines.{request_of};
 use crate::draft::Draft;
 use crate::edits::{Entering, edit};
 use desk_lines::{Request, request_of};
-use edition::Edition;
+use edition::{Compiled, Edition};
 use edition_register::{Editions, Register};
 use fold_state::BoardRoom;
 use mib_model::Steps;
@@ -19,11 +19,11 @@ use std::sync::ledger::Ledger;
 use std::sync::{Arc, Wait};
 use turn_cell::Seat;
 
-/// A draft, the number of the edition that it was made from, and a handle of each edition.
+/// A draft, the number of the edition that it was made from, and a handle of the plans of each edition.
 pub struct Desk {
     pub(crate) draft: Draft,
     pub(crate) edition: u32,
-    pub(crate) editions: Vec<Arc<Edition>>,
+    pub(crate) editions: Vec<Arc<Compiled>>,
 }
 
 /// By hand, so that whoever lets one go proves one call.
@@ -44,13 +44,13 @@ impl Desk {
     ghost use Rattle.desk.specs.Handling.{Handles, HandlesLine, Ticks};
 
     /// A desk whose draft is edition 1. An error is want of memory.
-    pub fn new(alloc: Global, first: Arc<Edition>) -> Result<Desk, AllocError>
-        ensures state { IfOk result (λ desk. desk_of desk ≡ desk_start (arc_value first)) }
-        ensures editions { IfOk result (λ desk. editions_of desk ≡ arc_value first ∷ []) }
+    pub fn new(alloc: Global, first: Edition) -> Result<Desk, AllocError>
+        ensures state { IfOk result (λ desk. desk_of desk ≡ desk_start first) }
+        ensures editions { IfOk result (λ desk. editions_of desk ≡ first ∷ []) }
     {
-        let draft = Draft::new(Arc::try_clone(&first)?)?;
         let mut editions = Vec::with_capacity(alloc, 1)?;
-        editions.push_reserved(first);
+        editions.push_reserved(Arc::try_clone(first.plans())?);
+        let draft = Draft::new(Arc::new(alloc, first)?)?;
         Ok(Desk {
             draft,
             edition: 1,
@@ -64,8 +64,8 @@ impl Desk {
         &mut self,
         rt: &R,
         alloc: Global,
-        register: &Register<Edition, BoardRoom>,
-        seat: &mut Seat<Editions<Edition, BoardRoom>>,
+        register: &Register<Compiled, BoardRoom>,
+        seat: &mut Seat<Editions<Compiled, BoardRoom>>,
         line: &[u8],
         steps: &mut Steps<L>,
     ) -> Option<Reply>
@@ -87,8 +87,8 @@ impl Desk {
         &mut self,
         rt: &R,
         alloc: Global,
-        register: &Register<Edition, BoardRoom>,
-        seat: &mut Seat<Editions<Edition, BoardRoom>>,
+        register: &Register<Compiled, BoardRoom>,
+        seat: &mut Seat<Editions<Compiled, BoardRoom>>,
         request: Request<'_>,
         steps: &mut Steps<L>,
     ) -> Option<Reply>

@@ -10,7 +10,7 @@ ghost use Rattle.run_model.specs.DeskLines as Spec;
 
 use crate::desk::Desk;
 use crate::draft::Draft;
-use edition::{Edition, SaveFault};
+use edition::{Compiled, Edition, SaveFault};
 use edition_register::{AddFault, Editions, Register};
 use fold_state::BoardRoom;
 use mib_model::Steps;
@@ -20,25 +20,19 @@ use std::sync::ledger::Ledger;
 use std::sync::{Arc, Wait};
 use turn_cell::Seat;
 
-/// An edition of the draft, ready to be added, with a handle for the draft's base, and how many plans were compiled.
+/// An edition of the draft, which may be its base, and how many plans were compiled.
 #[derive(Drop)]
 pub struct Ready {
-    pub payload: Arc<Edition>,
-    pub base: Arc<Edition>,
+    pub edition: Arc<Edition>,
     pub plans: u32,
 }
 
-// Two handles of one edition.
-fn two_handles(alloc: Global, edition: Edition, plans: u32) -> Result<Ready, AllocError>
+// An edition behind a handle.
+fn behind_handle(alloc: Global, edition: Edition, plans: u32) -> Result<Ready, AllocError>
     ensures { IfOk result (IsReady edition plans) }
 {
-    let payload = Arc::new(alloc, edition)?;
-    let base = Arc::try_clone(&payload)?;
-    Ok(Ready {
-        payload,
-        base,
-        plans,
-    })
+    let edition = Arc::new(alloc, edition)?;
+    Ok(Ready { edition, plans })
 }
 
 /// The edition of a draft, or the reply to a draft that is none.
@@ -51,7 +45,7 @@ pub fn amended<L: Ledger>(
     ensures steps { IfOk result (λ r. steps.new ≡ steps.old + r.plans) }
 {
     match draft.amended(alloc, steps) {
-        Ok(amended) => match two_handles(alloc, amended.edition, amended.plans) {
+        Ok(amended) => match behind_handle(alloc, amended.edition, amended.plans) {
             Ok(ready) => Ok(ready),
             Err(_) => Err(Reply::Want),
         },
@@ -69,8 +63,8 @@ impl Desk {
         &mut self,
         rt: &R,
         alloc: Global,
-        register: &Register<Edition, BoardRoom>,
-        seat: &mut Seat<Editions<Edition, BoardRoom>>,
+        register: &Register<Compiled, BoardRoom>,
+        seat: &mut Seat<Editions<Compiled, BoardRoom>>,
         steps: &mut Steps<L>,
     ) -> Reply
         requires seat { IsSeat 1 register.now seat.old }
@@ -87,16 +81,19 @@ impl Desk {
             Ok(ready) => ready,
             Err(reply) => return reply,
         };
-        let Ok(kept) = Arc::try_clone(&ready.payload) else {
+        let Ok(payload) = Arc::try_clone(ready.edition.plans()) else {
+            return Reply::Want;
+        };
+        let Ok(kept) = Arc::try_clone(&payload) else {
             return Reply::Want;
         };
         let Ok(()) = self.editions.reserve(1) else {
             return Reply::Want;
         };
-        match register.add(rt, seat, ready.payload) {
+        match register.add(rt, seat, payload) {
             Ok(edition) => {
                 self.editions.push_reserved(kept);
-                self.draft.rebase(ready.base);
+                self.draft.rebase(ready.edition);
                 self.edition = edition;
                 Reply::Saved {
                     edition,

@@ -10,18 +10,23 @@ ghost use Rattle.desk.specs.Using.{used_reply};
 ghost use Rattle.run_model.specs.DeskLines as Spec;
 
 use crate::desk::Desk;
-use edition::Edition;
+use edition::Compiled;
 use edition_plans::Plans;
 use edition_register::{Editions, Register, Start, UseFault};
 use fold_state::BoardRoom;
+use mib_model::Rows;
 use run_model::Reply;
 use std::alloc::{AllocError, Global};
 use std::sync::{Arc, Wait};
 use turn_cell::Seat;
 
 /// What an activation of an edition hands in.
-pub fn start(alloc: Global, handle: &Arc<Edition>) -> Result<Start<Edition, BoardRoom>, AllocError>
-    ensures { IfOk result (λ start. IsStart (λ e. e) is_made_for (arc_value handle.now) start) }
+pub fn start<E: Plans + Rows + Drop>(
+    alloc: Global,
+    handle: &Arc<E>,
+) -> Result<Start<E, BoardRoom>, AllocError>
+    requires same { (plans : E) → E.Rows.tables plans ≡ E.Structures.tables plans }
+    ensures { IfOk result (λ start. IsStart E.Rows.tables is_made_for (E.Rows.tables (arc_value handle.now)) start) }
 {
     let handle = Arc::try_clone(handle)?;
     let board = BoardRoom::new(alloc, handle.params())?;
@@ -29,7 +34,7 @@ pub fn start(alloc: Global, handle: &Arc<Edition>) -> Result<Start<Edition, Boar
 }
 
 /// The reply to an activation.
-pub fn reply_of(edition: u32, answer: Result<u64, UseFault<Edition, BoardRoom>>) -> Reply
+pub fn reply_of<E: Rows + Drop>(edition: u32, answer: Result<u64, UseFault<E, BoardRoom>>) -> Reply
     ensures { result ≡ used_reply edition answer }
 {
     match answer {
@@ -50,7 +55,7 @@ impl Desk {
         &self,
         alloc: Global,
         edition: u32,
-    ) -> Result<Option<Start<Edition, BoardRoom>>, AllocError>
+    ) -> Result<Option<Start<Compiled, BoardRoom>>, AllocError>
         ensures { IfOk result (λ start. StartFits (λ e. e) is_made_for (editions_of self.now) edition start) }
     {
         if edition == 0 || edition as usize > self.editions.len() {
@@ -64,8 +69,8 @@ impl Desk {
         &mut self,
         rt: &R,
         alloc: Global,
-        register: &Register<Edition, BoardRoom>,
-        seat: &mut Seat<Editions<Edition, BoardRoom>>,
+        register: &Register<Compiled, BoardRoom>,
+        seat: &mut Seat<Editions<Compiled, BoardRoom>>,
         edition: u32,
     ) -> Reply
         requires seat { IsSeat 1 register.now seat.old }
@@ -88,8 +93,8 @@ impl Desk {
         &mut self,
         rt: &R,
         alloc: Global,
-        register: &Register<Edition, BoardRoom>,
-        seat: &mut Seat<Editions<Edition, BoardRoom>>,
+        register: &Register<Compiled, BoardRoom>,
+        seat: &mut Seat<Editions<Compiled, BoardRoom>>,
         edition: u32,
         from: u64,
     ) -> Reply

@@ -8,6 +8,7 @@ ghost use Rattle.tool_objects.specs.Objects.{shelf, sink};
 ghost use Rattle.tool_words.specs.Panels.{panel_in};
 
 use crate::panel::panel;
+use edition::Edition;
 use live_session::Status;
 use panel_session::Station;
 use run_model::Code;
@@ -38,7 +39,7 @@ pub fn panel_tool<
     desks: &mut [Station<D, R>],
     out: &mut O,
     gate: &G,
-) -> Status
+) -> Status<Edition>
     requires four { length desks.old ≡ 4 }
 
     // Wrong words are answered before any object is called, unless memory runs out first.

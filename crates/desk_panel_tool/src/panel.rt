@@ -9,6 +9,7 @@ ghost use Rattle.tool_objects.specs.Objects.{shelf, sink};
 ghost use Rattle.tool_words.specs.Panels.{words_by};
 
 use crate::inputs::open_inputs;
+use edition::Edition;
 use live_session::Status;
 use packet_run::MOST_WORKERS;
 use panel_session::{Station, panel_run};
@@ -37,7 +38,7 @@ pub(crate) fn panel<
     desks: &mut [Station<D, R>],
     out: &mut O,
     gate: &G,
-) -> Status
+) -> Status<Edition>
     requires desks { length desks.old ≡ length request.now.desks.items }
     ensures panels { Paneled result.code (option_map history_of result.closed) (words_by request.now)
         (shelf tables.old tables.new T.holds T.left T.faults T.missed)

@@ -1,4 +1,5 @@
 ghost use Rattle.std.specs.Prelude.{◌≡◌, ◌==◌, ◌+◌, IfErr, IfOk, OnOk, length, option_and_then};
+ghost use Rattle.std.specs.Arc.{arc_value};
 ghost use Rattle.std.specs.List.{find};
 ghost use Rattle.std.specs.Option.{option_copied};
 ghost use Rattle.edition.specs.Faults.{Refuses};
@@ -22,13 +23,14 @@ use param_plan::Params;
 use std::alloc::{AllocError, Global};
 use std::marker::Model;
 use std::snapshot::Snapshot;
+use std::sync::Arc;
 use std::sync::ledger::Ledger;
 use struct_plan::{Structure, Structures};
 
 /// Sound tables with their plans. Contracts see the database of the tables.
 pub struct Edition {
     book: Book,
-    plans: Compiled,
+    plans: Arc<Compiled>,
 }
 
 /// By hand, so that whoever lets one go proves one call.
@@ -43,6 +45,7 @@ impl Drop for Edition {
 
 impl Model for Edition {
     ghost use Rattle.std.specs.Prelude.{◌≡◌};
+    ghost use Rattle.std.specs.Arc.{arc_value};
     ghost use Rattle.mib_model.specs.declared.database.Database.{Database};
     ghost use Rattle.mib_model.specs.Soundness.{IsSound};
 
@@ -50,7 +53,7 @@ impl Model for Edition {
 
     ghost view = { λ edition. edition.book };
 
-    ghost invariant = { λ edition. IsSound edition.book × (edition.plans ≡ edition.book) };
+    ghost invariant = { λ edition. IsSound edition.book × (arc_value edition.plans ≡ edition.book) };
 }
 
 /// An edition, how many of its plans were compiled, not shared with the base, and their names, in the order of all plans.
@@ -77,7 +80,10 @@ impl Edition {
             titles: titles_of(alloc, book.tpcf())?,
             book: Snapshot::of(&book),
         };
-        Ok(Edition { book, plans })
+        Ok(Edition {
+            book,
+            plans: Arc::new(alloc, plans)?,
+        })
     }
 
     // Compiles the plans of a sound book, of which those of the same rows are shared with a base.
@@ -95,7 +101,7 @@ impl Edition {
         ensures touched { IfOk result (λ amended. amended.touched.items ≡ touched base.now book.now) }
         ensures steps { OnOk result (steps.new ≡ steps.old + length (touched base.now book.now)) }
     {
-        let held = &base.plans;
+        let held = &*base.plans;
         let MadeSets { sets, touched } = PlanSets::beside(
             alloc, &held.sets, &base.book, same, book, steps,
         )?;
@@ -107,7 +113,7 @@ impl Edition {
         Ok(Amended {
             edition: Edition {
                 book: book.copy()?,
-                plans,
+                plans: Arc::new(alloc, plans)?,
             },
             plans: touched.len() as u32,
             touched,
@@ -177,9 +183,16 @@ impl Edition {
         &self.book
     }
 
+    /// Its plans, without the tables.
+    pub fn plans(&self) -> &Arc<Compiled>
+        ensures { arc_value result.now ≡ self.now }
+    {
+        &self.plans
+    }
+
     /// Its plans alone: the tables are let go.
-    pub fn into_plans(self) -> Compiled
-        ensures { result ≡ self }
+    pub fn into_plans(self) -> Arc<Compiled>
+        ensures { arc_value result ≡ self }
     {
         let Edition { book: _book, plans } = self;
         plans

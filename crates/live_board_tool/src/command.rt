@@ -7,7 +7,7 @@ ghost use Rattle.tool_objects.specs.Objects.{shelf, sink};
 ghost use Rattle.tool_words.specs.Boards.{board_in};
 
 use crate::board::{BoardCall, board};
-use edition::Edition;
+use edition::Compiled;
 use edition_register::Closed;
 use fold_state::BoardRoom;
 use live_session::Host;
@@ -22,7 +22,7 @@ use tool_words::{WordsFault, board_request_in};
 #[derive(Drop)]
 pub struct BoardStatus {
     pub code: BoardCode,
-    pub closed: Option<Closed<Edition, BoardRoom>>,
+    pub closed: Option<Closed<Compiled, BoardRoom>>,
 }
 
 impl BoardStatus {

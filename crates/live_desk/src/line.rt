@@ -18,7 +18,6 @@ ghost use Rattle.turn_cell.specs.Seats.{own_moves, seen_by};
 use crate::desk_end::DeskEnd;
 use crate::operator::{Operator, Place};
 use desk_lines::{DeskReader, LINE_ROOM, NextLine, Request, request_of};
-use edition::Edition;
 use edition_register::Editions;
 use fold_state::BoardRoom;
 use mib_model::{Line, Steps};
@@ -68,8 +67,8 @@ fn write_given<P: Sink>(line: &Option<Line>, replies: &mut P) -> Result<(), Fail
 
 // Handles a line, and writes its reply.
 fn handle<L: Ledger, R: Wait, O: Operator, P: Sink>(
-    place: &Place<'_, R>,
-    seat: &mut Seat<Editions<Edition, BoardRoom>>,
+    place: &Place<'_, O::Plans, R>,
+    seat: &mut Seat<Editions<O::Plans, BoardRoom>>,
     operator: &mut O,
     line: &[u8],
     replies: &mut P,
@@ -108,8 +107,8 @@ fn end_at_limit<O: Operator, P: Sink>(desk: u8, replies: &mut P) -> DeskEnd
 
 /// Handles the next line of a script, and writes its reply; at the script's limit the line of it.
 pub(crate) fn next_line<L: Ledger, R: Wait, O: Operator, D: Source, P: Sink>(
-    place: &Place<'_, R>,
-    seat: &mut Seat<Editions<Edition, BoardRoom>>,
+    place: &Place<'_, O::Plans, R>,
+    seat: &mut Seat<Editions<O::Plans, BoardRoom>>,
     operator: &mut O,
     reader: &mut DeskReader<D>,
     buffer: &mut [u8],

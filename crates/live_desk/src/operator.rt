@@ -8,10 +8,9 @@ ghost use Rattle.run_model.specs.RegisterHistories.{RegisterHistory};
 ghost use Rattle.run_model.specs.Replies.{desk_line};
 ghost use Rattle.turn_cell.specs.Seats.{own_moves, seen_by};
 
-use edition::Edition;
 use edition_register::{Editions, Register};
 use fold_state::BoardRoom;
-use mib_model::{Line, Steps};
+use mib_model::{Line, Rows, Steps};
 use run_model::Reply;
 use std::alloc::Global;
 use std::sync::Wait;
@@ -19,15 +18,15 @@ use std::sync::ledger::Ledger;
 use turn_cell::Seat;
 
 /// Where a desk works: at this register, under this number of its seat.
-pub struct Place<'a, R> {
+pub struct Place<'a, E: Rows + Drop, R> {
     pub rt: &'a R,
     pub alloc: Global,
-    pub register: &'a Register<Edition, BoardRoom>,
+    pub register: &'a Register<E, BoardRoom>,
     pub desk: u8,
 }
 
 /// By hand, so that it asks nothing of `R`.
-impl<'a, R> Drop for Place<'a, R> {
+impl<'a, E: Rows + Drop, R> Drop for Place<'a, E, R> {
     fn drop(self) {
         let Place {
             rt: _,
@@ -40,6 +39,9 @@ impl<'a, R> Drop for Place<'a, R> {
 
 /// Who handles the lines of a desk: of a single one, or of one of several.
 pub trait Operator {
+    /// What its register has of each edition.
+    type Plans: Rows + Drop;
+
     /// Whether it is one of several.
     ghost several: { Bool };
 
@@ -53,8 +55,8 @@ pub trait Operator {
     /// register where the line enters something.
     fn handle_line<L: Ledger, R: Wait>(
         &mut self,
-        place: &Place<'_, R>,
-        seat: &mut Seat<Editions<Edition, BoardRoom>>,
+        place: &Place<'_, Self::Plans, R>,
+        seat: &mut Seat<Editions<Self::Plans, BoardRoom>>,
         line: &[u8],
         steps: &mut Steps<L>,
     ) -> Option<Line>

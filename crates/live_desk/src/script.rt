@@ -14,7 +14,6 @@ use crate::desk_end::DeskEnd;
 use crate::line::{Came, next_line};
 use crate::operator::{Operator, Place};
 use desk_lines::DeskReader;
-use edition::Edition;
 use edition_register::Editions;
 use fold_state::BoardRoom;
 use mib_model::Steps;
@@ -33,8 +32,8 @@ fn is_awaited(go: bool, until_go: bool) -> bool
 
 /// Handles the lines of a script to its end, or up to and with a `go` where that is to be waited for: then there is no end.
 pub(crate) fn handle_lines<L: Ledger, R: Wait, O: Operator, D: Source, P: Sink>(
-    place: &Place<'_, R>,
-    seat: &mut Seat<Editions<Edition, BoardRoom>>,
+    place: &Place<'_, O::Plans, R>,
+    seat: &mut Seat<Editions<O::Plans, BoardRoom>>,
     operator: &mut O,
     reader: &mut DeskReader<D>,
     buffer: &mut [u8],

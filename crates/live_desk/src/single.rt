@@ -5,7 +5,7 @@ ghost use Rattle.run_model.specs.Replies.{reply_text};
 
 use crate::operator::{Operator, Place};
 use desk::Desk;
-use edition::Edition;
+use edition::Compiled;
 use edition_register::Editions;
 use fold_state::BoardRoom;
 use mib_model::{Line, Steps};
@@ -25,6 +25,8 @@ fn line_of(reply: &Reply) -> Line
 }
 
 impl Operator for Desk {
+    type Plans = Compiled;
+
     ghost use Rattle.desk.specs.State.{desk_of, editions_of};
 
     ghost several = { false };
@@ -35,8 +37,8 @@ impl Operator for Desk {
 
     fn handle_line<L: Ledger, R: Wait>(
         &mut self,
-        place: &Place<'_, R>,
-        seat: &mut Seat<Editions<Edition, BoardRoom>>,
+        place: &Place<'_, Compiled, R>,
+        seat: &mut Seat<Editions<Compiled, BoardRoom>>,
         line: &[u8],
         steps: &mut Steps<L>,
     ) -> Option<Line> {

@@ -13,7 +13,6 @@ use crate::desk_end::DeskEnd;
 use crate::operator::{Operator, Place};
 use crate::script::handle_lines;
 use desk_lines::{DeskReader, LINE_ROOM};
-use edition::Edition;
 use edition_register::Editions;
 use fold_state::BoardRoom;
 use mib_model::Steps;
@@ -25,8 +24,8 @@ use turn_cell::Seat;
 
 // Handles the lines of a script, and counts the plans that are compiled on a ledger of its own.
 fn work_counted<L: Ledger, R: Wait, O: Operator, D: Source, P: Sink>(
-    place: &Place<'_, R>,
-    seat: &mut Seat<Editions<Edition, BoardRoom>>,
+    place: &Place<'_, O::Plans, R>,
+    seat: &mut Seat<Editions<O::Plans, BoardRoom>>,
     operator: &mut O,
     reader: &mut DeskReader<D>,
     replies: &mut P,
@@ -63,8 +62,8 @@ fn work_counted<L: Ledger, R: Wait, O: Operator, D: Source, P: Sink>(
 
 /// Handles the lines of a script to its end, or up to and with a `go` where that is to be waited for: then there is no end.
 pub fn work<R: Wait, O: Operator, D: Source, P: Sink>(
-    place: &Place<'_, R>,
-    seat: &mut Seat<Editions<Edition, BoardRoom>>,
+    place: &Place<'_, O::Plans, R>,
+    seat: &mut Seat<Editions<O::Plans, BoardRoom>>,
     operator: &mut O,
     reader: &mut DeskReader<D>,
     replies: &mut P,

@@ -141,11 +141,11 @@ sets-send = search (ident-sync, ident-send, keyed-send, crosses, sendable) depth
 pub compiled-sync : IsSync Compiled.the_row
 compiled-sync = search (sets-sync, map_crosses, crosses, sendable) depth 60 fits 20000
 
-compiled-send : IsSend Compiled.the_row
+pub compiled-send : IsSend Compiled.the_row
 compiled-send = search (sets-send, map_crosses, crosses, sendable) depth 60 fits 20000
 
 pub edition-sync : IsSync Edition.the_row
-edition-sync = search (compiled-sync, book-sync, crosses, sendable) depth 60 fits 20000
+edition-sync = search (compiled-sync, compiled-send, book-sync, crosses, sendable) depth 60 fits 20000
 
 pub edition-send : IsSend Edition.the_row
-edition-send = search (compiled-send, book-send, crosses, sendable) depth 60 fits 20000
+edition-send = search (compiled-sync, compiled-send, book-send, crosses, sendable) depth 60 fits 20000

@@ -38,18 +38,18 @@ use Rattle.turn_cell.specs.declared.view.View.{View}
 use Rattle.turn_cell.specs.Seats.{own_moves}
 
 -- the first edition waits for its run with a board that keeps nothing, and no run was made with the stock
-pub record IsReady {plans : Structures.Ghosts Database} (first : Database) (start : Option (Start Database Slots)) (stock : Stock Database plans) : Type 0 where
-  pub begins : IsSomeAnd start (λ start. IsStart (λ edition. edition) is_made_for first start × (memory_of start.board ≡ empty_memory))
+pub record IsReady {E : Type 0} {plans : Structures.Ghosts E} (tables : E → Database) (first : Database) (start : Option (Start E Slots)) (stock : Stock E plans) : Type 0 where
+  pub begins : IsSomeAnd start (λ start. IsStart tables is_made_for first start × (memory_of start.board ≡ empty_memory))
   pub fresh : IsFresh stock
   pub home : rooms_out stock ≡ 0
 
 module _ {E B P Q : Type 0} {rows : Rows.Ghosts E} {boards : MadeFor.Ghosts B} where
   -- an intake has its seat at the register and has stamped nothing, and its run is ready
-  pub record IsIntakeReady {plans : Structures.Ghosts Database} (register : Over (Lock P (View Register Entry Answer) (About (Editions E B rows boards)) Q))
-      (seat : RegisterSeat P) (start : Option (Start Database Slots)) (stock : Stock Database plans) : Type 0 where
+  pub record IsIntakeReady {plans : Structures.Ghosts E} (register : Over (Lock P (View Register Entry Answer) (About (Editions E B rows boards)) Q))
+      (seat : RegisterSeat P) (start : Option (Start E Slots)) (stock : Stock E plans) : Type 0 where
     pub seated : IsSeat 0 register seat
     pub unused : own_moves seat ≡ []
-    pub ready : IsReady (first_of register) start stock
+    pub ready : IsReady rows.tables (first_of register) start stock
 
   -- a desk has its seat at the register and has entered nothing; its draft is edition 1, the one edition that it has
   pub record IsDeskReady (register : Over (Lock P (View Register Entry Answer) (About (Editions E B rows boards)) Q))

@@ -20,7 +20,7 @@ use crate::opening::LiveRun;
 use crate::sides::{IntakeSide, SeatedDesk, run_intake};
 use decode_session::{RunEnd, RunFault};
 use desk_lines::DeskReader;
-use edition::Edition;
+use edition::{Compiled, Edition};
 use edition_register::Closed;
 use fold_state::BoardRoom;
 use live_desk::{DeskEnd, Place, work};
@@ -36,7 +36,7 @@ use tm_io::{Gate, Sink, Source};
 #[derive(Drop)]
 pub struct Lived {
     pub code: Code,
-    pub closed: Closed<Edition, BoardRoom>,
+    pub closed: Closed<Compiled, BoardRoom>,
 }
 
 /// A live run that was watched: how it ended, and its watch.
@@ -56,9 +56,9 @@ fn run_both<
     G: Gate + Sync,
     W: Watch,
 >(
-    place: &Place<'_, R>,
+    place: &Place<'_, Compiled, R>,
     gate: &G,
-    intake: &mut IntakeSide<W>,
+    intake: &mut IntakeSide<Compiled, W>,
     side: &mut SeatedDesk,
     reader: &mut DeskReader<D>,
     feed: &mut F,
@@ -108,9 +108,9 @@ fn run<
     G: Gate + Sync,
     W: Watch,
 >(
-    place: &Place<'_, R>,
+    place: &Place<'_, Compiled, R>,
     gate: &G,
-    intake: &mut IntakeSide<W>,
+    intake: &mut IntakeSide<Compiled, W>,
     side: &mut SeatedDesk,
     reader: &mut DeskReader<D>,
     feed: &mut F,

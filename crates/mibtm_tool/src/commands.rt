@@ -17,6 +17,7 @@ use crate::check::check;
 use crate::decode::decode;
 use crate::drill::drill;
 use crate::live::{LiveRequest, live};
+use edition::Compiled;
 use live_session::{Host, Status};
 use run_model::{Code, Input};
 use std::alloc::Global;
@@ -49,7 +50,7 @@ pub fn tool<
     out: &mut O,
     replies: &mut R,
     gate: &G,
-) -> Status
+) -> Status<Compiled>
     // Wrong words are answered before any object is called, unless memory runs out first.
     ensures misuse { IfErr (command_of (map string_bytes words.now)) (λ misuse. (result.code ≡ Code.Usage misuse) ⊎ (result.code ≡ Code.Want)) }
     ensures uncalled { IfErr (command_of (map string_bytes words.now)) (λ misuse.

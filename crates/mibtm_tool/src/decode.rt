@@ -32,7 +32,7 @@ pub(crate) fn decode<T: Shelf, F: Shelf, O: Sink, X: Threads + Sync>(
         Err(refusal) => return Code::from(refusal),
     };
     match feed.aim(name) {
-        Ok(true) => run_code(decode_run(rt, alloc, &plans, feed, out, workers.max(1))),
+        Ok(true) => run_code(decode_run(rt, alloc, &*plans, feed, out, workers.max(1))),
         Ok(false) => Code::NoFile(Input::Feed),
         Err(_) => Code::FeedFault,
     }

@@ -56,7 +56,7 @@ fn drill_text<X: Threads + Sync>(rt: &X, alloc: Global, seed: u64) -> Result<Vec
     ensures { IfOk result (λ text. text.items ≡ drill_summary seed) }
 {
     let plans = drill_edition(alloc)?.into_plans();
-    drill_counts(rt, alloc, &plans, seed)?.summary(alloc)
+    drill_counts(rt, alloc, &*plans, seed)?.summary(alloc)
 }
 
 /// Prints the summary of the generated run of a seed.

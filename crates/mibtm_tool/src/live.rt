@@ -5,7 +5,7 @@ ghost use Rattle.mibtm_tool.specs.Live.{LivedBeside};
 ghost use Rattle.mibtm_tool.specs.Statement.{LivedBy, TellsItsEnd, names, shelves};
 ghost use Rattle.tool_objects.specs.Objects.{shelf, sink};
 
-use edition::Edition;
+use edition::{Compiled, Edition};
 use folder_edition::{folder_edition, let_go};
 use live_session::{Host, Lived, Status, live_run};
 use packet_run::MOST_WORKERS;
@@ -39,7 +39,7 @@ fn live_beside<
     desk: &mut D,
     out: &mut O,
     replies: &mut P,
-) -> Status
+) -> Status<Compiled>
     ensures lives { LivedBeside result.code (option_map history_of result.closed) edition asked.now.desk.now
         (shelf feed.old feed.new F.holds F.left F.faults F.missed)
         (shelf desk.old desk.new D.holds D.left D.faults D.missed)
@@ -87,7 +87,7 @@ pub(crate) fn live<
     desk: &mut D,
     out: &mut O,
     replies: &mut P,
-) -> Status
+) -> Status<Compiled>
     ensures lives { LivedBy result.code (option_map history_of result.closed) (names asked.now.folder.now asked.now.feed.now asked.now.desk.now)
         (shelves (shelf tables.old tables.new T.holds T.left T.faults T.missed)
         (shelf feed.old feed.new F.holds F.left F.faults F.missed)

@@ -35,6 +35,8 @@ fn line_of(desk: u8, reply: &PanelReply) -> Line
 }
 
 impl Operator for PanelDesk {
+    type Plans = Edition;
+
     ghost use Rattle.panel_desk.specs.State.{panel_state};
 
     ghost several = { true };
@@ -45,7 +47,7 @@ impl Operator for PanelDesk {
 
     fn handle_line<L: Ledger, R: Wait>(
         &mut self,
-        place: &Place<'_, R>,
+        place: &Place<'_, Edition, R>,
         seat: &mut Seat<Editions<Edition, BoardRoom>>,
         line: &[u8],
         steps: &mut Steps<L>,
@@ -66,7 +68,7 @@ impl PanelDesk {
     /// reply begins with the number of the place.
     pub fn work<R: Wait, D: Source, P: Sink>(
         &mut self,
-        place: &Place<'_, R>,
+        place: &Place<'_, Edition, R>,
         seat: &mut Seat<Editions<Edition, BoardRoom>>,
         reader: &mut DeskReader<D>,
         replies: &mut P,

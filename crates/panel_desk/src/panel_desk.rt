@@ -136,9 +136,12 @@ impl PanelDesk {
             Ok(ready) => ready,
             Err(reply) => return PanelReply::Plain(reply),
         };
-        match register.add_on(rt, seat, self.edition, ready.payload) {
+        let Ok(payload) = Arc::try_clone(&ready.edition) else {
+            return PanelReply::Plain(Reply::Want);
+        };
+        match register.add_on(rt, seat, self.edition, payload) {
             Ok(edition) => {
-                self.draft.rebase(ready.base);
+                self.draft.rebase(ready.edition);
                 self.edition = edition;
                 PanelReply::Plain(Reply::Saved {
                     edition,

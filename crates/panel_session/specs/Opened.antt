@@ -27,7 +27,7 @@ first_in run = first_of run.register
 pub record IsOpened (desks : ℕ) (run : PanelRun) : Type 0 where
   pub intake : IsSeat 0 run.register run.intake.seat
   pub unused : own_moves run.intake.seat ≡ []
-  pub ready : IsReady (first_in run) run.intake.first run.intake.stock
+  pub ready : IsReady (λ edition. edition) (first_in run) run.intake.first run.intake.stock
   pub seats : AreDesksFrom 1 run.register (map (λ side. side.seat) run.sides.items)
   pub unmoved : AllByRecursion (λ seat. own_moves seat ≡ []) (map (λ side. side.seat) run.sides.items)
   pub many : length run.sides.items ≡ desks

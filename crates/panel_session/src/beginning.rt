@@ -18,7 +18,7 @@ use turn_cell::Seat;
 // Handles the lines of a desk up to and with its first `go`, or to the end of its script where there is none, before a packet is
 // stamped. What the intake has seen before stands in the history before the desk's lines; it has then seen those too.
 fn begin<R: Wait, S: Post>(
-    place: &Place<'_, R>,
+    place: &Place<'_, Edition, R>,
     intake: &mut Seat<Editions<Edition, BoardRoom>>,
     side: &mut DeskSide,
     station: &mut S,
@@ -38,7 +38,7 @@ fn begin<R: Wait, S: Post>(
 
 /// Handles the first lines of each desk from that of the place on, in their order.
 pub(crate) fn begin_all<R: Wait, S: Post>(
-    place: &Place<'_, R>,
+    place: &Place<'_, Edition, R>,
     intake: &mut Seat<Editions<Edition, BoardRoom>>,
     sides: &mut [DeskSide],
     stations: &mut [S],

@@ -18,7 +18,7 @@ use turn_cell::Seat;
 #[derive(Drop)]
 pub(crate) struct PanelRun {
     pub register: Register<Edition, BoardRoom>,
-    pub intake: IntakeSide<NoWatch>,
+    pub intake: IntakeSide<Edition, NoWatch>,
     pub sides: Vec<DeskSide>,
     pub room: Vec<Seat<Editions<Edition, BoardRoom>>>,
 }
@@ -37,7 +37,7 @@ impl PanelRun {
         ensures first { IfOk result (λ run. first_in run ≡ first) }
     {
         let stock = Stock::new(alloc, first.params(), workers)?;
-        let start = at_first(alloc, first)?;
+        let start = at_first(alloc, Arc::new(alloc, first)?)?;
         let room = Vec::with_capacity(alloc, desks as usize)?;
         let (register, intake, seats) = Register::with_desks(
             alloc,

@@ -41,7 +41,7 @@ pub struct PanelLived {
 // Ends a run: its code, and its register closed.
 fn finish(
     register: Register<Edition, BoardRoom>,
-    intake: IntakeSide<NoWatch>,
+    intake: IntakeSide<Edition, NoWatch>,
     sides: Vec<DeskSide>,
     room: Vec<Seat<Editions<Edition, BoardRoom>>>,
     ended: Result<RunEnd, RunFault>,

@@ -7,6 +7,7 @@ ghost use Rattle.turn_cell.specs.Seats.{seen_by};
 
 use crate::side::DeskSide;
 use desk_lines::DeskReader;
+use edition::Edition;
 use live_desk::Place;
 use std::sync::Wait;
 use tm_io::{Sink, Source};
@@ -24,7 +25,7 @@ pub trait Post {
     ghost seen: { Self → Seen };
 
     /// Handles the lines of the script from where its reading stands, to its end, or up to and with a `go` where that is to be waited for.
-    fn work<R: Wait>(&mut self, place: &Place<'_, R>, side: &mut DeskSide, until_go: bool)
+    fn work<R: Wait>(&mut self, place: &Place<'_, Edition, R>, side: &mut DeskSide, until_go: bool)
         requires seat { IsDeskSeat place.now.desk place.now.register.now side.old.seat }
         requires room { HasRoom (lane_of side.old (seen self.old)) }
         ensures seat { IsDeskSeat place.now.desk place.now.register.now side.new.seat }
@@ -44,7 +45,12 @@ impl<D: Source, P: Sink> Post for Station<D, P> {
       reply_faults = P.faults station.replies;
     } };
 
-    fn work<R: Wait>(&mut self, place: &Place<'_, R>, side: &mut DeskSide, until_go: bool) {
+    fn work<R: Wait>(
+        &mut self,
+        place: &Place<'_, Edition, R>,
+        side: &mut DeskSide,
+        until_go: bool,
+    ) {
         let mut reader = DeskReader::resume(&mut self.desk, side.read);
         side.end = side.desk.work(
             place,

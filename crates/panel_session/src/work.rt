@@ -110,9 +110,9 @@ pub(crate) fn run_desks<
     G: Gate + Sync,
     W: Watch,
 >(
-    place: &Place<'_, R>,
+    place: &Place<'_, Edition, R>,
     gate: &G,
-    intake: &mut IntakeSide<W>,
+    intake: &mut IntakeSide<Edition, W>,
     feed: &mut F,
     out: &mut O,
     sides: &mut [DeskSide],

@@ -1,3 +1,4 @@
+use denote.Param.Send.{sendable}
 use Rattle.std.proofs.Common.{◌≡◌, [], Option, None, false, sym, ap, subst, ◌∙◌}
 use Rattle.desk.specs.State.{desk_of}
 use Rattle.edition_register.specs.Seats.{first_of}
@@ -6,6 +7,7 @@ use Rattle.live_desk.specs.declared.desk_end.DeskEnd.{DeskEnd}
 use Rattle.live_desk.specs.Scripts.{DeskedFrom, EndsEarly, Worked}
 use Rattle.live_desk.specs.Standing.{Standing, standing_of}
 use Rattle.live_desk.proofs.DeskFacts.{desked-both, desked-early}
+use Rattle.live_session.proofs.SharedEdition.{compiled-send, compiled-sync}
 use Rattle.live_session.proofs.live.run.Goals as goal
 use Rattle.run_model.specs.RegisterHistories.{RegisterHistory}
 use Rattle.turn_cell.specs.Seats.{own_moves, seen_by}
@@ -40,3 +42,9 @@ returns-in-None-clause-desked g c =
     (desked-both None e first all front (seen_by begun.seat) c.run_both-ended.ensures.intake.1 none c.meet.ensures.intake.1 before middle after own c.requires.start c.requires.desk.unused c.requires.desk.draft c.in-None.ensures.worked
     (subst (λ (o : RegisterHistory). EndsEarly None false e (moved middle o) after) c.meet.ensures.own.1
     (subst (λ (r : Option DeskEnd). Worked None false r (moved middle (own_moves c.meet.new.desk)) after) c.in-Some-rest.is c.run_both-ended.ensures.worked))).0
+
+pub run_intake-ended-requires-send-E : goal.run_intake-ended-requires-send-E
+run_intake-ended-requires-send-E g c κs within = search (compiled-send, sendable) depth 9
+
+pub run_intake-ended-requires-sync-E : goal.run_intake-ended-requires-sync-E
+run_intake-ended-requires-sync-E g c κs within = search (compiled-sync, sendable) depth 9

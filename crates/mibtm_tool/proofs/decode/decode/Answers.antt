@@ -20,7 +20,7 @@ returns-in-Ok-true g c =
       octets = g.F.Source.left c.aim.new.self;
       of_feed = stood_at (g.F.Source.holds c.args.feed.now) c.args.name.now c.in-Ok-true.field-0 (g.F.Source.left c.aim.new.self)
           c.in-Ok-true.field-0-test c.in-Ok-true.ensures.held c.in-Ok-true.ensures.left;
-      ran = rw (c.into_plans-plans.ensures, same) at c.decode_run.ensures.ran;
+      ran = rw (c.deref.ensures ∙ c.into_plans-plans.ensures, same) at c.decode_run.ensures.ran;
     })
     (rw same at c.decode_run.ensures.feed) c.decode_run.ensures.out c.decode_run.ensures.handed (λ wanting. (c.decode_run.ensures.untouched wanting).1))
 

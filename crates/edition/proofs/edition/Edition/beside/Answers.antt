@@ -7,7 +7,7 @@ pub returns : goal.returns
 returns g c =
     let old : Database = c.args.base.now in
     let new : Database = c.args.book.now in
-    let base : c.held.inside.sets ≡ old = c.held.invariant.1 ∙ c.held.view_is ∙ c.base.invariant.1 ∙ c.base.view_is in
+    let base : c.held.inside.sets ≡ old = c.held.invariant.1 ∙ c.held.view_is ∙ c.deref-held.ensures ∙ c.base.invariant.1 ∙ c.base.view_is in
     let count = ap (λ (db : Database). length (touched db new)) base in
     let names = c.in_ok-sets.ensures.touched ∙ ap (λ (db : Database). touched db new) base in
     record {
