@@ -17,6 +17,7 @@ use decode_pool::run_batch;
 use edition_plans::Plans;
 use packet_feed::{Feed, packet_at};
 use param_state::Demand;
+use record_text::Lines;
 use std::alloc::{AllocError, Global};
 use std::sync::Mutex;
 use std::thread::Threads;
@@ -107,14 +108,14 @@ fn jobs_for(workers: u8) -> usize
     if workers == 1 { 0 } else { MOST_JOBS }
 }
 
-// So many jobs. An error is want of memory.
-fn new_jobs(alloc: Global, count: usize) -> Result<Vec<DrawingJob>, AllocError>
+// So many jobs, whose sheets share the texts of small numbers. An error is want of memory.
+fn new_jobs(alloc: Global, count: usize, lines: &Lines) -> Result<Vec<DrawingJob>, AllocError>
     ensures count { IfOk result (λ jobs. vec_len jobs ≡ count) }
     ensures unused { IfOk result (λ jobs. All IsUnused jobs.items) }
 {
     let mut jobs = Vec::with_capacity(alloc, count)?;
     for _job in 0..count {
-        jobs.push(DrawingJob::new(alloc)?)?;
+        jobs.push(DrawingJob::new(alloc, lines)?)?;
     }
     Ok(jobs)
 }
@@ -134,12 +135,17 @@ fn new_tools<P: Plans>(
 
 impl DrawnAhead {
     /// No packets, and room for those of so many workers: none for one, who draws none. An error is want of memory.
-    pub fn new<P: Plans>(alloc: Global, plans: &P, workers: u8) -> Result<DrawnAhead, AllocError>
+    pub fn new<P: Plans>(
+        alloc: Global,
+        plans: &P,
+        workers: u8,
+        lines: &Lines,
+    ) -> Result<DrawnAhead, AllocError>
         ensures { IfOk result (λ ahead. All IsUnused ahead.jobs.items) }
     {
         let count = jobs_for(workers);
         Ok(DrawnAhead {
-            jobs: new_jobs(alloc, count)?,
+            jobs: new_jobs(alloc, count, lines)?,
             tools: new_tools(alloc, plans, count.min(usize::from(workers)))?,
             next: 0,
             end: 0,

@@ -5,6 +5,7 @@ ghost use Rattle.decode_session.specs.Run.{most_in_flight, most_packets};
 use line_sheets::Sheet;
 use packet_feed::packet_at;
 use packet_sheets::Stretch;
+use record_text::Lines;
 use std::alloc::{AllocError, Global};
 use work_queue::Numbered;
 
@@ -36,15 +37,15 @@ impl DrawingJob {
     ghost use Rattle.decode_session.specs.Ahead.{IsJob, IsUnused};
     ghost use Rattle.mib_model.specs.declared.database.Database.{Database};
 
-    /// No packets. An error is want of memory.
-    pub fn new(alloc: Global) -> Result<DrawingJob, AllocError>
+    /// No packets, and a sheet that shares the texts of small numbers. An error is want of memory.
+    pub fn new(alloc: Global, lines: &Lines) -> Result<DrawingJob, AllocError>
         ensures { IfOk result (λ job. IsUnused job) }
     {
         Ok(DrawingJob {
             number: 0,
             stretch: Stretch::new(alloc)?,
             drawn: 0,
-            sheet: Sheet::new(alloc)?,
+            sheet: Sheet::new(alloc, lines)?,
         })
     }
 

@@ -190,12 +190,13 @@ impl RunStock {
         ensures unused { IfOk result (λ stock. All IsUnused stock.ahead.jobs.items) }
         ensures memory { IfOk result (λ stock. memory_of stock.board ≡ empty_memory) }
     {
+        let lines = Lines::new(alloc)?;
         Ok(RunStock {
             room: one_room(alloc)?,
             board: Board::new(alloc, plans.params())?,
             demands: demands_of(alloc, plans.params())?,
-            lines: Lines::new(alloc)?,
-            ahead: DrawnAhead::new(alloc, plans, workers)?,
+            ahead: DrawnAhead::new(alloc, plans, workers, &lines)?,
+            lines,
         })
     }
 }

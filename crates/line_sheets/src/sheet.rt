@@ -135,12 +135,12 @@ fn note_count(deed: Deed, number: Eng, counts: &mut Vec<Eng>)
 }
 
 impl Sheet {
-    /// A sheet of nothing. An error is want of memory.
-    pub fn new(alloc: Global) -> Result<Sheet, AllocError>
+    /// A sheet of nothing, whose text shares the texts of small numbers with others. An error is want of memory.
+    pub fn new(alloc: Global, lines: &Lines) -> Result<Sheet, AllocError>
         ensures { IfOk result (λ sheet. sheet ≡ no_sheet) }
     {
         Ok(Sheet {
-            text: Lines::new(alloc)?,
+            text: lines.beside(alloc)?,
             events: Vec::with_capacity(alloc, EVENT_ROOM)?,
             raws: Vec::with_capacity(alloc, EVENT_ROOM)?,
             counts: Vec::with_capacity(alloc, EVENT_ROOM)?,

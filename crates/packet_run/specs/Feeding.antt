@@ -10,7 +10,7 @@ use Rattle.struct_plan.specs.declared.structure.Structures as Structures
 use Rattle.tm_io.specs.Causes.{HasRisen}
 use Rattle.packet_jobs.specs.declared.in_use.InUse.{InUse}
 use Rattle.packet_run.specs.declared.parts.Pipeline.{Pipeline}
-use Rattle.packet_run.specs.declared.run.TheConstants.{MOST_AHEAD}
+use Rattle.packet_run.specs.declared.stock.TheConstants.{MOST_AHEAD}
 use Rattle.packet_run.specs.declared.until.Until.{Until}
 use Rattle.packet_run.specs.declared.until.Until.TheVariants as until
 use Rattle.packet_run.specs.Piping.{Piping, Stopped}

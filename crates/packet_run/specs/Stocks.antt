@@ -10,7 +10,6 @@ use Rattle.std.specs.Arc.{arc_value}
 use Rattle.struct_plan.specs.declared.structure.Structures as Structures
 use Rattle.work_queue.specs.Accounts.{whole}
 use Rattle.work_queue.specs.Passes.{IsOf, account_of}
-use Rattle.packet_run.specs.declared.ends.TheConstants.{ROOMS}
 use Rattle.packet_jobs.specs.declared.in_use.InUse.{InUse}
 use Rattle.packet_run.specs.declared.parts.Crew.{Crew}
 use Rattle.packet_run.specs.declared.parts.Pipeline.{Pipeline}
@@ -20,7 +19,11 @@ use Rattle.packet_run.specs.Piping.{got_by, put_by, results_of}
 module _ {P : Type 0} {plans : Structures.Ghosts P} where
   -- how many rooms of a stock, each with a piece of two regions, are out
   abbrev pub rooms_out : Stock P plans → ℕ
-  rooms_out stock = ROOMS - vec_len stock.pipeline.rooms
+  rooms_out stock = stock.crew.rooms - vec_len stock.pipeline.rooms
+
+  -- all rooms of a run are with its caller
+  abbrev pub AreHome : Crew P plans → Pipeline P plans → Type 0
+  AreHome crew pipeline = vec_len pipeline.rooms ≡ crew.rooms
 
   -- how many workers of a stock have a tool of their own
   abbrev pub tools_of : Stock P plans → ℕ

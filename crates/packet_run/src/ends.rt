@@ -1,5 +1,5 @@
 // A run ends: all packets are committed and all rooms come home, and the workers end.
-ghost use Rattle.std.specs.Prelude.{◌≡◌, ◌≢◌, ◌⊎◌, ◌≤◌, ◌+◌, ℕ, List, Option, Err, vec_len};
+ghost use Rattle.std.specs.Prelude.{◌≡◌, ◌≢◌, ◌⊎◌, ◌≤◌, ◌+◌, ℕ, List, Option, Err};
 ghost use Rattle.commit_order.specs.Windows.{next_of};
 ghost use Rattle.decode_session.specs.Causes.{HasOutCause};
 ghost use Rattle.run_model.specs.RegisterHistories.{RegisterHistory};
@@ -8,6 +8,7 @@ ghost use Rattle.packet_run.specs.Feeding.{Fed, HasUntilCause, HasWriteCause};
 ghost use Rattle.packet_run.specs.Told.{From};
 ghost use Rattle.packet_run.specs.Piping.{Keeps, put_by};
 ghost use Rattle.packet_run.specs.Runs.{Drove, is_out_failed};
+ghost use Rattle.packet_run.specs.Stocks.{AreHome};
 ghost use Rattle.work_queue.specs.Passes.{IsOf};
 
 use crate::commit::commit_to;
@@ -22,9 +23,6 @@ use record_text::Lines;
 use std::sync::Wait;
 use std::thread;
 use tm_io::Sink;
-
-/// The rooms of a run: one for each packet that may be in work.
-pub(crate) const ROOMS: u16 = 32;
 
 // The end of a run whose packets are committed: of a rest a line is written.
 fn end_as<O: Sink>(until: Until, lines: &mut Lines, out: &mut O) -> Result<RunEnd, RunFault>
@@ -113,10 +111,10 @@ pub(crate) fn call_home<P: Plans + Drop, R: Wait>(
     ensures passes { IsOf crew.now.jobs pipeline.new.first × IsOf crew.now.results pipeline.new.second }
     ensures put { put_by pipeline.new ≡ put_by pipeline.old }
     ensures keeps { Keeps P.tables pipeline.old pipeline.new }
-    ensures home { vec_len pipeline.new.rooms ≡ ROOMS }
+    ensures home { AreHome crew.now pipeline.new }
 {
     for _ in rt.forever() {
-        if pipeline.rooms.len() == usize::from(ROOMS) {
+        if pipeline.rooms.len() == usize::from(crew.rooms) {
             return;
         }
         match pipeline.window.take_next() {

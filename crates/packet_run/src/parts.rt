@@ -8,12 +8,13 @@ use record_text::Lines;
 use struct_plan::Structures;
 use work_queue::{Pass, Queue};
 
-/// What the caller of a run shares with its workers: the two queues, and what a worker does.
+/// What the caller of a run shares with its workers: the two queues, what a worker does, and how many rooms the run has.
 #[derive(Drop)]
 pub struct Crew<P: Structures + Drop> {
     pub jobs: Queue<Task<P>>,
     pub results: Queue<Task<P>>,
     pub decoding: Decoding<P>,
+    pub rooms: u16,
 }
 
 /// What the intake of a run goes by: the runtime, what it shares with its workers, the gate that they call, and the register.

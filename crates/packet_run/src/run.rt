@@ -15,6 +15,7 @@ ghost use Rattle.packet_run.specs.Told.{From, Member};
 ghost use Rattle.packet_run.specs.Piping.{GoesOn, Keeps, Piping, StaysInUse, Stopped, Takes, put_by};
 ghost use Rattle.packet_run.specs.Reading.{stamped_as};
 ghost use Rattle.packet_run.specs.Stocks.{HasPasses, IsFirst, IsUnused};
+ghost use Rattle.packet_run.specs.declared.stock.TheConstants.{MOST_AHEAD};
 ghost use Rattle.packet_jobs.specs.Turning.{AreSame, ComesBehind};
 ghost use Rattle.tm_io.specs.Causes.{HasCause};
 ghost use Rattle.turn_cell.specs.Seats.{own_moves, seen_by};
@@ -25,6 +26,7 @@ use crate::commit::commit_to;
 use crate::parts::{Crew, Intake, Pipeline};
 use crate::pipeline::{keep_room, offer};
 use crate::reading::{StampedCell, read_stamped};
+use crate::stock::MOST_AHEAD;
 use crate::until::Until;
 use crate::watch::Watch;
 use decode_session::{Filled, MOST_PACKETS, PacketCell, Unread};
@@ -38,11 +40,7 @@ use std::sync::{Arc, Wait};
 use tm_io::{Failed, Sink, Source};
 use turn_cell::Seat;
 
-/// The most packets that are in work: as few as keep workers busy, since what one processor wrote is to lie in its cache still
-/// when another reads it.
-const MOST_AHEAD: u64 = 32;
-
-// The first packets of a run go to workers in any case, and so do others where one of the last so many was as large as this.
+// The first packets of a run go to workers in any case, and with several workers others where one of the last so many was as large as this.
 const FIRST: u64 = 64;
 
 const LARGE: u32 = 96;
@@ -94,7 +92,8 @@ fn make_way<P: Plans + Drop, S: Source, O: Sink, W: Watch, R: Wait>(
 {
     let read = pipeline.read;
     if feed.is_next_at_hand() {
-        let least = read.saturating_sub(MOST_AHEAD - 1);
+        let most = u64::from(crew.rooms.min(MOST_AHEAD)).max(1);
+        let least = read.saturating_sub(most - 1);
         return commit_to(rt, crew, pipeline, in_use, least, out, watch);
     }
     let Ok(()) = commit_to(rt, crew, pipeline, in_use, read, out, watch) else {
@@ -204,11 +203,19 @@ fn take_packet<P: Plans + Rows + Drop, O: Sink, W: Watch, R: Wait>(
     do_alone(rt, read, pipeline, in_use, out, watch)
 }
 
-// Whether a packet goes to a worker: the first ones of a run do, and later ones where a large one was among the last, but not where
-// nothing is in work and the next isn't at hand. It says nothing.
-fn goes_to_worker<S: Source>(number: u64, last_large: u64, is_idle: bool, feed: &Feed<S>) -> bool {
+// Whether a packet goes to a worker: the first ones of a run do, and with several workers later ones where a large one was among the last,
+// but not where nothing is in work and the next isn't at hand. With one worker the caller would only wait for it. It says nothing.
+fn goes_to_worker<S: Source>(
+    workers: u8,
+    number: u64,
+    last_large: u64,
+    is_idle: bool,
+    feed: &Feed<S>,
+) -> bool {
     number <= FIRST
-        || number.saturating_sub(last_large) < FIRST && (!is_idle || feed.is_next_at_hand())
+        || workers > 1
+            && number.saturating_sub(last_large) < FIRST
+            && (!is_idle || feed.is_next_at_hand())
 }
 
 /// Reads the packets of a feed up to its end or the limit. Each is stamped as soon as it is read, and goes its way to its record.
@@ -267,7 +274,7 @@ pub(crate) fn run_feed<P: Plans + Rows + Drop, S: Source, O: Sink, W: Watch, R: 
             last_large = number;
         }
         let is_idle = pipeline.done == pipeline.read;
-        let goes = goes_to_worker(number, last_large, is_idle, feed);
+        let goes = goes_to_worker(pipeline.workers, number, last_large, is_idle, feed);
         let Ok(()) = take_packet(rt, crew, pipeline, in_use, read, goes, out, watch) else {
             return Until::OutFault;
         };

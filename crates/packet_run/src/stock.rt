@@ -1,7 +1,6 @@
 //! What a run needs.
 ghost use Rattle.std.specs.Prelude.{◌≡◌, ◌≤◌, IfOk, vec_len};
 
-use crate::ends::ROOMS;
 use crate::parts::{Crew, Pipeline};
 use commit_order::Window;
 use decode_session::Home;
@@ -22,8 +21,20 @@ const PATIENCE: u32 = 1_000_000;
 // The room of each queue, and of the window.
 const QUEUE_ROOM: u32 = 64;
 
+/// The most packets that are in work: as few as keep workers busy, since what one processor wrote is to lie in its cache still
+/// when another reads it.
+pub(crate) const MOST_AHEAD: u16 = 32;
+
+// As many as one worker needs.
+const FEW_AHEAD: u16 = 16;
+
+// How many packets may be in work with so many workers, each in a room of its own.
+fn rooms_for(workers: u8) -> u16 {
+    if workers == 1 { FEW_AHEAD } else { MOST_AHEAD }
+}
+
 /// What a run needs, reserved before it begins: two queues with room for 64 packets each and for the passes of 16 workers, the window,
-/// the page for records, and rooms for 32 packets, whose buffers come from two regions.
+/// the page for records, and rooms for 32 packets, or for 16 with one worker, whose buffers come from two regions.
 #[derive(Drop)]
 pub struct Stock<P: Structures + Drop> {
     pub(crate) crew: Crew<P>,
@@ -43,18 +54,20 @@ impl<P: Plans + Drop> Stock<P> {
     {
         let (jobs, first) = Queue::new(alloc, QUEUE_ROOM as usize)?;
         let (results, second) = Queue::new(alloc, QUEUE_ROOM as usize)?;
-        let mut home = Home::with_rooms(alloc, ROOMS)?;
+        let rooms = rooms_for(workers);
+        let mut home = Home::with_rooms(alloc, rooms)?;
         Ok(Stock {
             crew: Crew {
                 jobs,
                 results,
                 decoding: Decoding::new(alloc, params, workers)?,
+                rooms,
             },
             pipeline: Pipeline {
                 first,
                 second,
                 window: Window::new(alloc, QUEUE_ROOM)?,
-                rooms: home.take_rooms(alloc, ROOMS)?,
+                rooms: home.take_rooms(alloc, rooms)?,
                 lines: Lines::new(alloc)?,
                 done: 0,
                 read: 0,

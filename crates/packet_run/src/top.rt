@@ -1,5 +1,5 @@
 //! A run over the packets of a feed.
-ghost use Rattle.std.specs.Prelude.{◌≡◌, ◌≢◌, ◌≤◌, Err, [], true, vec_len};
+ghost use Rattle.std.specs.Prelude.{◌≡◌, ◌≢◌, ◌≤◌, Err, [], true};
 ghost use Rattle.std.specs.Arc.{arc_value};
 ghost use Rattle.decode_pool.specs.Served.{AllServe, Ready};
 ghost use Rattle.decode_session.specs.Causes.{HasOutCause};
@@ -12,13 +12,13 @@ ghost use Rattle.packet_run.specs.Piping.{SharesStay};
 ghost use Rattle.packet_run.specs.declared.stock.TheConstants.{MOST_WORKERS};
 ghost use Rattle.packet_run.specs.Runs.{Drove, Runs};
 ghost use Rattle.packet_run.specs.Told.{begun};
-ghost use Rattle.packet_run.specs.Stocks.{HasPasses, IsFirst, IsFresh, IsUnused, rooms_out};
+ghost use Rattle.packet_run.specs.Stocks.{AreHome, HasPasses, IsFirst, IsFresh, IsUnused, rooms_out};
 ghost use Rattle.packet_jobs.specs.Tasks.{IsWorked, number_in};
 ghost use Rattle.packet_jobs.specs.Turning.{AreSame};
 ghost use Rattle.turn_cell.specs.Seats.{own_moves, seen_by};
 
 use crate::beside::{beside, join_all};
-use crate::ends::{ROOMS, call_home, end_all, finish_run};
+use crate::ends::{call_home, end_all, finish_run};
 use crate::parts::{Intake, Pipeline};
 use crate::run::run_feed;
 use crate::stock::Stock;
@@ -53,7 +53,7 @@ fn drive_feed<P: Plans + Rows + Drop, S: Source, O: Sink, W: Watch, R: Wait, G>(
     requires in_use { IsFirst P.Structures.tables (first_of intake.now.register.now) in_use.old }
     ensures seat { IsSeat 0 intake.now.register.now seat.new × StartsWith (seen_by seat.new) (seen_by seat.old) }
     ensures passes { HasPasses intake.now.crew.now pipeline.new }
-    ensures home { SharesStay pipeline.old pipeline.new × (vec_len pipeline.new.rooms ≡ ROOMS) }
+    ensures home { SharesStay pipeline.old pipeline.new × AreHome intake.now.crew.now pipeline.new }
     ensures drove { Drove P.Structures.tables W.stands result (begun (first_of intake.now.register.now) watch.old (O.written out.old)) (own_moves seat.new)
         (S.faults (source_of feed.old)) (S.faults (source_of feed.new)) (S.left (source_of feed.old)) (S.left
         (source_of feed.new)) pipeline.new watch.new (O.written out.new) }
@@ -86,7 +86,7 @@ fn drive<P: Plans + Rows + Drop, S: Source, O: Sink, W: Watch, R: Wait, G>(
     requires in_use { IsFirst P.Structures.tables (first_of intake.now.register.now) in_use.old }
     ensures seat { IsSeat 0 intake.now.register.now seat.new × StartsWith (seen_by seat.new) (seen_by seat.old) }
     ensures passes { HasPasses intake.now.crew.now pipeline.new }
-    ensures home { SharesStay pipeline.old pipeline.new × (vec_len pipeline.new.rooms ≡ ROOMS) }
+    ensures home { SharesStay pipeline.old pipeline.new × AreHome intake.now.crew.now pipeline.new }
     ensures drove { Drove P.Structures.tables W.stands result (begun (first_of intake.now.register.now) watch.old (O.written out.old)) (own_moves seat.new)
         (S.faults source.old) (S.faults source.new) (S.left source.old) (S.left source.new) pipeline.new watch.new (O.written out.new) }
     ensures out { HasOutCause result (O.faults out.old) (O.faults out.new) }
@@ -123,7 +123,7 @@ fn run_beside<
     ensures serves { AllServe intake.now.crew.now.jobs intake.now.crew.now.results (IsWorked P.Structures.tables) number_in passes.old.items passes.new.items
         × Ready intake.now.crew.now.jobs intake.now.crew.now.results passes.new.items }
     ensures seat { IsSeat 0 intake.now.register.now seat.new × StartsWith (seen_by seat.new) (seen_by seat.old) }
-    ensures pipeline { HasPasses intake.now.crew.now pipeline.new × SharesStay pipeline.old pipeline.new × (vec_len pipeline.new.rooms ≡ ROOMS) }
+    ensures pipeline { HasPasses intake.now.crew.now pipeline.new × SharesStay pipeline.old pipeline.new × AreHome intake.now.crew.now pipeline.new }
     ensures drove { Drove P.Structures.tables W.stands result (begun (first_of intake.now.register.now) watch.old (O.written out.old)) (own_moves seat.new)
         (F.faults feed.old) (F.faults feed.new) (F.left feed.old) (F.left feed.new) pipeline.new watch.new (O.written out.new) }
     ensures out { HasOutCause result (O.faults out.old) (O.faults out.new) }

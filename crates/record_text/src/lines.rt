@@ -6,6 +6,7 @@ use line_text::ShortTexts;
 use mib_model::Line;
 use std::alloc::{AllocError, Global};
 use std::marker::Model;
+use std::sync::Arc;
 
 /// The octets that a record's text has room for, more than any record has.
 pub const LINES_ROOM: usize = 40_000_000;
@@ -38,7 +39,7 @@ const _: () = prove!(
 /// octets so far.
 pub struct Lines {
     pub(crate) page: LinePage,
-    pub(crate) shorts: ShortTexts,
+    pub(crate) shorts: Arc<ShortTexts>,
     pub(crate) number: Line,
 }
 
@@ -68,7 +69,18 @@ impl Lines {
     {
         Ok(Lines {
             page: LinePage::new(alloc)?,
-            shorts: ShortTexts::new(alloc)?,
+            shorts: Arc::new(alloc, ShortTexts::new(alloc)?)?,
+            number: Line::new(),
+        })
+    }
+
+    /// An empty text that shares the texts of small numbers with this one. An error is want of memory.
+    pub fn beside(&self, alloc: Global) -> Result<Lines, AllocError>
+        ensures { IfOk result (λ lines. lines ≡ []) }
+    {
+        Ok(Lines {
+            page: LinePage::new(alloc)?,
+            shorts: Arc::try_clone(&self.shorts)?,
             number: Line::new(),
         })
     }
