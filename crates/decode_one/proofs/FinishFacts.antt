@@ -106,10 +106,13 @@ module _ (db : Database) (sound : IsSound db) (packet : List ℕ) (half : Half) 
         memory = subst (λ (x : Memory). AreAlike asked x after) (sym kept) left;
       }
 
+-- where every name counts as asked, a step leaves just what is kept
+pub stepped-all : {c : Course} {s : StampedPacket} {after : Memory} {old new : List ℕ} → HasSteppedFor any_name c s after old new → HasStepped c s after old new
+stepped-all {c} {s} {after} step = record { text = step.text; memory = alike-is-same any_name (course_after c s).memory after (λ name. refl) step.memory }
+
 -- where nothing is demanded in particular, so that every name counts as asked, a step leaves just what is kept
 pub stepped-exactly : (db : Database) (number : ℕ) (packet : List ℕ) (before after : Memory) (old new : List ℕ)
     → ((asked : List ℕ → Bool) (m : Memory) (c : Course) (s : StampedPacket) → AreDemandsOf asked (param_slices db) [] → AreAlike asked m before → ComesTo c s number packet db m
     → HasSteppedFor asked c s after old new) → (c : Course) (s : StampedPacket) → ComesTo c s number packet db before → HasStepped c s after old new
 stepped-exactly db number packet before after old new steps c s comes =
-    let step = steps any_name before c s (any-demanded (param_slices db)) (alike-same any_name before) comes in
-    record { text = step.text; memory = alike-is-same any_name (course_after c s).memory after (λ name. refl) step.memory }
+    stepped-all (steps any_name before c s (any-demanded (param_slices db)) (alike-same any_name before) comes)

@@ -1,5 +1,5 @@
 -- The records of packets of one edition, and the interpreter's run.
-use Rattle.std.proofs.Common.{◌≡◌, ◌∙◌, ℕ, suc, true, cond, ◌==◌, List, [], ◌∷◌, ◌++◌, Option, Some, None, All, refl, ap, arith, sym}
+use Rattle.std.proofs.Common.{◌≡◌, ◌∙◌, ℕ, suc, true, cond, ◌==◌, List, [], ◌∷◌, ◌++◌, Option, Some, None, All, refl, ap, append-nil, arith, sym}
 use Rattle.std.proofs.lemmas.Bool.Decides.{nat_tests}
 use Rattle.mib_model.specs.Interpreter.{Course, StampedPacket, course_after, course_after_all, interpret, memory_for, record_for, records_text}
 use Rattle.mib_model.specs.Kept.{Memory}
@@ -42,3 +42,9 @@ run-is c (s ∷ ss) all =
       memory = rest.memory ∙ ap (λ (p : Played). p.0) from;
       text = (λ i. (told-step c s ∙ (λ j. quiet j ++ (packet_played s (memory j)).1)) i ++ (rest.text ∙ ap (λ (p : Played). p.1) from) i);
     }
+
+-- what the interpreter does with one packet
+pub step-is : (c : Course) (s : StampedPacket) (m : Memory) → memory_for c s ≡ m
+    → ((course_after c s).memory ≡ (packets_played (s ∷ []) m).0) × (record_body (record_for c s) ≡ (packets_played (s ∷ []) m).1)
+unfolding record_for record_body course_after packets_played
+step-is c s m is = (ap (λ (n : Memory). (packet_played s n).0) is, ap (λ (n : Memory). (packet_played s n).1) is ∙ sym (append-nil (packet_played s m).1))

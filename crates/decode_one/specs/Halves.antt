@@ -1,6 +1,7 @@
 -- A packet that was decoded, and isn't finished yet. [This profile.]
 use Rattle.std.specs.Prelude.{◌≡◌, ◌≤◌, ℕ, List, take, length}
 use Rattle.decode_one.specs.declared.half.Half.{Half}
+use Rattle.decode_one.specs.declared.values.PacketValues.{PacketValues}
 use Rattle.mib_model.specs.declared.database.Database.{Database}
 use Rattle.mib_model.specs.declared.packet.Value.{Value}
 use Rattle.mib_model.specs.Fixed.{most_values}
@@ -15,3 +16,7 @@ pub record IsHalf (db : Database) (packet : List ℕ) (half : Half) (slots : Lis
   pub values : (take half.used slots, half.ended) ≡ values_of db packet (match_of db packet)
   pub few : half.used ≤ most_values
   pub there : half.used ≤ length slots
+
+-- what was decoded is a packet by a database
+abbrev pub HasDecoded : Database → List ℕ → PacketValues → Type 0
+HasDecoded db packet values = IsHalf db packet values.half values.slots.items

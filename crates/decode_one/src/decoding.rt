@@ -1,7 +1,7 @@
 // What a packet is, and its values.
 ghost use Rattle.std.specs.Prelude.{◌≡◌, ◌≢◌, ◌≤◌, true, false, pos, int_lt, [], is_some, length};
 ghost use Rattle.bit_field.specs.Taken.{taken, KeepsSlots};
-ghost use Rattle.decode_one.specs.Halves.{IsHalf};
+ghost use Rattle.decode_one.specs.Halves.{HasDecoded, IsHalf};
 ghost use Rattle.edition_plans.specs.Layouts.{layout_of};
 ghost use Rattle.mib_model.specs.Fixed.{fixed_values, most_values};
 ghost use Rattle.mib_model.specs.Headers.{header_of};
@@ -12,6 +12,7 @@ ghost use Rattle.mib_model.specs.Structures.{structure};
 ghost use Rattle.mib_model.specs.Walk.{structure_values};
 
 use crate::half::Half;
+use crate::values::PacketValues;
 use bit_field::Values;
 use edition_plans::Plans;
 use mib_model::{Ended, Found, Header, Value};
@@ -93,15 +94,9 @@ fn extract<P: Plans>(
 }
 
 impl Half {
-    /// Decodes a packet: becomes what it is, and takes its values into the front of the slots. It takes no memory.
+    // Decodes a packet: becomes what it is, and takes its values into the front of the slots.
     #[inline(always)]
-    pub fn decode<P: Plans>(
-        &mut self,
-        plans: &P,
-        header: &Header,
-        packet: &[u8],
-        slots: &mut [Value],
-    )
+    fn decode<P: Plans>(&mut self, plans: &P, header: &Header, packet: &[u8], slots: &mut [Value])
         requires header { header.now ≡ header_of packet.now }
         requires long { 7 ≤ length packet.now }
         requires short { length packet.now ≤ 65542 }
@@ -114,5 +109,18 @@ impl Half {
         let mut values = Values { slots, used: 0 };
         extract(plans, &self.found, packet, &mut values, &mut self.ended);
         self.used = values.used;
+    }
+}
+
+impl PacketValues {
+    /// Decodes a packet: has what it is and its values. It takes no memory.
+    #[inline(always)]
+    pub fn decode<P: Plans>(&mut self, plans: &P, header: &Header, packet: &[u8])
+        requires header { header.now ≡ header_of packet.now }
+        requires long { 7 ≤ length packet.now }
+        requires short { length packet.now ≤ 65542 }
+        ensures { HasDecoded (P.tables plans.now) packet.now self.new }
+    {
+        self.half.decode(plans, header, packet, &mut self.slots);
     }
 }

@@ -1,24 +1,22 @@
-// The record of a packet that was decoded, what is kept after it, and the lines that are drawn ahead.
-ghost use Rattle.std.specs.Prelude.{◌≡◌, ◌≤◌, ◌+◌, ℕ, Bool, List, length, take};
+// The record of a packet that was decoded, and what is kept after it.
+ghost use Rattle.std.specs.Prelude.{◌≡◌, ◌≤◌, ◌+◌, ℕ, Bool, List, length};
 ghost use Rattle.std.specs.Option.{option_copied};
-ghost use Rattle.decode_one.specs.Halves.{IsHalf};
+ghost use Rattle.decode_one.specs.Halves.{HasDecoded};
 ghost use Rattle.decode_one.specs.Steps.{ComesTo, HasSteppedFor};
 ghost use Rattle.edition_plans.specs.Params.{param_slices};
 ghost use Rattle.fold_state.specs.Boards.{memory_of};
 ghost use Rattle.param_state.specs.ParamPlans.{plan_names};
 ghost use Rattle.param_state.specs.Demands.{AreDemandsOf};
 ghost use Rattle.fold_state.specs.declared.finish.TheConstants.{TEXT_BEFORE};
-ghost use Rattle.line_sketches.specs.Sketches.{AreShown};
 ghost use Rattle.memory_laws.specs.Alike.{AreAlike};
 ghost use Rattle.mib_model.specs.Interpreter.{Course, StampedPacket, title_of};
 ghost use Rattle.mib_model.specs.Kept.{Memory};
 ghost use Rattle.record_text.specs.declared.lines.TheConstants.{LINES_ROOM, LINE_MOST};
 
-use crate::half::Half;
+use crate::values::PacketValues;
 use edition_plans::Plans;
 use fold_state::{Board, Seen, finish_is_a_step};
-use line_sketches::{Drawer, Sketch};
-use mib_model::{Found, Text, Value};
+use mib_model::{Found, Text};
 use param_state::Demand;
 use record_text::Lines;
 
@@ -43,12 +41,11 @@ pub fn finish<P: Plans>(
     demands: &[Demand],
     number: u64,
     packet: &[u8],
-    half: &Half,
-    values: &[Value],
+    values: &PacketValues,
     board: &mut Board,
     out: &mut Lines,
 )
-    requires half { IsHalf (P.tables plans.now) packet.now half.now values.now }
+    requires decoded { HasDecoded (P.tables plans.now) packet.now values.now }
     requires board { board.old.names ≡ plan_names (param_slices (P.tables plans.now)) }
     requires room { length out.old ≤ TEXT_BEFORE }
     ensures names { board.new.names ≡ board.old.names }
@@ -59,32 +56,16 @@ pub fn finish<P: Plans>(
     ensures room { length out.new + LINE_MOST ≤ LINES_ROOM }
 {
     let params = plans.params();
+    let half = &values.half;
     let seen = Seen {
         number,
         header: &half.header,
         found: &half.found,
         ended: &half.ended,
         packet,
-        values: &values[..half.used as usize],
+        values: &values.slots[..half.used as usize],
         title: title(plans, &half.found),
     };
     board.finish(params, demands, &seen, out);
     finish_is_a_step();
-}
-
-/// Draws the lines of a packet that was decoded so, as far as the sketch has room. It takes no memory.
-pub fn draw<P: Plans>(
-    plans: &P,
-    packet: &[u8],
-    half: &Half,
-    values: &[Value],
-    drawer: &mut Drawer,
-    sketch: &mut Sketch,
-)
-    requires half { IsHalf (P.tables plans.now) packet.now half.now values.now }
-    ensures shown { AreShown (P.tables plans.now) packet.now (take half.now.used values.now) sketch.new }
-    ensures few { length sketch.new ≤ half.now.used }
-{
-    let taken = &values[..half.used as usize];
-    drawer.draw(plans.params(), &half.found, packet, taken, sketch);
 }

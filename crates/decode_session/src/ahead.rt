@@ -11,11 +11,12 @@ ghost use Rattle.packet_feed.specs.Feed.{source_of};
 
 use crate::alone::AT_ONCE;
 use crate::batch::MOST_PACKETS;
-use crate::drawing::{Drawing, DrawingTool};
+use crate::drawing::Drawing;
 use crate::job::DrawingJob;
 use decode_pool::run_batch;
 use edition_plans::Plans;
 use packet_feed::{Feed, packet_at};
+use packet_sheets::DrawingTool;
 use param_state::Demand;
 use record_text::Lines;
 use std::alloc::{AllocError, Global};

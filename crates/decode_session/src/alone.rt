@@ -11,7 +11,7 @@ ghost use Rattle.fold_state.specs.declared.finish.TheConstants.{TEXT_BEFORE};
 ghost use Rattle.packet_feed.specs.Feed.{SourceStays, source_of};
 
 use crate::batch::{Filled, MOST_PACKETS};
-use crate::room::{Buffers, Room};
+use crate::room::OwnRoom;
 use decode_one::finish;
 use edition_plans::Plans;
 use fold_state::{Board, TEXT_BEFORE};
@@ -30,7 +30,7 @@ fn add_next<P: Plans, S: Source>(
     plans: &P,
     demands: &[Demand],
     feed: &mut Feed<S>,
-    room: &mut Room,
+    room: &mut OwnRoom,
     board: &mut Board,
     lines: &mut Lines,
 ) -> Option<Filled>
@@ -46,26 +46,12 @@ fn add_next<P: Plans, S: Source>(
         MatchOption result (now ≡ before) (λ why. HasFillCause why before now) }
     ensures kept { SourceStays S.holds S.missed S.borrow (source_of feed.old) (source_of feed.new) }
 {
-    let Buffers {
-        frame,
-        slots,
-        half,
-        ..
-    } = &mut *room.buffers;
-    match feed.next(frame.slice_mut()) {
+    let OwnRoom { frame, values } = room;
+    match feed.next(frame) {
         Next::Packet { octets, header } => {
-            let packet = &frame.slice()[..octets as usize];
-            half.decode(plans, &header, packet, slots.slice_mut());
-            finish(
-                plans,
-                demands,
-                number,
-                packet,
-                half,
-                slots.slice(),
-                board,
-                lines,
-            );
+            let packet = &frame[..octets as usize];
+            values.decode(plans, &header, packet);
+            finish(plans, demands, number, packet, values, board, lines);
             None
         }
         Next::End => Some(Filled::End),
@@ -82,7 +68,7 @@ pub(crate) fn add_batch<P: Plans, S: Source>(
     plans: &P,
     demands: &[Demand],
     feed: &mut Feed<S>,
-    room: &mut Room,
+    room: &mut OwnRoom,
     board: &mut Board,
     lines: &mut Lines,
 ) -> (u64, Filled)

@@ -1,8 +1,9 @@
-ghost use Rattle.std.specs.Prelude.{◌≡◌, take};
+ghost use Rattle.std.specs.Prelude.{◌≡◌, ◌≤◌, length, take};
 ghost use Rattle.decode_session.specs.Frames.{IsFramed};
+ghost use Rattle.mib_model.specs.Packets.{IsPacket};
+ghost use Rattle.packet_feed.specs.declared.feed.TheConstants.{PACKET_SIZE};
 
 use crate::room::{Buffers, Room};
-use edition_plans::Plans;
 use mib_model::Header;
 use work_queue::Numbered;
 
@@ -25,7 +26,7 @@ impl Numbered for PacketCell {
 }
 
 impl PacketCell {
-    ghost use Rattle.decode_session.specs.Cells.{IsDecoded, packet_in};
+    ghost use Rattle.decode_session.specs.Cells.{packet_in};
 
     /// The cell of a packet that stands in a room.
     pub fn new(number: u64, octets: u32, header: Header, room: Room) -> PacketCell
@@ -44,23 +45,11 @@ impl PacketCell {
 
     /// Its packet.
     pub fn packet(&self) -> &[u8]
-        ensures { result.now ≡ packet_in self.now }
+        ensures packet { result.now ≡ packet_in self.now }
+        ensures whole { IsPacket result.now }
+        ensures short { length result.now ≤ PACKET_SIZE }
     {
         &self.buffers.frame.slice()[..self.octets as usize]
-    }
-
-    /// Decodes its packet by these plans, in its buffers.
-    pub fn decode<P: Plans>(&mut self, plans: &P)
-        ensures { IsDecoded (P.tables plans.now) self.old self.new }
-    {
-        let Buffers {
-            frame,
-            slots,
-            half,
-            ..
-        } = &mut *self.buffers;
-        let packet = &frame.slice()[..self.octets as usize];
-        half.decode(plans, &self.header, packet, slots.slice_mut());
     }
 
     /// Its buffers.

@@ -1,42 +1,13 @@
 // Packets are drawn.
-ghost use Rattle.std.specs.Prelude.{◌≡◌, vec_len};
 ghost use Rattle.decode_session.specs.Ahead.{IsDrawn};
 ghost use Rattle.decode_session.specs.Finishing.{AreDemandsIn};
-ghost use Rattle.mib_model.specs.Fixed.{most_values};
 
 use crate::job::DrawingJob;
-use crate::stock::{unheard, unused};
-use bit_field::MOST_VALUES;
-use decode_one::Half;
 use decode_pool::Work;
 use edition_plans::Plans;
-use mib_model::Value;
-use packet_sheets::draw_stretch;
-use param_plan::Params;
+use packet_sheets::{DrawingTool, draw_stretch};
 use param_state::Demand;
-use plan_places::Places;
-use std::alloc::{AllocError, Global};
 use std::sync::{Mutex, MutexGuard};
-
-/// What one thread draws with: slots for the values of a packet, its half, and what finds plans.
-#[derive(Drop)]
-pub(crate) struct DrawingTool {
-    slots: Vec<Value>,
-    half: Half,
-    places: Places,
-    ghost slot_count: { vec_len slots ≡ most_values },
-}
-
-impl DrawingTool {
-    /// What draws by these plans. An error is want of memory.
-    pub fn new(alloc: Global, params: &Params) -> Result<DrawingTool, AllocError> {
-        Ok(DrawingTool {
-            slots: Vec::from_elem(alloc, unused(), MOST_VALUES as usize)?,
-            half: unheard(),
-            places: Places::new(alloc, params)?,
-        })
-    }
-}
 
 /// What a worker does: it draws the packets of a job by these plans and demands, with a tool that no other has.
 #[derive(Drop)]
@@ -65,9 +36,7 @@ fn draw_job<P: Plans>(plans: &P, demands: &[Demand], tool: &mut DrawingTool, job
         demands,
         job.number,
         &job.stretch,
-        &mut tool.slots,
-        &mut tool.half,
-        &mut tool.places,
+        tool,
         &mut job.sheet,
     );
 }

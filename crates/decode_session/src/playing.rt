@@ -20,7 +20,7 @@ ghost use Rattle.tm_io.specs.Causes.{HasCause};
 
 use crate::batch::Filled;
 use crate::job::DrawingJob;
-use crate::room::{Buffers, Room};
+use crate::room::OwnRoom;
 use decode_one::{finish, play_sheet};
 use edition_plans::Plans;
 use fold_state::Board;
@@ -30,7 +30,7 @@ use record_text::Lines;
 use tm_io::{Failed, Sink, Source, write_all};
 
 // Reads so many packets, or as many as come, and tells how many those are, and how it ended.
-fn read_packets<S: Source>(count: usize, feed: &mut Feed<S>, room: &mut Room) -> (usize, Filled)
+fn read_packets<S: Source>(count: usize, feed: &mut Feed<S>, room: &mut OwnRoom) -> (usize, Filled)
     requires { 0 < count }
     ensures few { result.0 ≤ count }
     ensures all { result.1 ≡ Filled.Paused → result.0 ≡ count }
@@ -41,7 +41,7 @@ fn read_packets<S: Source>(count: usize, feed: &mut Feed<S>, room: &mut Room) ->
     ensures kept { SourceStays S.holds S.missed S.borrow (source_of feed.old) (source_of feed.new) }
 {
     for k in 0..count {
-        match feed.next(room.buffers.frame.slice_mut()) {
+        match feed.next(&mut room.frame) {
             Next::Packet { .. } => (),
             Next::End => return (k, Filled::End),
             Next::Cut { octets } => return (k, Filled::Cut { octets }),
@@ -57,7 +57,7 @@ fn add_record<P: Plans>(
     demands: &[Demand],
     number: u64,
     packet: &[u8],
-    room: &mut Room,
+    room: &mut OwnRoom,
     board: &mut Board,
     lines: &mut Lines,
 )
@@ -70,18 +70,9 @@ fn add_record<P: Plans>(
     ensures finishes { let s = stamped_first (P.tables plans.now) (number, packet.now) in
         Leads (P.tables plans.now) (memory_of board.old) (memory_of board.new) (Finishes 1 (P.tables plans.now) s lines.old lines.new) }
 {
-    let Buffers { slots, half, .. } = &mut *room.buffers;
-    half.decode(plans, &header_at(packet), packet, slots.slice_mut());
-    finish(
-        plans,
-        demands,
-        number,
-        packet,
-        half,
-        slots.slice(),
-        board,
-        lines,
-    );
+    let values = &mut room.values;
+    values.decode(plans, &header_at(packet), packet);
+    finish(plans, demands, number, packet, values, board, lines);
 }
 
 // Writes the records of the first packets of a job, so many, each by itself.
@@ -90,7 +81,7 @@ fn write_each<P: Plans, O: Sink>(
     job: &DrawingJob,
     plans: &P,
     demands: &[Demand],
-    room: &mut Room,
+    room: &mut OwnRoom,
     board: &mut Board,
     lines: &mut Lines,
     out: &mut O,
@@ -153,7 +144,7 @@ pub(crate) fn print_job<P: Plans, S: Source, O: Sink>(
     plans: &P,
     demands: &[Demand],
     feed: &mut Feed<S>,
-    room: &mut Room,
+    room: &mut OwnRoom,
     board: &mut Board,
     lines: &mut Lines,
     out: &mut O,

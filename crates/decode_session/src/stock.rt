@@ -8,30 +8,26 @@ ghost use Rattle.mib_model.specs.Kept.{empty_memory};
 ghost use Rattle.decode_session.specs.Homes.{AreOutOf};
 
 use crate::ahead::DrawnAhead;
-use crate::room::{Buffers, Room};
-use bit_field::{MOST_VALUES, shape_of};
-use decode_one::Half;
+use crate::room::{Buffers, OwnRoom, Room};
 use edition_plans::Plans;
 use fold_state::Board;
 use frame_region::Region;
-use line_sketches::Sketch;
-use mib_model::{Ended, Endian, Found, Header, Name, Shape, Value};
+use line_sheets::Sheet;
 use packet_feed::PACKET_SIZE;
 use param_state::{Demand, demands_of};
 use record_text::Lines;
 use std::alloc::{AllocError, Global};
 
-/// Where the buffers of packets are at home.
+/// Where the frames of packets are at home.
 #[derive(Drop)]
 pub struct Home {
     frames: Region<u8>,
-    slots: Region<Value>,
 }
 
 /// What a run needs: a room for the packet that is read; what is kept from packet to packet, and what is demanded of values; the text of
 /// records; and what is drawn ahead.
 pub(crate) struct RunStock {
-    pub room: Room,
+    pub room: OwnRoom,
     pub board: Board,
     pub demands: Vec<Demand>,
     pub lines: Lines,
@@ -51,75 +47,35 @@ impl Drop for RunStock {
     }
 }
 
-// The shape of one bit.
-#[tactic(auto, unfolding(mib_model::specs::Encodings::encoding_of, mib_model::specs::Encodings::type_of))]
-fn bit() -> Shape {
-    match shape_of(1, 0, Endian::B) {
-        Some(shape) => shape,
-        None => unreachable!(),
-    }
-}
-
-// A name of one octet.
-fn name() -> Name {
-    match Name::new(b"-") {
-        Some(name) => name,
-        None => unreachable!(),
-    }
-}
-
-// What stands in a slot that isn't in use.
-pub(crate) fn unused() -> Value {
-    Value {
-        name: name(),
-        at: 0,
-        raw: 0,
-        shape: bit(),
-    }
-}
-
-// What stands in buffers before a packet is decoded.
-pub(crate) fn unheard() -> Half {
-    Half {
-        header: Header::read(&[0; 6]),
-        found: Found::Idle,
-        ended: Ended::Whole,
-        used: 0,
-    }
-}
-
 impl Home {
-    /// Buffers for so many packets, all at home. An error is want of memory.
+    /// Frames for so many packets, all at home. An error is want of memory.
     pub fn with_rooms(alloc: Global, rooms: u16) -> Result<Home, AllocError>
         ensures { IfOk result (λ home. AreOutOf rooms 0 home) }
     {
         Ok(Home {
             frames: Region::new(alloc, rooms, PACKET_SIZE, 0)?,
-            slots: Region::new(alloc, rooms, MOST_VALUES as usize, unused())?,
         })
     }
 
-    // Takes a room, where so many of them all are out. An error is want of memory, and takes none.
-    fn take_room(&mut self, alloc: Global, all: u16, out: u16) -> Result<Room, AllocError>
+    // Takes a room, where so many of them all are out, whose sheet shares the texts of small numbers. An error is want of memory, and
+    // takes none.
+    fn take_room(
+        &mut self,
+        alloc: Global,
+        all: u16,
+        out: u16,
+        lines: &Lines,
+    ) -> Result<Room, AllocError>
         requires some { out < all }
         requires out { AreOutOf all out self.old }
         ensures out { OnOk result (AreOutOf all (out + 1) self.new) }
         ensures kept { OnErr result (AreOutOf all out self.new) }
     {
-        let sketch = Sketch::new(alloc)?;
+        let sheet = Sheet::new(alloc, lines)?;
         let Some(frame) = self.frames.take() else {
             unreachable!()
         };
-        let Some(slots) = self.slots.take() else {
-            unreachable!()
-        };
-        let buffers = Buffers {
-            frame,
-            slots,
-            half: unheard(),
-            sketch,
-        };
-        match Box::new(alloc, buffers) {
+        match Box::new(alloc, Buffers { frame, sheet }) {
             Ok(buffers) => Ok(Room { buffers }),
             Err(failed) => {
                 self.give_buffers(failed.value, all, usize::from(out));
@@ -128,8 +84,13 @@ impl Home {
         }
     }
 
-    /// Takes all rooms, which are so many. An error is want of memory, and leaves all at home.
-    pub fn take_rooms(&mut self, alloc: Global, count: u16) -> Result<Vec<Room>, AllocError>
+    /// Takes all rooms, which are so many. Their sheets share the texts of small numbers. An error is want of memory, and leaves all at home.
+    pub fn take_rooms(
+        &mut self,
+        alloc: Global,
+        count: u16,
+        lines: &Lines,
+    ) -> Result<Vec<Room>, AllocError>
         requires { AreOutOf count 0 self.old }
         ensures out { OnOk result (AreOutOf count count self.new) }
         ensures kept { OnErr result (AreOutOf count 0 self.new) }
@@ -138,7 +99,7 @@ impl Home {
     {
         let mut rooms = Vec::with_capacity(alloc, usize::from(count))?;
         for out in 0..count {
-            let Ok(room) = self.take_room(alloc, count, out) else {
+            let Ok(room) = self.take_room(alloc, count, out, lines) else {
                 self.give_rooms(rooms, count);
                 return Err(AllocError);
             };
@@ -152,14 +113,8 @@ impl Home {
         requires { AreOutOf all (out + 1) self.old }
         ensures { AreOutOf all out self.new }
     {
-        let Buffers {
-            frame,
-            slots,
-            half: _,
-            sketch: _,
-        } = buffers;
+        let Buffers { frame, sheet: _ } = buffers;
         self.frames.give(frame);
-        self.slots.give(slots);
     }
 
     // Takes rooms back, of so many in all.
@@ -171,12 +126,6 @@ impl Home {
             self.give_buffers(Box::into_inner(buffers), all, rooms.len());
         }
     }
-}
-
-// The one room of a home that was made for it. An error is want of memory.
-fn one_room(alloc: Global) -> Result<Room, AllocError> {
-    let mut home = Home::with_rooms(alloc, 1)?;
-    home.take_room(alloc, 1, 0)
 }
 
 impl RunStock {
@@ -192,7 +141,7 @@ impl RunStock {
     {
         let lines = Lines::new(alloc)?;
         Ok(RunStock {
-            room: one_room(alloc)?,
+            room: OwnRoom::new(alloc)?,
             board: Board::new(alloc, plans.params())?,
             demands: demands_of(alloc, plans.params())?,
             ahead: DrawnAhead::new(alloc, plans, workers, &lines)?,

@@ -9,7 +9,7 @@ use Rattle.param_state.specs.Demands.{AreDemandsOf, any_name, demand_at, entered
 use Rattle.fold_state.specs.Entering.{AreQuiet, HasEntered, IsQuiet}
 use Rattle.fold_state.proofs.SeatFacts.{entered-more}
 use Rattle.memory_laws.specs.Alike.{AreAlike}
-use Rattle.memory_laws.proofs.AlikeFacts.{alike-is-same, alike-same, entered-where, one-entered}
+use Rattle.memory_laws.proofs.AlikeFacts.{entered-where, one-entered}
 use Rattle.mib_model.specs.declared.packet.Value.{Value}
 use Rattle.mib_model.specs.Kept.{Memory, all_entered, entered}
 use Rattle.param_plan.specs.Slices.{ParamSlice}
@@ -23,12 +23,6 @@ module _ (demands : List Demand) (values : List Value) (before : Slots) where
       let next = entered-where asked (all_entered m (take i values)) (memory_of board) v (demand_at demands at).asked (noted v.name at here) so_far in
       subst (λ (x : Memory). AreAlike asked x (memory_of after)) (sym (entered-more m values v i below is))
       (subst (λ (x : Memory). AreAlike asked (entered (all_entered m (take i values)) v) x) (sym left) next)
-
--- where nothing is noted all raw numbers are entered
-pub all-entered : (values : List Value) (before after : Slots) → HasEntered [] values before after → memory_of after ≡ all_entered (memory_of before) values
-all-entered values before after entered =
-    sym (alike-is-same any_name (all_entered (memory_of before) values) (memory_of after) (λ name. refl)
-    (entered any_name (memory_of before) (λ name at here asked. refl) (alike-same any_name (memory_of before))))
 
 -- nothing is entered of names that aren't asked
 pub quiet-entered : (demands : List Demand) (values : List Value) (board : Slots) → AreQuiet demands board values → HasEntered demands values board board

@@ -1,7 +1,7 @@
 -- How a line goes on where no more than the raw number of its value is asked, of the name at a place of a board. [This profile.]
 use Rattle.std.specs.Prelude.{ℕ, List, [], ◌++◌, codes, get_or}
 use Rattle.fold_state.specs.Boards.{Slots}
-use Rattle.line_sketches.specs.Sketches.{Shown}
+use Rattle.line_marks.specs.Marks.{Shown}
 use Rattle.mib_model.specs.AlarmTexts.{change_text_of}
 use Rattle.mib_model.specs.Finish.{Finished}
 use Rattle.mib_model.specs.Tails.{Told}

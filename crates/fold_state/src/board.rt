@@ -10,12 +10,11 @@ ghost use Rattle.param_state.specs.SlotViews.{kept_as, slot_name, vacant_for};
 ghost use Rattle.fold_state.specs.Boards.{memory_of, place_of};
 ghost use Rattle.param_state.specs.ParamPlans.{plan_names};
 ghost use Rattle.fold_state.specs.Places.{Rise};
-ghost use Rattle.line_sketches.specs.Sketches.{after_nominal};
+ghost use Rattle.line_marks.specs.Marks.{after_nominal};
 
 use bit_field::MOST_VALUES;
 use check_plan::{Holds, Sample};
-use line_sketches::{Sketch, read_sketched_ahead};
-use mib_model::{Change, Class, Eng, MadeFor, Name, Value};
+use mib_model::{Change, Class, Eng, MadeFor, Name};
 use param_plan::Params;
 use param_state::{ParamSlot, STRIDE, read_rows_ahead, read_slots_ahead};
 use plan_places::{FAR, Guesses, touch_parts, touch_plans};
@@ -163,16 +162,6 @@ impl Board {
                 ^ touch_parts(params, plain, places);
         }
         first
-    }
-
-    /// Reads ahead what finishing values by a sketch will ask.
-    pub(crate) fn begin_sketched(&mut self, params: &Params, values: &[Value], sketch: &Sketch)
-        ensures { self.new ≡ self.old }
-    {
-        if self.slots.len() >= FAR {
-            let slots = read_slots_ahead(&self.slots, sketch.places());
-            self.ahead = slots ^ read_sketched_ahead(params, values, sketch);
-        }
     }
 
     /// Reads ahead what carrying will ask of the plans from this place on, once for so many places.

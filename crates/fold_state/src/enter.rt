@@ -13,7 +13,6 @@ ghost use Rattle.mib_model.specs.Kept as Spec;
 use crate::board::Board;
 use mib_model::{Name, Value};
 use param_state::{Demand, ParamSlot, is_asked, is_raw};
-use plan_places::Guesses;
 
 // Notes the place of the k-th value, where there is a seat for it.
 fn note_seat(seats: &mut Vec<usize>, k: usize, at: usize)
@@ -91,30 +90,15 @@ fn enter_near(
     values.len()
 }
 
-// The places where the first values are looked for: these, or where none are given the guesses from here on.
-#[inline(always)]
-fn first_places<'a>(
-    guesses: &'a Guesses,
-    first: usize,
-    count: usize,
-    hints: Option<&'a [u32]>,
-) -> &'a [u32] {
-    match hints {
-        Some(places) => places,
-        None => guesses.places(first, count),
-    }
-}
-
 impl Board {
-    // Enters the raw numbers of the first values, as long as these places are theirs, or where none are given the guesses from here
-    // on, notes the places, and tells how many values they are.
+    // Enters the raw numbers of the first values, as long as the guesses of their places from here on are right, notes the places, and
+    // tells how many values they are.
     #[inline(always)]
     fn enter_first(
         &mut self,
         demands: &[Demand],
         values: &[Value],
         first: usize,
-        hints: Option<&[u32]>,
         seats: &mut Vec<usize>,
     ) -> usize
         ensures few { result ≤ length values.now }
@@ -122,7 +106,7 @@ impl Board {
         ensures seats { AreSeated self.old values.now result seats.new.items }
         ensures memory { All IsRaw values.now → HasEntered demands.now (take result values.now) self.old self.new }
     {
-        let places = first_places(&self.guesses, first, values.len(), hints);
+        let places = self.guesses.places(first, values.len());
         if places.len() < values.len() || seats.len() < values.len() {
             return 0;
         }
@@ -147,14 +131,13 @@ impl Board {
     }
 
     /// Enters the raw numbers of values, in their order, and notes their places, as far as there are seats for them. The places are
-    /// looked for where hints say, if there are any, and else where the guesses do from here on.
+    /// looked for where the guesses from here on say.
     #[inline(always)]
     pub(crate) fn enter_all(
         &mut self,
         demands: &[Demand],
         values: &[Value],
         first: usize,
-        hints: Option<&[u32]>,
         seats: &mut Vec<usize>,
     )
         ensures names { self.new.names ≡ self.old.names }
@@ -162,7 +145,7 @@ impl Board {
         ensures memory { All (λ v. HasSlot self.old v.name) values.now → All IsRaw values.now
             → HasEntered demands.now values.now self.old self.new }
     {
-        let done = self.enter_first(demands, values, first, hints, seats);
+        let done = self.enter_first(demands, values, first, seats);
         for k in done..values.len() {
             let at = self.enter(demands, &values[k], first.saturating_add(k));
             note_seat(seats, k, at);

@@ -44,11 +44,11 @@ pub struct Seen<'a> {
     pub title: Option<&'a Text>,
 }
 
-/// The plans of a packet's values, and which of them are plain.
+// The plans of a packet's values, and which of them are plain.
 #[derive(Clone, Copy)]
-pub(crate) struct MarkedPlans<'a> {
-    pub params: &'a Params,
-    pub plain: &'a [bool],
+struct MarkedPlans<'a> {
+    params: &'a Params,
+    plain: &'a [bool],
 }
 
 impl Board {
@@ -108,10 +108,10 @@ impl Board {
         self.finish_at(seat, params.plan(seat), value)
     }
 
-    /// Finishes a value, whose place is this, and appends its line and that of what its check tells.
+    // Finishes a value, whose place is this, and appends its line and that of what its check tells.
     #[tactic(auto, unfolding(mib_model::specs::Texts::value_text))]
     #[inline(always)]
-    pub(crate) fn finish_value(
+    fn finish_value(
         &mut self,
         plans: &MarkedPlans<'_>,
         seat: usize,
@@ -138,8 +138,8 @@ impl Board {
         add_change(value, change, out);
     }
 
-    /// The place of the k-th value, which is noted where there are seats enough.
-    pub(crate) fn seat_of(&self, seats: &[usize], k: usize, value: &Value) -> usize
+    // The place of the k-th value, which is noted where there are seats enough.
+    fn seat_of(&self, seats: &[usize], k: usize, value: &Value) -> usize
         ensures { (k < length seats.now → place_of self.now value.now.name ≡ Some (get_or seats.now k 0)) → HasSlot self.now value.now.name
             → place_of self.now value.now.name ≡ Some result }
     {
@@ -187,34 +187,17 @@ impl Board {
         }
     }
 
-    /// Enters the raw numbers of values that are asked, and gives the places of all, as far as there are seats for them. The places are
-    /// looked for where hints say, if there are any, and else where the guesses do from here on.
+    // Enters the raw numbers of values that are asked, and gives the places of all, as far as there are seats for them. The places are
+    // looked for where the guesses from here on say.
     #[inline(always)]
-    pub(crate) fn enter_seated(
-        &mut self,
-        demands: &[Demand],
-        values: &[Value],
-        first: usize,
-        hints: Option<&[u32]>,
-    ) -> Vec<usize>
+    fn enter_seated(&mut self, demands: &[Demand], values: &[Value], first: usize) -> Vec<usize>
         ensures names { self.new.names ≡ self.old.names }
         ensures entered { (db : Database) (params : List ParamSlice) → Fits db params self.old values.now
             → AreEntered db params demands.now values.now self.old self.new result.items }
     {
         let mut seats = self.take_seats();
-        self.enter_all(demands, values, first, hints, &mut seats);
+        self.enter_all(demands, values, first, &mut seats);
         seats
-    }
-
-    /// Gives the seats back, and appends the line that tells how values ended.
-    pub(crate) fn end(&mut self, seats: Vec<usize>, ended: &Ended, out: &mut Lines)
-        requires { length out.old + LINE_MOST ≤ LINES_ROOM }
-        ensures same { self.new ≡ self.old }
-        ensures text { out.new ≡ out.old ++ ended_text ended.now }
-        ensures room { length out.new ≤ length out.old + NOTE_ROOM }
-    {
-        self.give_seats(seats);
-        ended_line(ended, out);
     }
 
     // Enters the raw numbers of a packet's values that are asked, then finishes each in its order, and appends their lines.
@@ -233,7 +216,7 @@ impl Board {
         ensures finished { FinishesAll params.now demands.now self.old seen.now.packet.now seen.now.values.now (memory_of self.new) out.old out.new }
         ensures room { length out.new ≤ length out.old + most_values * (VALUE_ROOM + NOTE_ROOM) }
     {
-        let seats = self.enter_seated(demands, seen.values, first, None);
+        let seats = self.enter_seated(demands, seen.values, first);
         self.finish_all(params, &seats, seen.values, seen.packet, out);
         self.give_seats(seats);
     }

@@ -16,7 +16,6 @@ mod laws;
 mod room;
 mod seated;
 mod shown;
-mod sketched;
 
 pub use board::Board;
 pub use check_plan::Holds;

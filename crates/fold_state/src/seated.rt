@@ -4,7 +4,7 @@ ghost use Rattle.fold_state.specs.Boards.{memory_of, place_of};
 ghost use Rattle.param_state.specs.ParamPlans.{plan_names, IsParamsOf};
 ghost use Rattle.param_state.specs.FinishedValues.{bare_value};
 ghost use Rattle.fold_state.specs.Opened.{name_at, opened};
-ghost use Rattle.line_sketches.specs.Sketches.{HasShown, after_nominal};
+ghost use Rattle.line_marks.specs.Marks.{HasShown, after_nominal};
 ghost use Rattle.mib_model.specs.AlarmTexts.{change_text};
 ghost use Rattle.mib_model.specs.declared.database.Database.{Database};
 ghost use Rattle.mib_model.specs.Finish as Spec;

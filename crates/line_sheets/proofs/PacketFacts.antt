@@ -15,10 +15,10 @@ use Rattle.mib_model.specs.Parameters.{parameter}
 use Rattle.mib_model.specs.Tails.{Tail, Told}
 use Rattle.mib_model.specs.Texts.{tail_text, told_text, value_text}
 use Rattle.record_text.specs.ValueParts.{begin_text}
-use Rattle.line_sketches.specs.declared.sketch.Mark.TheVariants as mark
+use Rattle.line_marks.specs.declared.mark.Mark.TheVariants as mark
 use Rattle.param_state.specs.FinishedValues.{bare_value}
 use Rattle.fold_state.specs.Opened.{open_text, opened}
-use Rattle.line_sketches.specs.Sketches.{IsShown, finished_lines, told_after_nominal}
+use Rattle.line_marks.specs.Marks.{IsShown, finished_lines, told_after_nominal}
 use Rattle.param_state.proofs.ValueFacts.{finished-more}
 use Rattle.line_sheets.specs.Pieces.{Played, and_then, behind}
 use Rattle.line_sheets.specs.Sheets.{Calmed, Entered, Opened, SheetView, with_act, with_text}

@@ -22,11 +22,11 @@ use Rattle.mib_model.specs.Texts.{told_text, value_text}
 use Rattle.param_plan.specs.Plain.{plain_at}
 use Rattle.param_plan.specs.Slices.{ParamSlice, slice_for}
 use Rattle.param_plan.proofs.PlanFacts.{position-map}
-use Rattle.line_sketches.specs.declared.sketch.Mark.TheVariants as mark
+use Rattle.line_marks.specs.declared.mark.Mark.TheVariants as mark
 use Rattle.fold_state.specs.Boards.{Slots}
 use Rattle.param_state.specs.ParamPlans.{is_name_of, plan_names, IsParamsOf, planned}
 use Rattle.param_state.specs.Demands.{asked_in, slice_asks}
-use Rattle.line_sketches.specs.Sketches.{IsShown}
+use Rattle.line_marks.specs.Marks.{IsShown}
 use Rattle.param_state.proofs.NamedFacts.{same-name}
 use Rattle.fold_state.proofs.FinishFacts.{finish-plain-at, plan-found, plan-within}
 use Rattle.param_state.proofs.ValueFacts.{found-passes, some-item}

@@ -2,7 +2,7 @@
 use Rattle.std.specs.Prelude.{ℕ, ℤ, List, [], ◌∷◌, ◌++◌, Option, Some}
 use Rattle.param_state.specs.FinishedValues.{bare_value}
 use Rattle.fold_state.specs.Opened.{opened}
-use Rattle.line_sketches.specs.Sketches.{told_after_nominal}
+use Rattle.line_marks.specs.Marks.{told_after_nominal}
 use Rattle.mib_model.specs.declared.database.Database.{Database}
 use Rattle.mib_model.specs.Finish.{finished}
 use Rattle.mib_model.specs.Kept.{Memory, entered}

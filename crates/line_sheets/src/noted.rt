@@ -5,12 +5,12 @@ ghost use Rattle.std.specs.Str.{bytes_eq};
 ghost use Rattle.param_state.specs.Demands.{AreNoted};
 ghost use Rattle.param_state.specs.ParamPlans.{IsParamsOf};
 ghost use Rattle.param_state.specs.FinishedValues.{IsRaw};
-ghost use Rattle.line_sketches.specs.Sketches.{IsShown, behind};
+ghost use Rattle.line_marks.specs.Marks.{IsShown, behind};
 ghost use Rattle.mib_model.specs.Bits.{is_inside};
 ghost use Rattle.mib_model.specs.declared.database.Database.{Database};
 ghost use Rattle.record_text.specs.declared.lines.TheConstants.{LINES_ROOM, LINE_MOST, VALUE_ROOM};
 
-use line_sketches::{Mark, draw_at};
+use line_marks::{Mark, draw_at};
 use mib_model::Value;
 use param_plan::Params;
 use param_state::{Demand, add_plain_value, is_plain};

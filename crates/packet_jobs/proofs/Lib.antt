@@ -1,3 +1,3 @@
 pub mod BoardFacts
 mod Common
-mod FinishFacts
+pub mod TaskFacts

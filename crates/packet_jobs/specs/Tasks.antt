@@ -1,5 +1,5 @@
 -- Jobs of stamped packets, and what becomes of them. [This project's own.]
-use Rattle.std.specs.Prelude.{◌≡◌, ℕ, true, List}
+use Rattle.std.specs.Prelude.{◌≡◌, ℕ, List}
 use Rattle.std.specs.Arc.{arc_value}
 use Rattle.std.specs.List.{Contains}
 use Rattle.decode_session.specs.Cells.{packet_in}
@@ -17,18 +17,17 @@ module _ {P : Type 0} {plans : Structures.Ghosts P} where
   number_in (task.Packet job) = job.cell.number
 
 module _ {P : Type 0} {plans : Structures.Ghosts P} (tables : P → Database) where
-  -- a job was decoded: its number, its packet and the tables of its handle are the same
-  pub record IsDecoded (before after : Job P plans) : Type 0 where
+  -- two jobs are of one packet: with the same number and octets, and the same tables of their handles
+  pub record IsSame (before after : Job P plans) : Type 0 where
     pub number : after.cell.number ≡ before.cell.number
     pub packet : packet_in after.cell ≡ packet_in before.cell
     pub edition : tables (arc_value after.handle) ≡ tables (arc_value before.handle)
-    pub is_decoded : after.is_decoded ≡ true
 
   -- what a worker makes of a task
   abbrev pub IsWorked : Task P plans → Task P plans → Type 0
   IsWorked task.End after = after ≡ task.End
   IsWorked (task.Packet before) task.End = ⊥
-  IsWorked (task.Packet before) (task.Packet after) = IsDecoded before after
+  IsWorked (task.Packet before) (task.Packet after) = IsSame before after
 
   -- a job is that of a stamped packet, with a handle of the packet's tables
   pub record IsOfStamp (s : StampedPacket) (job : Job P plans) : Type 0 where
@@ -41,11 +40,6 @@ module _ {P : Type 0} {plans : Structures.Ghosts P} (tables : P → Database) wh
   IsJob stamped task.End = ⊥
   IsJob stamped (task.Packet job) = (s : StampedPacket) × Contains stamped s × IsOfStamp s job
 
-  -- so is a task, and its packet was decoded
-  abbrev pub IsRight : List StampedPacket → Task P plans → Type 0
-  IsRight stamped task.End = ⊥
-  IsRight stamped (task.Packet job) = IsJob stamped (task.Packet job) × (job.is_decoded ≡ true)
-
-  -- each of these results is right
+  -- each of these results is the job of one of these packets
   abbrev pub AllRight : List StampedPacket → List (Task P plans) → Type 0
-  AllRight stamped results = (result : Task P plans) → Contains results result → IsRight stamped result
+  AllRight stamped results = (result : Task P plans) → Contains results result → IsJob stamped result

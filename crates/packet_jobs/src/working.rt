@@ -1,16 +1,14 @@
 // What workers do.
-ghost use Rattle.std.specs.Prelude.{◌≡◌, true, vec_len, IfOk};
-ghost use Rattle.std.specs.Arc.{arc_value};
-ghost use Rattle.decode_session.specs.Cells.{IsReady, packet_in};
+ghost use Rattle.std.specs.Prelude.{◌≡◌, IfOk, IsTrue, vec_len};
+ghost use Rattle.decode_session.specs.Cells.{packet_in};
 ghost use Rattle.packet_jobs.specs.Drawn.{IsDrawn};
-ghost use Rattle.packet_jobs.specs.Tasks.{IsWorked, number_in};
+ghost use Rattle.packet_jobs.specs.Tasks.{IsSame, IsWorked, number_in};
 
 use crate::job::{Job, Task};
-use decode_one::draw;
 use decode_pool::Work;
 use decode_session::{Buffers, PacketCell};
 use edition_plans::Plans;
-use line_sketches::Drawer;
+use packet_sheets::{DrawingTool, draw_packet};
 use param_plan::Params;
 use std::alloc::{AllocError, Global};
 use std::marker::PhantomData;
@@ -30,99 +28,49 @@ impl<P: Structures + Drop> Numbered for Task<P> {
     }
 }
 
-/// What one worker works with: what draws the lines of values.
+/// What a worker does: it draws the record of a job's packet by the plans of the job's handle, with a tool of its own. Whoever works
+/// without a tool leaves a job as it is.
 #[derive(Drop)]
-pub(crate) struct Tool {
-    drawer: Drawer,
-}
-
-/// What a worker does: it decodes the packet of a job by the plans of the job's handle, and draws its lines with a tool of its
-/// own. Whoever works without a tool draws none.
-#[derive(Drop)]
-pub struct Decoding<P> {
-    tools: Vec<Mutex<Tool>>,
+pub struct Drawing<P> {
+    tools: Vec<Mutex<DrawingTool>>,
     has_begun: AtomicBool,
     plans: PhantomData<P>,
 }
 
-// Draws the lines of a cell's packet, which was decoded there.
-fn draw_in<P: Plans>(plans: &P, cell: &mut PacketCell, tool: &mut Tool)
-    requires { IsReady (P.tables plans.now) cell.old }
+// Draws the record of a cell's packet, and tells whether its sheet has room for that.
+fn draw_in<P: Plans>(plans: &P, cell: &mut PacketCell, tool: &mut DrawingTool) -> bool
     ensures number { cell.new.number ≡ cell.old.number }
     ensures packet { packet_in cell.new ≡ packet_in cell.old }
-    ensures ready { IsReady (P.tables plans.now) cell.new }
-    ensures drawn { IsDrawn (P.tables plans.now) cell.new }
+    ensures drawn { IsTrue result → IsDrawn (P.tables plans.now) cell.new }
 {
+    let number = cell.number;
     let octets = cell.octets as usize;
-    let Buffers {
-        frame,
-        slots,
-        half,
-        sketch,
-    } = &mut *cell.buffers;
+    let Buffers { frame, sheet } = &mut *cell.buffers;
     let packet = &frame.slice()[..octets];
-    draw(plans, packet, half, slots.slice(), &mut tool.drawer, sketch);
-}
-
-// Draws no line of a cell's packet, which was decoded there.
-fn draw_none<P: Plans>(_plans: &P, cell: &mut PacketCell)
-    requires { IsReady (P.tables _plans.now) cell.old }
-    ensures number { cell.new.number ≡ cell.old.number }
-    ensures packet { packet_in cell.new ≡ packet_in cell.old }
-    ensures ready { IsReady (P.tables _plans.now) cell.new }
-    ensures drawn { IsDrawn (P.tables _plans.now) cell.new }
-{
-    cell.buffers.sketch.clear();
+    draw_packet(plans, &[], number, packet, tool, sheet)
 }
 
 impl<P: Plans + Drop> Job<P> {
-    // Decodes its packet by the plans of its handle, and draws its lines where there is a tool.
-    fn decode(&mut self, tool: Option<&mut Tool>)
-        ensures number { self.new.cell.number ≡ self.old.cell.number }
-        ensures packet { packet_in self.new.cell ≡ packet_in self.old.cell }
-        ensures handle { self.new.handle ≡ self.old.handle }
-        ensures decoded { self.new.is_decoded ≡ true }
+    // Draws the record of its packet by the plans of its handle, where its sheet has room for that.
+    fn draw(&mut self, tool: &mut DrawingTool)
+        ensures { IsSame P.tables self.old self.new }
     {
-        self.is_decoded = false;
-        self.cell.decode(&*self.handle);
-        match tool {
-            Some(tool) => draw_in(&*self.handle, &mut self.cell, tool),
-            None => draw_none(&*self.handle, &mut self.cell),
-        }
-        self.is_decoded = true;
+        self.is_drawn = false;
+        let is_drawn = draw_in(&*self.handle, &mut self.cell, tool);
+        self.is_drawn = is_drawn;
     }
 }
 
-impl<P: Structures + Drop> Job<P> {
-    /// What is known of a job that is decoded. It does nothing.
-    pub(crate) fn is_known(&self)
-        requires { self.now.is_decoded ≡ true }
-        ensures ready { IsReady (P.tables (arc_value self.now.handle)) self.now.cell }
-        ensures drawn { IsDrawn (P.tables (arc_value self.now.handle)) self.now.cell }
-    {}
-}
-
-/// Decodes the packet of a task, without a tool.
-pub fn decode_task<P: Plans + Drop>(task: &mut Task<P>)
-    ensures { IsWorked P.tables task.old task.new }
-{
-    if let Task::Packet(job) = task {
-        job.decode(None);
-    }
-}
-
-impl<P> Decoding<P> {
+impl<P> Drawing<P> {
     /// A tool for each of so many workers. An error is want of memory.
-    pub fn new(alloc: Global, params: &Params, workers: u8) -> Result<Decoding<P>, AllocError>
-        ensures tools { IfOk result (λ decoding. vec_len decoding.tools ≡ workers) }
+    pub fn new(alloc: Global, params: &Params, workers: u8) -> Result<Drawing<P>, AllocError>
+        ensures tools { IfOk result (λ drawing. vec_len drawing.tools ≡ workers) }
     {
         let mut tools = Vec::with_capacity(alloc, usize::from(workers))?;
         for _worker in 0..workers {
-            tools.push(Mutex::new(Tool {
-                drawer: Drawer::new(alloc, params)?,
-            }))?;
+            tools.push(Mutex::new(DrawingTool::new(alloc, params)?))?;
         }
-        Ok(Decoding {
+        Ok(Drawing {
             tools,
             has_begun: AtomicBool::new(false),
             plans: PhantomData,
@@ -135,15 +83,15 @@ impl<P> Decoding<P> {
     }
 }
 
-impl<P: Plans + Drop + Send + Sync> Work for Decoding<P> {
+impl<P: Plans + Drop + Send + Sync> Work for Drawing<P> {
     type Cell = Task<P>;
 
     ghost made = { λ _ before after. IsWorked P.tables before after };
 
-    fn work(&self, task: &mut Task<P>) {
-        decode_task(task);
-    }
+    #[tactic(auto, using(crate::proofs::TaskFacts::worked_same))]
+    fn work(&self, _task: &mut Task<P>) {}
 
+    #[tactic(auto, using(crate::proofs::TaskFacts::worked_same))]
     fn work_by(&self, worker: usize, task: &mut Task<P>) {
         self.has_begun.store(true, Ordering::SeqCst);
         let Task::Packet(job) = task else {
@@ -151,10 +99,8 @@ impl<P: Plans + Drop + Send + Sync> Work for Decoding<P> {
         };
         if worker < self.tools.len() {
             if let Some(mut tool) = self.tools[worker].try_lock() {
-                job.decode(Some(&mut tool));
-                return;
+                job.draw(&mut tool);
             }
         }
-        job.decode(None);
     }
 }

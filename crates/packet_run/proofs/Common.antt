@@ -26,7 +26,7 @@ pub use Rattle.turn_cell.specs.Seats.{holdings_of, own_moves, seen_by}
 pub use Rattle.work_queue.specs.Passes.{account_of, IsOf}
 pub use Rattle.work_queue.specs.declared.account.Account.{Account}
 pub use Rattle.work_queue.specs.declared.queue.Pass.{Pass}
-pub use Rattle.packet_jobs.specs.Tasks.{AllRight, IsJob, IsOfStamp, IsRight, IsWorked, number_in}
+pub use Rattle.packet_jobs.specs.Tasks.{AllRight, IsJob, IsOfStamp, IsWorked, number_in}
 pub use Rattle.packet_jobs.specs.Turning.{ComesBehind, course_of, edition_told, IsTurned}
 pub use Rattle.packet_jobs.specs.declared.in_use.InUse.{InUse}
 pub use Rattle.packet_jobs.specs.declared.job.Task.{Task}

@@ -1,5 +1,5 @@
 -- What a run's steps do to what is kept while packets are in work.
-use Rattle.packet_run.proofs.Common.{[], ℕ, ◌++◌, ◌+◌, ◌<◌, ◌∙◌, ◌∷◌, ◌≡◌, ◌≤◌, All, All-append, All-cons, All-drop, All-nil, All-weaker, AllRight, ap, append-nil, append_assoc, Appends-nil, Appends-trans, arc_value, arith, Contains-append_left, Contains-push, Course, course_of, Database, drop, drop-append-le, drop-append_seam, drop-drop, drop_all, Extends, From, Ghosts, GoesOn, Going, HasPrinted, InUse, InWork, IsFirst, IsJob, IsOfInUse, IsOfStamp, IsResultOf, IsRight, IsUnused, IsWorked, jobs_among, Keeps, Known, length, length-append, List, Member, next_of, number_in, Pipeline, Piping, Prints, put_by, PutsJobs, record_for, record_text, refl, results_of, Some, StampedPacket, start, StaysInUse, Stopped, subst, sym, take, take-append-drop, Takes, Task, waiting, works_nothing}
+use Rattle.packet_run.proofs.Common.{[], ℕ, ◌++◌, ◌+◌, ◌<◌, ◌∙◌, ◌∷◌, ◌≡◌, ◌≤◌, All, All-append, All-cons, All-drop, All-nil, All-weaker, AllRight, ap, append-nil, append_assoc, Appends-nil, Appends-trans, arc_value, arith, Contains-append_left, Contains-push, Course, course_of, Database, drop, drop-append-le, drop-append_seam, drop-drop, drop_all, Extends, From, Ghosts, GoesOn, Going, HasPrinted, InUse, InWork, IsFirst, IsJob, IsOfInUse, IsOfStamp, IsResultOf, IsUnused, IsWorked, jobs_among, Keeps, Known, length, length-append, List, Member, next_of, number_in, Pipeline, Piping, Prints, put_by, PutsJobs, record_for, record_text, refl, results_of, Some, StampedPacket, start, StaysInUse, Stopped, subst, sym, take, take-append-drop, Takes, Task, waiting, works_nothing}
 use Rattle.decode_pool.proofs.PutFacts.{puts_further, puts_job, puts_nothing}
 use Rattle.decode_session.specs.Finishing.{standing}
 use Rattle.mib_model.specs.Interpreter.{course_after_all, interpret}
@@ -38,15 +38,15 @@ module _ {P : Type 0} {plans : Ghosts P} (tables : P → Database) where
 
   next_of_right : (stamped all : List StampedPacket) (n : ℕ) (u : InUse P plans) (t : Task P plans) → Extends stamped all → number_in t ≡ n + 1
       → n < length stamped
-      → All (IsOfInUse tables u) (drop n stamped) → IsRight tables all t → Next all n u t
+      → All (IsOfInUse tables u) (drop n stamped) → IsJob tables all t → Next all n u t
   next_of_right stamped all n u task.End extends number lt of_use right = absurd right
-  next_of_right stamped all n u (task.Packet job) extends number lt of_use ((s, there, of), decoded) =
+  next_of_right stamped all n u (task.Packet job) extends number lt of_use (s, there, of) =
       let place = at_place all n s extends.numbered there (sym of.number ∙ number) in record {
         s = s;
         rest = place.0;
         at = place.1;
         of_use = use_at (IsOfInUse tables u) stamped extends.more n s place.0 (ap (drop n) (sym extends.parts) ∙ place.1) lt of_use;
-        is = (of, decoded);
+        is = of;
       }
 
 module _ {P : Type 0} {plans : Ghosts P} {tables : P → Database} where

@@ -1,5 +1,5 @@
 -- The join of all passes: each result is right.
-use Rattle.packet_run.proofs.Common.{[], ℕ, ◌++◌, ◌∙◌, ◌≡◌, account_of, AllRight, AllServe, ap, Database, each_joined, Ghosts, Holds, IsJob, IsRight, IsStocked, IsWorked, joined_jobs, joined_of_such, joined_results, List, number_in, Pass, Pipeline, put_by, PutsJobs, results_of, SharesStay, StampedPacket, Task, TellsBalance}
+use Rattle.packet_run.proofs.Common.{[], ℕ, ◌++◌, ◌∙◌, ◌≡◌, account_of, AllRight, AllServe, ap, Database, each_joined, Ghosts, Holds, IsJob, IsStocked, IsWorked, joined_jobs, joined_of_such, joined_results, List, number_in, Pass, Pipeline, put_by, PutsJobs, results_of, SharesStay, StampedPacket, Task, TellsBalance}
 use Rattle.decode_pool.specs.Flow.{KeepsNumber}
 use Rattle.work_queue.specs.declared.queue.Queue.{Queue}
 use Rattle.packet_jobs.specs.declared.job.Task.TheVariants as task
@@ -11,11 +11,11 @@ module _ {P : Type 0} {plans : Ghosts P} (tables : P → Database) where
   keeps_number (task.Packet job) (task.Packet result) is = is.number
 
   -- what a worker makes of the job of a packet is right
-  right_of : (stamped : List StampedPacket) (job result : Task P plans) → IsJob tables stamped job → IsWorked tables job result → IsRight tables stamped result
+  right_of : (stamped : List StampedPacket) (job result : Task P plans) → IsJob tables stamped job → IsWorked tables job result → IsJob tables stamped result
   right_of stamped task.End result is made = absurd is
   right_of stamped (task.Packet job) task.End is made = absurd made
   right_of stamped (task.Packet job) (task.Packet result) (s, there, of) made =
-      ((s, there, record { number = made.number ∙ of.number; packet = made.packet ∙ of.packet; edition = made.edition ∙ of.edition }), made.is_decoded)
+      (s, there, record { number = made.number ∙ of.number; packet = made.packet ∙ of.packet; edition = made.edition ∙ of.edition })
 
   -- once the workers have served and all passes are joined
   pub all_right : (jobs results : Queue (Task P plans)) (old new : List (Pass (Task P plans))) (p q : Pipeline P plans) (stamped : List StampedPacket)

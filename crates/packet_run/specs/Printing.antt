@@ -1,5 +1,5 @@
 -- A packet that is printed. [This profile.]
-use Rattle.std.specs.Prelude.{◌≡◌, ℕ, true, List, [], ◌∷◌, ◌++◌, Option}
+use Rattle.std.specs.Prelude.{◌≡◌, ℕ, List, [], ◌∷◌, ◌++◌, Option}
 use Rattle.std.specs.Arc.{arc_value}
 use Rattle.std.specs.Io.KnownBytes.{Appends}
 use Rattle.fold_state.specs.Boards.{memory_of}
@@ -14,10 +14,10 @@ use Rattle.packet_jobs.specs.Tasks.{IsOfStamp}
 use Rattle.packet_run.specs.Told.{Member, member}
 
 module _ {P : Type 0} {plans : Structures.Ghosts P} (tables : P → Database) where
-  -- a result is that of a stamped packet, which was decoded
+  -- a result is the job of a stamped packet
   abbrev pub IsResultOf : StampedPacket → Task P plans → Type 0
   IsResultOf s task.End = ⊥
-  IsResultOf s (task.Packet job) = IsOfStamp tables s job × (job.is_decoded ≡ true)
+  IsResultOf s (task.Packet job) = IsOfStamp tables s job
 
   module _ {W : Type 0} (stands : W → List Member → Type 0) where
     -- the record of a packet to which the interpreter comes was written, its edition is in use, this is kept after it, and the watch was told

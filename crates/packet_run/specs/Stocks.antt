@@ -27,7 +27,7 @@ module _ {P : Type 0} {plans : Structures.Ghosts P} where
 
   -- how many workers of a stock have a tool of their own
   abbrev pub tools_of : Stock P plans → ℕ
-  tools_of stock = vec_len stock.crew.decoding.tools
+  tools_of stock = vec_len stock.crew.drawing.tools
 
   -- nothing was put, got, read or committed, and no result waits
   pub record IsUnused (pipeline : Pipeline P plans) : Type 0 where

@@ -26,37 +26,36 @@ use edition_plans::Plans;
 use edition_register::Start;
 use fold_state::BoardRoom;
 use mib_model::Rows;
-use packet_jobs::{InUse, finish_alone, turn};
-use record_text::Lines;
+use packet_jobs::{InUse, RecordRoom, finish_alone, turn};
 use std::sync::Wait;
 use tm_io::{Failed, Sink};
 
 // Decodes a packet and prints its record, by its own edition, which comes into use.
 fn print_alone<P: Plans + Rows + Drop, O: Sink, W: Watch, R: Wait>(
     rt: &R,
-    cell: &mut PacketCell,
+    cell: &PacketCell,
     edition: u32,
     start: Option<Start<P, BoardRoom>>,
     in_use: &mut InUse<P>,
-    lines: &mut Lines,
+    room: &mut RecordRoom,
     out: &mut O,
     watch: &mut W,
 ) -> Result<(), Failed>
     requires same { AreSame P.Rows.tables P.Structures.tables }
     requires start { MatchOption start ⊤ (λ start. is_made_for (P.Rows.tables (arc_value start.handle)) start.board ≡ true) }
     ensures printed { OnOk result ((shown : Database) → ComesBehind P.Structures.tables P.Rows.tables in_use.old edition shown start
-        → HasPrinted P.Structures.tables W.stands (course_of P.Structures.tables in_use.old) (stamped_cell edition shown cell.old) in_use.new
+        → HasPrinted P.Structures.tables W.stands (course_of P.Structures.tables in_use.old) (stamped_cell edition shown cell.now) in_use.new
         (O.written out.old) (O.written out.new) watch.old watch.new) }
     ensures part { OnErr result ((shown : Database) → ComesBehind P.Structures.tables P.Rows.tables in_use.old edition shown start
         → AppendsPart (O.written out.old) (O.written out.new)
-        (record_text (record_for (course_of P.Structures.tables in_use.old) (stamped_cell edition shown cell.old)))) }
+        (record_text (record_for (course_of P.Structures.tables in_use.old) (stamped_cell edition shown cell.now)))) }
     ensures untold { OnErr result (watch.new ≡ watch.old) }
     ensures cause { HasCause (O.faults out.old) (O.faults out.new) result }
 {
-    lines.clear();
-    turn(edition, start, in_use, lines);
-    finish_alone(cell, in_use, lines);
-    write_record(rt, cell.number, in_use, lines, out, watch)
+    room.lines.clear();
+    turn(edition, start, in_use, &mut room.lines);
+    finish_alone(cell, in_use, room);
+    write_record(rt, cell.number, in_use, &room.lines, out, watch)
 }
 
 /// Decodes a packet that was read, once all before it are committed, and commits it.
@@ -88,18 +87,18 @@ pub(crate) fn do_alone<P: Plans + Rows + Drop, O: Sink, W: Watch, R: Wait>(
     ensures cause { HasCause (O.faults out.old) (O.faults out.new) result }
 {
     let StampedCell {
-        mut cell,
+        cell,
         edition,
         start,
     } = read;
     pipeline.read += 1;
     let printed = print_alone(
         rt,
-        &mut cell,
+        &cell,
         edition,
         start,
         in_use,
-        &mut pipeline.lines,
+        &mut pipeline.record,
         out,
         watch,
     );

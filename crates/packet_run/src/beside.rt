@@ -26,7 +26,7 @@ fn serve_all<P: Plans + Drop + Send + Sync, G: Gate + Sync, R: Threads + Wait + 
     ensures ready { Ready crew.now.jobs crew.now.results passes.new.items }
     ensures serves { AllServe crew.now.jobs crew.now.results (IsWorked P.tables) number_in passes.old.items passes.new.items }
 {
-    Pool::serve(rt, &crew.decoding, gate, &crew.jobs, &crew.results, passes);
+    Pool::serve(rt, &crew.drawing, gate, &crew.jobs, &crew.results, passes);
 }
 
 /// Runs the caller in this thread beside workers in threads of their own, and gives what the caller gives.

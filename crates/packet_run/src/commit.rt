@@ -16,17 +16,16 @@ use crate::parts::{Crew, Pipeline};
 use crate::pipeline::{collect, free};
 use crate::watch::Watch;
 use edition_plans::Plans;
-use packet_jobs::{InUse, Task, finish_job};
-use record_text::Lines;
+use packet_jobs::{InUse, RecordRoom, Task, finish_job};
 use std::sync::Wait;
 use tm_io::{Failed, Sink};
 
-// Prints the record of a result. One that wasn't decoded, which never comes, has none.
+// Prints the record of a result. An end of a worker, which never comes, has none.
 fn print_result<P: Plans + Drop, O: Sink, W: Watch, R: Wait>(
     rt: &R,
     task: &Task<P>,
     in_use: &mut InUse<P>,
-    lines: &mut Lines,
+    room: &mut RecordRoom,
     out: &mut O,
     watch: &mut W,
 ) -> Result<(), Failed>
@@ -41,12 +40,9 @@ fn print_result<P: Plans + Drop, O: Sink, W: Watch, R: Wait>(
     let Task::Packet(job) = task else {
         return Ok(());
     };
-    if !job.is_decoded {
-        return Ok(());
-    }
-    lines.clear();
-    finish_job(job, in_use, lines);
-    write_record(rt, job.cell.number, in_use, lines, out, watch)
+    room.lines.clear();
+    finish_job(job, in_use, room);
+    write_record(rt, job.cell.number, in_use, &room.lines, out, watch)
 }
 
 // Commits the next packet, where its result is there.
@@ -77,7 +73,7 @@ fn commit_next<P: Plans + Drop, O: Sink, W: Watch, R: Wait>(
     let Some(task) = pipeline.window.take_next() else {
         return Ok(false);
     };
-    let printed = print_result(rt, &task, in_use, &mut pipeline.lines, out, watch);
+    let printed = print_result(rt, &task, in_use, &mut pipeline.record, out, watch);
     free(&mut pipeline.rooms, task);
     let Ok(()) = printed else {
         return Err(Failed);

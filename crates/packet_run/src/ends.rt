@@ -97,7 +97,7 @@ pub(crate) fn finish_run<P: Plans + Drop, O: Sink, W: Watch, R: Wait>(
     let Ok(()) = commit_to(rt, crew, pipeline, in_use, all, out, watch) else {
         return Err(RunFault::Print(Stop::Out));
     };
-    let ended = end_as(until, &mut pipeline.lines, out);
+    let ended = end_as(until, &mut pipeline.record.lines, out);
     hand_on(ended, out)
 }
 

@@ -1,6 +1,6 @@
-//! One run over the packets of a feed: each is stamped as it is read, decoded by a worker, and printed in the order of the stamps.
+//! One run over the packets of a feed: each is stamped as it is read, drawn by a worker, and printed in the order of the stamps.
 //!
-//! `run_packets` puts the packets of a feed into a queue, workers decode them, and their results wait in a window for their turn. What a
+//! `run_packets` puts the packets of a feed into a queue, workers draw their records, and their results wait in a window for their turn. What a
 //! result is, is proved for all results at once, when the passes of all queues are joined at the end: until then the run keeps an
 //! implication (`specs/Piping`). It takes no memory: a `Stock` is reserved before it begins. It rests on `packet_jobs` for what is done to
 //! one packet, on `decode_session` for packets and rooms, on `decode_pool`, `work_queue` and `commit_order` for workers and the

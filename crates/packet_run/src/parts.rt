@@ -3,8 +3,7 @@ use decode_session::Room;
 use edition_register::Register;
 use fold_state::BoardRoom;
 use mib_model::Rows;
-use packet_jobs::{Decoding, Task};
-use record_text::Lines;
+use packet_jobs::{Drawing, RecordRoom, Task};
 use struct_plan::Structures;
 use work_queue::{Pass, Queue};
 
@@ -13,7 +12,7 @@ use work_queue::{Pass, Queue};
 pub struct Crew<P: Structures + Drop> {
     pub jobs: Queue<Task<P>>,
     pub results: Queue<Task<P>>,
-    pub decoding: Decoding<P>,
+    pub drawing: Drawing<P>,
     pub rooms: u16,
 }
 
@@ -26,7 +25,7 @@ pub(crate) struct Intake<'r, 'c, 'g, 'e, P: Structures + Rows + Drop, R, G> {
     pub register: &'e Register<P, BoardRoom>,
 }
 
-/// The caller's side of a run: its passes of both queues, the results that wait for their turn, the rooms that are free, the page
+/// The caller's side of a run: its passes of both queues, the results that wait for their turn, the rooms that are free, the room
 /// for records, how many packets were committed and read, and how many workers there are to end.
 #[derive(Drop)]
 pub struct Pipeline<P: Structures + Drop> {
@@ -34,10 +33,10 @@ pub struct Pipeline<P: Structures + Drop> {
     pub second: Pass<Task<P>>,
     pub window: Window<Task<P>>,
     pub rooms: Vec<Room>,
-    pub lines: Lines,
+    pub record: RecordRoom,
     pub done: u64,
     pub read: u64,
     pub workers: u8,
-    // How often the caller looks yet whether a worker has begun, before it works jobs itself.
+    // How often the caller looks yet whether a worker has begun, before it takes jobs back.
     pub patience: u32,
 }

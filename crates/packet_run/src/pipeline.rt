@@ -8,7 +8,7 @@ use crate::parts::{Crew, Pipeline};
 use commit_order::{Placed, Window};
 use decode_session::Room;
 use edition_plans::Plans;
-use packet_jobs::{Task, decode_task};
+use packet_jobs::Task;
 use std::sync::Wait;
 use std::thread;
 use struct_plan::Structures;
@@ -38,7 +38,7 @@ fn hold<P: Structures + Drop>(window: &mut Window<Task<P>>, rooms: &mut Vec<Room
     }
 }
 
-/// Works one job itself, where there is one.
+// Takes one job back, where there is one: the caller does it when its turn comes.
 fn help<P: Plans + Drop, R: Wait>(rt: &R, crew: &Crew<P>, pipeline: &mut Pipeline<P>)
     requires first { IsOf crew.now.jobs pipeline.old.first }
     ensures first { IsOf crew.now.jobs pipeline.new.first }
@@ -49,16 +49,15 @@ fn help<P: Plans + Drop, R: Wait>(rt: &R, crew: &Crew<P>, pipeline: &mut Pipelin
 {
     match crew.jobs.get(rt, &mut pipeline.first) {
         None => thread::yield_now(),
-        Some(mut task) => {
+        Some(task) => {
             if task.number() != 0 {
-                decode_task(&mut task);
                 hold(&mut pipeline.window, &mut pipeline.rooms, task);
             }
         }
     }
 }
 
-/// Puts a job. While the queue is full it works others itself.
+/// Puts a job. While the queue is full it takes others back.
 pub(crate) fn offer<P: Plans + Drop, R: Wait>(
     rt: &R,
     crew: &Crew<P>,
@@ -83,7 +82,7 @@ pub(crate) fn offer<P: Plans + Drop, R: Wait>(
     unreachable!()
 }
 
-// Looks for a result while no worker has begun, and works a job itself where none comes for long.
+// Looks for a result while no worker has begun, and takes a job back where none comes for long.
 fn look<P: Plans + Drop, R: Wait>(rt: &R, crew: &Crew<P>, pipeline: &mut Pipeline<P>)
     requires first { IsOf crew.now.jobs pipeline.old.first }
     requires second { IsOf crew.now.results pipeline.old.second }
@@ -94,7 +93,7 @@ fn look<P: Plans + Drop, R: Wait>(rt: &R, crew: &Crew<P>, pipeline: &mut Pipelin
     ensures keeps { Keeps P.tables pipeline.old pipeline.new }
 {
     for _ in 0..pipeline.patience {
-        if crew.decoding.has_begun() {
+        if crew.drawing.has_begun() {
             return;
         }
         thread::yield_now();
@@ -103,7 +102,7 @@ fn look<P: Plans + Drop, R: Wait>(rt: &R, crew: &Crew<P>, pipeline: &mut Pipelin
     help(rt, crew, pipeline);
 }
 
-/// Gets one result, and keeps it for its turn. Where no worker comes it works a job itself.
+/// Gets one result, and keeps it for its turn. Where no worker comes it takes a job back.
 #[inline(never)]
 pub(crate) fn collect<P: Plans + Drop, R: Wait>(rt: &R, crew: &Crew<P>, pipeline: &mut Pipeline<P>)
     requires first { IsOf crew.now.jobs pipeline.old.first }
@@ -114,7 +113,7 @@ pub(crate) fn collect<P: Plans + Drop, R: Wait>(rt: &R, crew: &Crew<P>, pipeline
     ensures stays { Stays pipeline.old pipeline.new }
     ensures keeps { Keeps P.tables pipeline.old pipeline.new }
 {
-    if !crew.decoding.has_begun() {
+    if !crew.drawing.has_begun() {
         look(rt, crew, pipeline);
         return;
     }

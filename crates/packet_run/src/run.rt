@@ -123,7 +123,7 @@ fn hand_over<P: Plans + Drop, R: Wait>(
     let job = Job {
         cell,
         handle,
-        is_decoded: false,
+        is_drawn: false,
     };
     offer(rt, crew, pipeline, Task::Packet(job));
     pipeline.read += 1;

@@ -5,7 +5,7 @@ use crate::parts::{Crew, Pipeline};
 use commit_order::Window;
 use decode_session::Home;
 use edition_plans::Plans;
-use packet_jobs::{Decoding, Task};
+use packet_jobs::{Drawing, RecordRoom, Task};
 use param_plan::Params;
 use record_text::Lines;
 use std::alloc::{AllocError, Global};
@@ -34,7 +34,7 @@ fn rooms_for(workers: u8) -> u16 {
 }
 
 /// What a run needs, reserved before it begins: two queues with room for 64 packets each and for the passes of 16 workers, the window,
-/// the page for records, and rooms for 32 packets, or for 16 with one worker, whose buffers come from two regions.
+/// the room for records, and rooms for 32 packets, or for 16 with one worker, whose frames come from a region.
 #[derive(Drop)]
 pub struct Stock<P: Structures + Drop> {
     pub(crate) crew: Crew<P>,
@@ -56,19 +56,20 @@ impl<P: Plans + Drop> Stock<P> {
         let (results, second) = Queue::new(alloc, QUEUE_ROOM as usize)?;
         let rooms = rooms_for(workers);
         let mut home = Home::with_rooms(alloc, rooms)?;
+        let lines = Lines::new(alloc)?;
         Ok(Stock {
             crew: Crew {
                 jobs,
                 results,
-                decoding: Decoding::new(alloc, params, workers)?,
+                drawing: Drawing::new(alloc, params, workers)?,
                 rooms,
             },
             pipeline: Pipeline {
                 first,
                 second,
                 window: Window::new(alloc, QUEUE_ROOM)?,
-                rooms: home.take_rooms(alloc, rooms)?,
-                lines: Lines::new(alloc)?,
+                rooms: home.take_rooms(alloc, rooms, &lines)?,
+                record: RecordRoom::new(alloc, lines)?,
                 done: 0,
                 read: 0,
                 workers: 0,

@@ -12,10 +12,10 @@ pub returns-in-Packet-clause-adds : goal.returns-in-Packet-clause-adds
 returns-in-Packet-clause-adds g c =
     let db = g.P.Structures.tables c.args.plans.now in
     let packet = take c.in-Packet.octets c.next.new.into in
-    let frame = c.deref_mut.result.now.frame in
-    let size : length c.next.new.into ≡ length frame = omega (arith, c.next.auto.into, ap (λ (l : List ℕ). length l) c.slice_mut.ensures.value) in
-    let whole = take_at c.next.new.into (drop (length c.next.new.into) frame) (length frame) size in
-    let same = ap (λ (l : List ℕ). take c.in-Packet.octets l) (c.slice.ensures ∙ whole) in λ m serves.
+    let frame = c.args.room.now.frame in
+    let size : length c.next.new.into ≡ frame.len = omega (arith, c.next.auto.into, c.deref_mut.ensures.len) in
+    let whole = take_at c.next.new.into (drop (length c.next.new.into) frame.items) frame.len size in
+    let same = ap (λ (l : List ℕ). take c.in-Packet.octets l) (c.deref.ensures.value ∙ whole) in λ m serves.
     let course = standing 1 db m in
     let s = stamped_first db (c.args.number, packet) in
     let step = c.finish.ensures.step (asked_in (param_slices db)) m course s c.requires.demands serves (comes-to 1 db m c.args.number packet _ same) in (

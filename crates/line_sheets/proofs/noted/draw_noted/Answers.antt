@@ -1,6 +1,6 @@
 use Rattle.std.proofs.Common.{◌∙◌, refl, sym}
-use Rattle.line_sketches.specs.Sketches.{behind}
-use Rattle.line_sketches.proofs.SketchFacts.{behind-added, behind-is, behind-none}
+use Rattle.line_marks.specs.Marks.{behind}
+use Rattle.line_marks.proofs.BehindFacts.{behind-added, behind-is, behind-none}
 use Rattle.line_sheets.proofs.PlaceFacts.{shown-plain}
 use Rattle.line_sheets.proofs.noted.draw_noted.Goals as goal
 

@@ -1,4 +1,4 @@
-use Rattle.std.proofs.Common.{◌∙◌, ◌+◌, List, ℕ, arith, sym, subst, take}
+use Rattle.std.proofs.Common.{◌∙◌, ◌+◌, List, ℕ, arith, refl, sym, subst, take}
 use Rattle.std.proofs.lemmas.List.{take_all}
 use Rattle.edition_plans.specs.Params.{param_slices}
 use Rattle.param_state.specs.ParamPlans.{plan_names}
@@ -13,7 +13,6 @@ loop-k-init g c =
     let db = g.P.Structures.tables c.args.plans.now in
     let names = plan_names (param_slices db) in
     record {
-      slots = c.requires.slots;
       drawn = λ asked demanded.
           subst (λ (s : SheetView). IsSheetFor asked db names (stamped_from db c.args.number (take 0 c.args.stretch.now.packets)) s) (sym c.clear.ensures)
           (subst (λ (ss : List StampedPacket). IsSheetFor asked db names ss no_sheet) (sym (stamped-none db c.args.number)) (sheet-none asked db names));
@@ -29,11 +28,10 @@ loop-k-preserved g c =
     let packet = c.packet-packet.result.now in
     let next = stamped-next db number packets k packet (omega (arith, c.loop-k-test.true, c.len-count.ensures)) (c.packet-packet.ensures.packet packet) in
     record {
-      slots = c.draw_next.ensures.slots;
       drawn = λ asked demanded.
           subst (λ (ss : List StampedPacket). IsSheetFor asked db names ss c.draw_next.new.sheet) (sym next)
           (sheet-more asked db names (stamped_from db number (take k packets)) (stamped_first db (number + k, packet)) c.loop-k.sheet c.draw_next.new.sheet
-          (c.loop-k.invariant.drawn asked demanded) (c.draw_next.ensures.drawn c.if-not-draw_next.false asked demanded));
+          (c.loop-k.invariant.drawn asked demanded) (c.draw_next.ensures.drawn c.if-not-draw_next.false asked (stamped_first db (number + k, packet)) demanded (record { number = refl; packet = refl; tables = refl })));
     }
 
 pub returns-then-not-draw_next-clause-drawn : goal.returns-then-not-draw_next-clause-drawn

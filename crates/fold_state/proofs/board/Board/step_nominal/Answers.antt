@@ -7,7 +7,7 @@ use Rattle.mib_model.specs.Kept.{Kept, keeping}
 use Rattle.fold_state.specs.Boards.{Slots, board_of, memory_of, place_of}
 use Rattle.param_state.specs.SlotViews.{stepped}
 use Rattle.fold_state.specs.Places.{Rise}
-use Rattle.line_sketches.specs.Sketches.{after_nominal}
+use Rattle.line_marks.specs.Marks.{after_nominal}
 use Rattle.fold_state.proofs.BoardFacts.{board-set, kept-at, kept-set, names-set, slot-within, slots-long}
 use Rattle.fold_state.proofs.board.Board.step_nominal.Goals as goal
 

@@ -1,5 +1,5 @@
 use Rattle.std.proofs.Common.{◌∙◌, List, ℕ, ap, arith, subst}
-use Rattle.line_sketches.specs.Sketches.{IsShown, behind}
+use Rattle.line_marks.specs.Marks.{IsShown, behind}
 use Rattle.line_sheets.specs.Lying.{sheet_in}
 use Rattle.line_sheets.specs.Sheets.{SheetView, with_text}
 use Rattle.line_sheets.proofs.LyingFacts.{write-behind, write-held, write-view}

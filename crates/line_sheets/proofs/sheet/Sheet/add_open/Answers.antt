@@ -3,7 +3,7 @@ use Rattle.std.proofs.lemmas.Int.{to_z-of_z}
 use mir.Syntax.{w128}
 use mir.Val.{to_z, of_z}
 use Rattle.line_sheets.specs.Sheets.{Act, Opened, SheetView, with_act, with_text}
-use Rattle.line_sketches.specs.Sketches.{finished_lines}
+use Rattle.line_marks.specs.Marks.{finished_lines}
 use Rattle.record_text.specs.ValueParts.{begin_text}
 use Rattle.line_sheets.proofs.AddFacts.{adds-to}
 use Rattle.line_sheets.proofs.LyingFacts.{act_events, act_size, text_events}

@@ -1,7 +1,7 @@
 use Rattle.std.proofs.Common.{◌∙◌, ap, arith, length, subst}
-use Rattle.line_sketches.specs.declared.sketch.Mark.{Mark}
+use Rattle.line_marks.specs.declared.mark.Mark.{Mark}
 use Rattle.param_state.specs.ParamPlans.{plan_names}
-use Rattle.line_sketches.specs.Sketches.{IsShown, behind, finished_lines}
+use Rattle.line_marks.specs.Marks.{IsShown, behind, finished_lines}
 use Rattle.line_sheets.specs.Drawings.{Adds}
 use Rattle.line_sheets.specs.Sheets.{Act, Calmed, SheetView, with_act, with_text}
 use Rattle.line_sheets.specs.declared.sheet.TheConstants.{SEATS_MOST}

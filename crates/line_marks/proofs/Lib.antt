@@ -1,0 +1,2 @@
+pub mod BehindFacts
+pub mod DrawingFacts

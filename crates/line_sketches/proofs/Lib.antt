@@ -1,2 +1,0 @@
-pub mod SketchFacts
-pub mod DrawingFacts
